@@ -1,0 +1,2 @@
+// An image as blocks: its length, and each block's check and place.
+pub mod frame;

@@ -1,0 +1,109 @@
+-- Laws of the scans over bytes and names. For each scan: what it gives where the loop that runs it stops, steps on and ends, from
+-- the loop's invariant, that what is left gives what the whole gives. Assumes nothing.
+use Prim.Native.Nat.{ℕ, zero, suc, _+_, _-_, _*_, _≤_, _<_}
+use mathlib.Core.Path.{_≡_, refl, sym, ap, _∙_}
+use mathlib.Core.Bool.{Bool, true, false, _&&_, _||_}
+use mathlib.Core.List.{List, [], _∷_}
+use native.Mathlib.Nat.{add-sub-cancel-left}
+use native.Mathlib.Numerals.{add-one}
+use native.Mathlib.Omega.{arith}
+use borrow.Author.Tests.{lt-ltb, le-ltb, eq-eqb, ne-eqb}
+use lib.Dec.{eqb, ltb}
+use lib.ListN.{length, getD, take, drop, drop-of-length-le, length-take, length-drop}
+use lib.Seq.{drop-cons, getD-take, getD-drop}
+use Rattle.fields.specs.Bytes.{all, part, byteAt}
+use Rattle.fields.specs.Names.{sameName, nameBefore}
+
+-- ---- a part, as code takes it: from k up to k + n
+module _ (s : List ℕ) (k n : ℕ) where
+  pub part-taken : take (k + n - k) (drop k s) ≡ part s k n
+  part-taken = rw add-sub-cancel-left
+
+  pub part-length : k + n ≤ length s → length (part s k n) ≡ n
+  part-length h = simp (length-take, length-drop) (omega arith)
+
+  pub part-byte : (i : ℕ) → i < n → byteAt (part s k n) i ≡ byteAt s (k + i)
+  part-byte i h = rw (getD-take, getD-drop)
+
+-- ---- a test of every byte
+module _ (test : ℕ → Bool) (s : List ℕ) (i : ℕ) where
+  all-at : i < length s → all test (drop i s) ≡ (test (getD s i 0) && all test (drop (i + 1) s))
+  unfolding all
+  all-at h = rw (drop-cons s i 0, add-one)
+
+  pub all-stop : i < length s → all test (drop i s) ≡ all test s → test (getD s i 0) ≡ false → false ≡ all test s
+  all-stop h inv e = sym (sym inv ∙ all-at h ∙ rw e)
+
+  pub all-step : i < length s → all test (drop i s) ≡ all test s → test (getD s i 0) ≡ true → all test (drop (i + 1) s) ≡ all test s
+  all-step h inv e = sym (sym inv ∙ all-at h ∙ rw e)
+
+  pub all-done : length s ≤ i → all test (drop i s) ≡ all test s → true ≡ all test s
+  unfolding all
+  all-done h inv = rw (drop-of-length-le s h) at inv
+
+-- ---- the same name
+module _ (a b : List ℕ) (i : ℕ) where
+  same-at : i < length a → i < length b
+      → sameName (drop i a) (drop i b) ≡ (eqb (getD a i 0) (getD b i 0) && sameName (drop (i + 1) a) (drop (i + 1) b))
+  unfolding sameName
+  same-at ha hb = rw (drop-cons a i 0, drop-cons b i 0, add-one)
+
+  pub same-stop : i < length a → i < length b → sameName (drop i a) (drop i b) ≡ sameName a b
+      → (getD a i 0 ≡ getD b i 0 → ⊥) → false ≡ sameName a b
+  same-stop ha hb inv e = sym (sym inv ∙ same-at ha hb ∙ rw (ne-eqb (getD a i 0) (getD b i 0) e))
+
+  pub same-step : i < length a → i < length b → sameName (drop i a) (drop i b) ≡ sameName a b
+      → getD a i 0 ≡ getD b i 0 → sameName (drop (i + 1) a) (drop (i + 1) b) ≡ sameName a b
+  same-step ha hb inv e = sym (sym inv ∙ same-at ha hb ∙ rw (eq-eqb (getD a i 0) (getD b i 0) e))
+
+  pub same-done : length a ≤ i → length b ≤ i → sameName (drop i a) (drop i b) ≡ sameName a b → true ≡ sameName a b
+  unfolding sameName
+  same-done ha hb inv = rw (drop-of-length-le a ha, drop-of-length-le b hb) at inv
+
+-- names of different lengths differ
+pub same-length : (a b : List ℕ) → (length a ≡ length b → ⊥) → false ≡ sameName a b
+unfolding sameName
+same-length [] [] h = absurd (h refl)
+same-length [] (y ∷ ys) h = refl
+same-length (x ∷ xs) [] h = refl
+same-length (x ∷ xs) (y ∷ ys) h = go (eqb x y) (same-length xs ys (λ e. h (ap suc e)))
+  where
+    go : (t : Bool) → false ≡ sameName xs ys → false ≡ (t && sameName xs ys)
+    go true e = e
+    go false e = refl
+
+-- ---- byte order
+module _ (a b : List ℕ) (i : ℕ) where
+  before-at : i < length a → i < length b
+      → nameBefore (drop i a) (drop i b)
+        ≡ (ltb (getD a i 0) (getD b i 0) || eqb (getD a i 0) (getD b i 0) && nameBefore (drop (i + 1) a) (drop (i + 1) b))
+  unfolding nameBefore
+  before-at ha hb = rw (drop-cons a i 0, drop-cons b i 0, add-one)
+
+  pub before-short : length a ≤ i → i < length b → nameBefore (drop i a) (drop i b) ≡ nameBefore a b → true ≡ nameBefore a b
+  unfolding nameBefore
+  before-short ha hb inv = rw (drop-of-length-le a ha, drop-cons b i 0 hb) at inv
+
+  pub before-lower : i < length a → i < length b → nameBefore (drop i a) (drop i b) ≡ nameBefore a b
+      → getD a i 0 < getD b i 0 → true ≡ nameBefore a b
+  before-lower ha hb inv l = sym (sym inv ∙ before-at ha hb ∙ rw (lt-ltb (getD a i 0) (getD b i 0) l))
+
+  pub before-higher : i < length a → i < length b → nameBefore (drop i a) (drop i b) ≡ nameBefore a b
+      → getD b i 0 < getD a i 0 → false ≡ nameBefore a b
+  before-higher ha hb inv l =
+      sym (sym inv ∙ before-at ha hb
+      ∙ rw (le-ltb (getD a i 0) (getD b i 0) (omega arith), ne-eqb (getD a i 0) (getD b i 0) (omega arith)))
+
+  pub before-step : i < length a → i < length b → nameBefore (drop i a) (drop i b) ≡ nameBefore a b
+      → getD b i 0 ≤ getD a i 0 → getD a i 0 ≤ getD b i 0 → nameBefore (drop (i + 1) a) (drop (i + 1) b) ≡ nameBefore a b
+  before-step ha hb inv l m =
+      sym (sym inv ∙ before-at ha hb
+      ∙ rw (le-ltb (getD a i 0) (getD b i 0) l, eq-eqb (getD a i 0) (getD b i 0) (omega arith)))
+
+before-none : (xs : List ℕ) → nameBefore xs [] ≡ false
+unfolding nameBefore
+before-none [] = refl
+before-none (x ∷ xs) = refl
+
+pub before-done : (a b : List ℕ) (i : ℕ) → length b ≤ i → nameBefore (drop i a) (drop i b) ≡ nameBefore a b → false ≡ nameBefore a b
+before-done a b i h inv = sym (before-none (drop i a)) ∙ (rw (drop-of-length-le b h) at inv)

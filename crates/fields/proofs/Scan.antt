@@ -1,0 +1,88 @@
+-- Laws of `firstBad`: what it means for places, and what a loop that runs it needs. Assumes nothing.
+use Prim.Native.Nat.{ℕ, zero, suc, _+_, _-_, _≤_, _<_}
+use mathlib.Core.Path.{_≡_, refl, sym, ap, _∙_, subst}
+use mathlib.Core.Bool.{Bool, true, false, cond, true≢false}
+use mathlib.Core.Logic.{⊎-elim}
+use native.Mathlib.Nat.{add-zero, zero-add, add-suc, suc-add, sub-self, le-refl, eq-or-lt-of-le}
+use native.Mathlib.Numerals.{add-one}
+use native.Mathlib.Omega.{arith}
+use borrow.Author.Tests.{eqb-true, eq-eqb}
+use Rattle.fields.specs.Scan.{firstBad, everywhere}
+
+module _ (rule : ℕ → Bool) where
+  good-step : (n k : ℕ) → rule k ≡ true → firstBad rule (suc n) k ≡ firstBad rule n (suc k)
+  unfolding firstBad
+  good-step n k e = rw e
+
+  bad-here : (n k : ℕ) → rule k ≡ false → firstBad rule (suc n) k ≡ k
+  unfolding firstBad
+  bad-here n k e = rw e
+
+  -- ---- what it means for places
+  pub bad-from : (n k : ℕ) → k ≤ firstBad rule n k
+  unfolding firstBad
+  bad-from zero k = le-refl k
+  bad-from (suc n) k = at (rule k) (bad-from n (suc k))
+    where
+      at : (t : Bool) → suc k ≤ firstBad rule n (suc k) → k ≤ cond t (firstBad rule n (suc k)) k
+      at true h = omega arith
+      at false h = le-refl k
+
+  pub bad-upto : (n k : ℕ) → firstBad rule n k ≤ k + n
+  unfolding firstBad
+  bad-upto zero k = omega arith
+  bad-upto (suc n) k = at (rule k) (bad-upto n (suc k))
+    where
+      at : (t : Bool) → firstBad rule n (suc k) ≤ suc k + n → cond t (firstBad rule n (suc k)) k ≤ k + suc n
+      at true h = omega arith
+      at false h = omega arith
+
+  -- the rule holds at every place before the first bad one
+  pub good-before : (n k i : ℕ) → k ≤ i → i < firstBad rule n k → rule i ≡ true
+  unfolding firstBad
+  good-before zero k i h l = absurd (omega arith)
+  good-before (suc n) k i h l = at (rule k) refl l (good-before n (suc k) i)
+    where
+      at : (t : Bool) → rule k ≡ t → i < cond t (firstBad rule n (suc k)) k
+          → (suc k ≤ i → i < firstBad rule n (suc k) → rule i ≡ true) → rule i ≡ true
+      at true e m later = ⊎-elim (λ q. ap rule (sym q) ∙ e) (λ lt. later lt m) (eq-or-lt-of-le h)
+      at false e m later = absurd (omega arith)
+
+  -- and fails there
+  pub bad-at : (n k : ℕ) → firstBad rule n k < k + n → rule (firstBad rule n k) ≡ false
+  unfolding firstBad
+  bad-at zero k l = absurd (omega arith)
+  bad-at (suc n) k l = at (rule k) refl l (bad-at n (suc k))
+    where
+      at : (t : Bool) → rule k ≡ t → cond t (firstBad rule n (suc k)) k < k + suc n
+          → (firstBad rule n (suc k) < suc k + n → rule (firstBad rule n (suc k)) ≡ false)
+          → rule (cond t (firstBad rule n (suc k)) k) ≡ false
+      at true e m later = later (omega arith)
+      at false e m later = e
+
+  pub everywhere-at : (n k i : ℕ) → everywhere rule n k ≡ true → k ≤ i → i < k + n → rule i ≡ true
+  everywhere-at n k i e h l = good-before n k i h (subst (λ (w : ℕ). i < w) (sym (eqb-true _ _ e)) l)
+
+  -- a rule that holds at each of the places has no first bad one
+  pub all-good : (n k : ℕ) → ((i : ℕ) → k ≤ i → i < k + n → rule i ≡ true) → firstBad rule n k ≡ k + n
+  unfolding firstBad
+  all-good zero k h = sym (add-zero k)
+  all-good (suc n) k h =
+      rw (h k (le-refl k) (omega arith)) (all-good n (suc k) (λ i a b. h i (omega arith) (omega arith)) ∙ omega arith)
+
+  -- ---- a loop over i from k up to e, with the invariant that what is left gives what the whole gives
+  module _ (e i w : ℕ) where
+    left-one : i < e → e - i ≡ suc (e - (i + 1))
+    left-one l = omega arith
+
+    pub loop-bad : i < e → firstBad rule (e - i) i ≡ w → rule i ≡ false → i ≡ w
+    loop-bad l inv f = sym (bad-here (e - (i + 1)) i f) ∙ ap (λ (n : ℕ). firstBad rule n i) (sym (left-one l)) ∙ inv
+
+    pub loop-good : i < e → firstBad rule (e - i) i ≡ w → rule i ≡ true → firstBad rule (e - (i + 1)) (i + 1) ≡ w
+    loop-good l inv t =
+        ap (λ (j : ℕ). firstBad rule (e - (i + 1)) j) (add-one i) ∙ sym (good-step (e - (i + 1)) i t)
+        ∙ ap (λ (n : ℕ). firstBad rule n i) (sym (left-one l)) ∙ inv
+
+    pub loop-end : e ≤ i → firstBad rule (e - i) i ≡ w → i ≡ w
+    unfolding firstBad
+    loop-end l inv = let z : e - i ≡ 0 = omega arith in (rw z at inv)

@@ -1,0 +1,55 @@
+use Prim.Native.Nat.{_≤_, _-_}
+use mathlib.Core.Path.{_≡_, refl, sym, _∙_}
+use native.Mathlib.Omega.{arith}
+use borrow.Author.Needs.{needs}
+use borrow.Author.Tests.{not-true, not-false}
+use lib.ListN.{length, drop}
+use Rattle.fields.specs.Names.{allNameBytes}
+use Rattle.fields.proofs.Laws.{all-stop, all-step, all-done}
+use Rattle.fields.proofs.names.all_name_bytes.Statement.{statement}
+use Rattle.fields.proofs.names.all_name_bytes.Tie as tie
+
+abbrev Inv-loop : tie.InvT-loop
+Inv-loop s i₀ i = (i ≤ length s) × (allNameBytes (drop i s) ≡ allNameBytes s)
+
+abbrev μ-loop : tie.MeasureT-loop
+μ-loop s i₀ i = length s - i
+
+loop-holds : tie.Need-loop-holds Inv-loop μ-loop
+loop-holds c = (omega arith, refl)
+
+shared-slice-read-name-byte : tie.Need-shared-slice-read-name-byte Inv-loop μ-loop
+shared-slice-read-name-byte c = omega arith
+
+name-byte-requires : tie.Need-name-byte-requires Inv-loop μ-loop
+name-byte-requires c κs = search needs
+
+returns : tie.Need-returns Inv-loop μ-loop
+returns c = all-stop _ _ _ (omega arith) (c .before .before .before .before .loop .inv .1) (sym (c .before .name-byte .ensures) ∙ not-true _ (c .if1 .taken))
+
+add-i : tie.Need-add-i Inv-loop μ-loop
+add-i c = omega arith
+
+loop-less : tie.Need-loop-less Inv-loop μ-loop
+loop-less c = omega arith
+
+loop-again : tie.Need-loop-again Inv-loop μ-loop
+loop-again c = (omega arith, all-step _ _ _ (omega arith) (c .before .before .before .before .loop .inv .1) (sym (c .before .name-byte .ensures) ∙ not-false _ (c .if1 .left)))
+
+returns-2 : tie.Need-returns-2 Inv-loop μ-loop
+returns-2 c = all-done _ _ _ (c .loop-test .left) (c .before .loop .inv .1)
+
+pub all-name-bytes-spec : {M : Type 1} → statement M
+all-name-bytes-spec =
+    tie.close
+    (tie.spec
+    Inv-loop
+    μ-loop
+    loop-holds
+    shared-slice-read-name-byte
+    name-byte-requires
+    returns
+    add-i
+    loop-less
+    loop-again
+    returns-2)

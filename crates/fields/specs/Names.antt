@@ -1,0 +1,37 @@
+-- Names: their alphabet, the field that holds one, equality and order.
+use Prim.Native.Nat.{ℕ, _+_, _-_}
+use mathlib.Core.Bool.{Bool, true, false, _&&_, _||_}
+use mathlib.Core.List.{List, [], _∷_}
+use lib.Dec.{eqb, leb, ltb}
+use Rattle.fields.specs.Bytes.{byteAt, part, all, allZero}
+
+-- A..Z, 0..9 and underscore
+unfoldable pub nameByte : ℕ → Bool
+nameByte x = leb 65 x && leb x 90 || leb 48 x && leb x 57 || eqb x 95
+
+abbrev pub allNameBytes : List ℕ → Bool
+allNameBytes = all nameByte
+
+-- a name's field is 31 bytes: its length, then the name, then unused bytes
+unfoldable pub nameIn : List ℕ → List ℕ
+nameIn field = part field 1 (byteAt field 0)
+
+-- the length is 1 to 30, the name is of the alphabet, and the bytes after it are zero
+unfoldable pub nameRule : List ℕ → Bool
+nameRule field =
+    leb 1 (byteAt field 0) && leb (byteAt field 0) 30 && allNameBytes (nameIn field)
+    && allZero (part field (1 + byteAt field 0) (30 - byteAt field 0))
+
+-- two names are the same, byte for byte
+unfoldable pub sameName : List ℕ → List ℕ → Bool
+sameName [] [] = true
+sameName [] (y ∷ ys) = false
+sameName (x ∷ xs) [] = false
+sameName (x ∷ xs) (y ∷ ys) = eqb x y && sameName xs ys
+
+-- the first name comes before the second in byte order; of two names of which one begins the other, the shorter is lower
+unfoldable pub nameBefore : List ℕ → List ℕ → Bool
+nameBefore [] [] = false
+nameBefore [] (y ∷ ys) = true
+nameBefore (x ∷ xs) [] = false
+nameBefore (x ∷ xs) (y ∷ ys) = ltb x y || eqb x y && nameBefore xs ys

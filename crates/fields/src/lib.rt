@@ -1,0 +1,3 @@
+// Reading the fields of a record: numbers, unused bytes, names. The crates above call these with parts whose lengths they know.
+pub mod names;
+pub mod numbers;

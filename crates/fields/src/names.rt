@@ -1,0 +1,90 @@
+// Names: their alphabet, the field that holds one, equality and order.
+ghost use Prim.Native.Nat.{_+_, _<_, _≤_};
+ghost use mathlib.Core.Path.{_≡_};
+ghost use lib.ListN.{length};
+ghost use Rattle.fields.specs.Names.{nameByte, allNameBytes, nameIn, nameRule, sameName, nameBefore};
+
+use crate::numbers::all_zero;
+
+// A..Z, 0..9 and underscore.
+fn name_byte(x: u8) -> bool
+    ensures { λ r. ⌜ r ≡ nameByte x ⌝ }
+{
+    (65 <= x) & (x <= 90) | (48 <= x) & (x <= 57) | (x == 95)
+}
+
+fn all_name_bytes(s: &[u8]) -> bool
+    ensures { λ r. ⌜ r ≡ allNameBytes (now (s .entry)) ⌝ }
+{
+    let mut i = 0;
+    while i < s.len() {
+        if !name_byte(s[i]) {
+            return false;
+        }
+        i += 1;
+    }
+    true
+}
+
+// A field of 31 bytes holds a name as the rules ask.
+pub fn name_ok(field: &[u8]) -> bool
+    requires { ⌜ length (now field) ≡ 31 ⌝ }
+    ensures { λ r. ⌜ r ≡ nameRule (now (field .entry)) ⌝ }
+{
+    let n = field[0] as usize;
+    if n < 1 {
+        return false;
+    }
+    if 30 < n {
+        return false;
+    }
+    all_name_bytes(&field[1..1 + n]) & all_zero(&field[1 + n..31])
+}
+
+// The name that a field of 31 bytes holds; a length past the field gives what the field has.
+pub fn name_in(field: &[u8]) -> &[u8]
+    requires { ⌜ length (now field) ≡ 31 ⌝ }
+    ensures { λ r. ⌜ now r ≡ nameIn (now (field .entry)) ⌝ }
+{
+    let n = field[0] as usize;
+    if 30 < n {
+        return &field[1..31];
+    }
+    &field[1..1 + n]
+}
+
+pub fn same_name(a: &[u8], b: &[u8]) -> bool
+    ensures { λ r. ⌜ r ≡ sameName (now (a .entry)) (now (b .entry)) ⌝ }
+{
+    if a.len() != b.len() {
+        return false;
+    }
+    let mut i = 0;
+    while i < a.len() {
+        if a[i] != b[i] {
+            return false;
+        }
+        i += 1;
+    }
+    true
+}
+
+// The first name comes before the second in byte order.
+pub fn name_before(a: &[u8], b: &[u8]) -> bool
+    ensures { λ r. ⌜ r ≡ nameBefore (now (a .entry)) (now (b .entry)) ⌝ }
+{
+    let mut i = 0;
+    while i < b.len() {
+        if a.len() <= i {
+            return true;
+        }
+        if a[i] < b[i] {
+            return true;
+        }
+        if b[i] < a[i] {
+            return false;
+        }
+        i += 1;
+    }
+    false
+}

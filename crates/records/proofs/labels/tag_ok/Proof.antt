@@ -1,0 +1,25 @@
+use borrow.Author.Needs.{needs}
+use borrow.Author.Tests.{eq-eqb, ne-eqb}
+use Rattle.records.specs.Rules.{tagRule}
+use Rattle.records.proofs.labels.tag_ok.Statement.{statement}
+use Rattle.records.proofs.labels.tag_ok.Tie as tie
+
+returns : tie.Need-returns
+unfolding tagRule
+returns c = rw (eq-eqb _ _ (c .if1 .taken))
+
+sub-tag : tie.Need-sub-tag
+sub-tag c = search needs
+
+tag-requires : tie.Need-tag-requires
+tag-requires c κs = search needs
+
+tag-requires-2 : tie.Need-tag-requires-2
+tag-requires-2 c κs = search needs
+
+returns-2 : tie.Need-returns-2
+unfolding tagRule
+returns-2 c = rw (ne-eqb _ _ (c .before .before .if1 .left), c .before .tag .ensures, c .tag2 .ensures)
+
+pub tag-ok-spec : {M : Type 1} → statement M
+tag-ok-spec = tie.close (tie.spec returns sub-tag tag-requires tag-requires-2 returns-2)

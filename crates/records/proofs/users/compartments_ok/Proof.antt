@@ -1,0 +1,56 @@
+use borrow.Author.Needs.{needs}
+use Rattle.records.specs.Rules.{userCompartmentsRule}
+use Rattle.records.proofs.users.compartments_ok.Statement.{statement}
+use Rattle.records.proofs.users.compartments_ok.Tie as tie
+
+number8-requires : tie.Need-number8-requires
+number8-requires c κs = search needs
+
+number8-requires-2 : tie.Need-number8-requires-2
+number8-requires-2 c κs = search needs
+
+number8-requires-3 : tie.Need-number8-requires-3
+number8-requires-3 c κs = search needs
+
+number8-requires-4 : tie.Need-number8-requires-4
+number8-requires-4 c κs = search needs
+
+all-below-requires : tie.Need-all-below-requires
+all-below-requires c κs = search needs
+
+within-requires : tie.Need-within-requires
+within-requires c κs = search needs
+
+within-requires-2 : tie.Need-within-requires-2
+within-requires-2 c κs = search needs
+
+within-requires-3 : tie.Need-within-requires-3
+within-requires-3 c κs = search needs
+
+within-requires-4 : tie.Need-within-requires-4
+within-requires-4 c κs = search needs
+
+within-requires-5 : tie.Need-within-requires-5
+within-requires-5 c κs = search needs
+
+returns : tie.Need-returns
+unfolding userCompartmentsRule
+returns c =
+    rw (c .before .before .before .before .within .ensures, c .before .before .before .within2 .ensures, c .before .before .within3 .ensures, c .before .within4 .ensures, c .within5 .ensures,
+    c .before .before .before .before .before .before .before .before .before .number8 .ensures, c .before .before .before .before .before .before .before .before .number82 .ensures, c .before .before .before .before .before .before .before .number83 .ensures, c .before .before .before .before .before .before .number84 .ensures, c .before .before .before .before .before .all-below .ensures)
+
+pub compartments-ok-spec : {M : Type 1} → statement M
+compartments-ok-spec =
+    tie.close
+    (tie.spec
+    number8-requires
+    number8-requires-2
+    number8-requires-3
+    number8-requires-4
+    all-below-requires
+    within-requires
+    within-requires-2
+    within-requires-3
+    within-requires-4
+    within-requires-5
+    returns)

@@ -1,0 +1,71 @@
+// A block after the header: its layout, then its records in order.
+ghost use Prim.Native.Nat.{_-_, _<_, _≤_};
+ghost use mathlib.Core.Path.{_≡_};
+ghost use lib.ListN.{length};
+ghost use Rattle.fields.specs.Scan.{firstBad};
+ghost use Rattle.records.specs.Layout.{blocksNeeded};
+ghost use Rattle.records.specs.Rules.{recordRule, layoutRule, firstBadRecord, contentRule, totalOf, Counted};
+
+use crate::components::component_ok;
+use crate::labels::label_ok;
+use crate::layout::{Kind, block_contents, kind_byte};
+use crate::users::user_ok;
+use fields::numbers::all_zero;
+
+fn record_ok(image: &[u8], kind: Kind, i: usize) -> bool
+    requires { ⌜ Counted (now image) × (i < totalOf (now image) kind) ⌝ }
+    ensures { λ r. ⌜ r ≡ recordRule (now (image .entry)) kind i ⌝ }
+{
+    match kind {
+        Kind::Component => component_ok(image, i),
+        Kind::Label => label_ok(image, i),
+        Kind::User => user_ok(image, i),
+    }
+}
+
+fn first_bad(image: &[u8], kind: Kind, from: usize, to: usize) -> usize
+    requires { ⌜ Counted (now image) × ((from ≤ to) × (to ≤ totalOf (now image) kind)) ⌝ }
+    ensures { λ r. ⌜ r ≡ firstBad (recordRule (now (image .entry)) kind) (to - from) from ⌝ }
+{
+    let mut i = from;
+    while i < to {
+        if !record_ok(image, kind, i) {
+            return i;
+        }
+        i += 1;
+    }
+    i
+}
+
+// The block's lowest record that breaks a rule; `to` where there is none.
+pub fn first_bad_record(image: &[u8], b: usize) -> usize
+    requires { ⌜ Counted (now image) × ((1 ≤ b) × (b < blocksNeeded (now image))) ⌝ }
+    ensures { λ r. ⌜ r ≡ firstBadRecord (now (image .entry)) b ⌝ }
+{
+    let held = block_contents(image, b);
+    let kind = held.kind;
+    first_bad(image, kind, held.from, held.to)
+}
+
+// Kind and number of records are those that the counts ask for, and the bytes after the records are zero.
+pub fn layout_ok(image: &[u8], b: usize) -> bool
+    requires { ⌜ Counted (now image) × ((1 ≤ b) × (b < blocksNeeded (now image))) ⌝ }
+    ensures { λ r. ⌜ r ≡ layoutRule (now (image .entry)) b ⌝ }
+{
+    let held = block_contents(image, b);
+    let kind = held.kind;
+    let at = 512 * b;
+    let unused = at + held.end;
+    let end = at + 510;
+    (image[at] == kind_byte(kind))
+        & (image[at + 1] as usize == held.to - held.from)
+        & all_zero(&image[unused..end])
+}
+
+pub fn content_ok(image: &[u8], b: usize) -> bool
+    requires { ⌜ Counted (now image) × ((1 ≤ b) × (b < blocksNeeded (now image))) ⌝ }
+    ensures { λ r. ⌜ r ≡ contentRule (now (image .entry)) b ⌝ }
+{
+    let held = block_contents(image, b);
+    layout_ok(image, b) & (first_bad_record(image, b) == held.to)
+}

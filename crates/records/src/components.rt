@@ -1,0 +1,126 @@
+// The rules of a component record.
+ghost use Prim.Native.Nat.{_+_, _-_, _<_, _≤_};
+ghost use mathlib.Core.Path.{_≡_};
+ghost use lib.ListN.{length};
+ghost use Rattle.fields.specs.Scan.{firstBad};
+ghost use Rattle.records.specs.Layout.{components, Fitted, componentRecord};
+ghost use Rattle.records.specs.Fields.{componentName, numericForm};
+ghost use Rattle.records.specs.Rules.{classAt, classStart, parentRule, componentShape, numericRule, namesDiffer, newNameRule, componentRule};
+
+use crate::layout;
+use fields::names;
+use fields::numbers::{all_zero, number2};
+
+// The class that the counts put at place i: 1 level, 2 compartment, 3 group.
+pub fn class_at(image: &[u8], i: usize) -> u8
+    requires { ⌜ 512 ≤ length (now image) ⌝ }
+    ensures { λ r. ⌜ r ≡ classAt (now (image .entry)) i ⌝ }
+{
+    let levels = layout::levels(image);
+    if i < levels {
+        return 1;
+    }
+    if i < levels + layout::compartments(image) {
+        return 2;
+    }
+    3
+}
+
+// The place of the first component of that class.
+pub fn class_start(image: &[u8], i: usize) -> usize
+    requires { ⌜ 512 ≤ length (now image) ⌝ }
+    ensures { λ r. ⌜ (r ≡ classStart (now (image .entry)) i) × (r ≤ i) ⌝ }
+{
+    let levels = layout::levels(image);
+    if i < levels {
+        return 0;
+    }
+    let others = levels + layout::compartments(image);
+    if i < others {
+        return levels;
+    }
+    others
+}
+
+// A level or a compartment has no parent; a group has none, 255, or a group that exists.
+fn parent_ok(class: u8, count: usize, parent: usize) -> bool
+    ensures { λ r. ⌜ r ≡ parentRule class count parent ⌝ }
+{
+    (parent == 255) | ((class == 3) & (parent < count))
+}
+
+// What a record must be whatever the others are.
+fn shape_ok(rec: &[u8], class: u8, count: usize) -> bool
+    requires { ⌜ length (now rec) ≡ 40 ⌝ }
+    ensures { λ r. ⌜ r ≡ componentShape class count (now (rec .entry)) ⌝ }
+{
+    (rec[0] == class)
+        & names::name_ok(&rec[1..32])
+        & (number2(rec, 32) <= 9999)
+        & parent_ok(class, count, rec[34] as usize)
+        & all_zero(&rec[35..40])
+}
+
+pub fn component_name<'a>(image: &'a [u8], i: usize) -> &'a [u8]
+    requires { ⌜ Fitted (now image) × (i < components (now image)) ⌝ }
+    ensures { λ r. ⌜ now r ≡ componentName (componentRecord (now (image .entry)) i) ⌝ }
+{
+    let rec = layout::component_record(image, i);
+    names::name_in(&rec[1..32])
+}
+
+fn numeric_form(image: &[u8], i: usize) -> u32
+    requires { ⌜ Fitted (now image) × (i < components (now image)) ⌝ }
+    ensures { λ r. ⌜ r ≡ numericForm (componentRecord (now (image .entry)) i) ⌝ }
+{
+    number2(layout::component_record(image, i), 32)
+}
+
+// Inside a class the numeric form rises strictly.
+fn numeric_ok(image: &[u8], i: usize) -> bool
+    requires { ⌜ Fitted (now image) × (i < components (now image)) ⌝ }
+    ensures { λ r. ⌜ r ≡ numericRule (now (image .entry)) i ⌝ }
+{
+    if i == class_start(image, i) {
+        return true;
+    }
+    numeric_form(image, i - 1) < numeric_form(image, i)
+}
+
+fn names_differ(image: &[u8], i: usize, j: usize) -> bool
+    requires { ⌜ Fitted (now image) × ((i < components (now image)) × (j < components (now image))) ⌝ }
+    ensures { λ r. ⌜ r ≡ namesDiffer (now (image .entry)) i j ⌝ }
+{
+    !names::same_name(component_name(image, j), component_name(image, i))
+}
+
+// The first place from `start` on whose component has the name of the one at i; i where there is none before it.
+fn first_same_name(image: &[u8], start: usize, i: usize) -> usize
+    requires { ⌜ Fitted (now image) × ((i < components (now image)) × (start ≤ i)) ⌝ }
+    ensures { λ r. ⌜ r ≡ firstBad (namesDiffer (now (image .entry)) i) (i - start) start ⌝ }
+{
+    let mut j = start;
+    while j < i {
+        if !names_differ(image, i, j) {
+            return j;
+        }
+        j += 1;
+    }
+    j
+}
+
+// Inside a class names differ.
+fn new_name_ok(image: &[u8], i: usize) -> bool
+    requires { ⌜ Fitted (now image) × (i < components (now image)) ⌝ }
+    ensures { λ r. ⌜ r ≡ newNameRule (now (image .entry)) i ⌝ }
+{
+    first_same_name(image, class_start(image, i), i) == i
+}
+
+pub fn component_ok(image: &[u8], i: usize) -> bool
+    requires { ⌜ Fitted (now image) × (i < components (now image)) ⌝ }
+    ensures { λ r. ⌜ r ≡ componentRule (now (image .entry)) i ⌝ }
+{
+    let rec = layout::component_record(image, i);
+    shape_ok(rec, class_at(image, i), layout::groups(image)) & numeric_ok(image, i) & new_name_ok(image, i)
+}

@@ -1,0 +1,75 @@
+// The rules of a label record.
+ghost use Prim.Native.Nat.{_<_, _≤_};
+ghost use mathlib.Core.Path.{_≡_};
+ghost use lib.ListN.{length};
+ghost use Rattle.sets.specs.Groups.{placesOf};
+ghost use Rattle.records.specs.Layout.{labels, labelRecord};
+ghost use Rattle.records.specs.Fields.{tagOf, labelLevel, labelCompartments, labelGroups};
+ghost use Rattle.records.specs.Rules.{labelShape, tagRule, labelRule, Counted};
+
+use crate::layout;
+use fields::numbers::{all_zero, number4, number8};
+use sets::groups::Groups;
+use sets::word;
+
+pub fn tag(image: &[u8], k: usize) -> u32
+    requires { ⌜ Counted (now image) × (k < labels (now image)) ⌝ }
+    ensures { λ r. ⌜ r ≡ tagOf (labelRecord (now (image .entry)) k) ⌝ }
+{
+    number4(layout::label_record(image, k), 0)
+}
+
+pub fn level(image: &[u8], k: usize) -> u8
+    requires { ⌜ Counted (now image) × (k < labels (now image)) ⌝ }
+    ensures { λ r. ⌜ r ≡ labelLevel (labelRecord (now (image .entry)) k) ⌝ }
+{
+    let rec = layout::label_record(image, k);
+    rec[4]
+}
+
+pub fn compartments(image: &[u8], k: usize) -> u64
+    requires { ⌜ Counted (now image) × (k < labels (now image)) ⌝ }
+    ensures { λ r. ⌜ r ≡ labelCompartments (labelRecord (now (image .entry)) k) ⌝ }
+{
+    number8(layout::label_record(image, k), 8)
+}
+
+pub fn groups(image: &[u8], k: usize) -> Groups
+    requires { ⌜ Counted (now image) × (k < labels (now image)) ⌝ }
+    ensures { λ r. ⌜ placesOf r ≡ labelGroups (labelRecord (now (image .entry)) k) ⌝ }
+{
+    Groups::of_word(number8(layout::label_record(image, k), 16))
+}
+
+// What a record must be whatever the others are.
+fn shape_ok(image: &[u8], rec: &[u8]) -> bool
+    requires { ⌜ Counted (now image) × (length (now rec) ≡ 24) ⌝ }
+    ensures { λ r. ⌜ r ≡ labelShape (now (image .entry)) (now (rec .entry)) ⌝ }
+{
+    let tag = number4(rec, 0);
+    let all = Groups::all_below(layout::groups(image));
+    (1 <= tag)
+        & (tag <= 99999999)
+        & ((rec[4] as usize) < layout::levels(image))
+        & all_zero(&rec[5..8])
+        & word::within(number8(rec, 8), word::all_below(layout::compartments(image)))
+        & Groups::of_word(number8(rec, 16)).within(all)
+}
+
+// Tags rise strictly.
+fn tag_ok(image: &[u8], k: usize) -> bool
+    requires { ⌜ Counted (now image) × (k < labels (now image)) ⌝ }
+    ensures { λ r. ⌜ r ≡ tagRule (now (image .entry)) k ⌝ }
+{
+    if k == 0 {
+        return true;
+    }
+    tag(image, k - 1) < tag(image, k)
+}
+
+pub fn label_ok(image: &[u8], k: usize) -> bool
+    requires { ⌜ Counted (now image) × (k < labels (now image)) ⌝ }
+    ensures { λ r. ⌜ r ≡ labelRule (now (image .entry)) k ⌝ }
+{
+    shape_ok(image, layout::label_record(image, k)) & tag_ok(image, k)
+}

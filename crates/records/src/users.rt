@@ -1,0 +1,96 @@
+// The rules of a user record, but for those of below.
+ghost use Prim.Native.Nat.{_<_, _≤_};
+ghost use mathlib.Core.Path.{_≡_};
+ghost use lib.ListN.{length};
+ghost use Rattle.fields.specs.Bytes.{number8};
+ghost use Rattle.sets.specs.Groups.{placesOf};
+ghost use Rattle.records.specs.Layout.{users, userRecord};
+ghost use Rattle.records.specs.Fields.{userName};
+ghost use Rattle.records.specs.Rules.{userLevelsRule, userCompartmentsRule, userGroupsRule, userShape, userNameRule, userRule, Counted};
+
+use crate::layout;
+use fields::names;
+use fields::numbers::{all_zero, number8};
+use sets::groups::Groups;
+use sets::word;
+
+pub fn name<'a>(image: &'a [u8], u: usize) -> &'a [u8]
+    requires { ⌜ Counted (now image) × (u < users (now image)) ⌝ }
+    ensures { λ r. ⌜ now r ≡ userName (userRecord (now (image .entry)) u) ⌝ }
+{
+    let rec = layout::user_record(image, u);
+    names::name_in(&rec[0..31])
+}
+
+// The set of groups in the eight bytes from k on.
+pub fn group_set(rec: &[u8], k: usize) -> Groups
+    requires { ⌜ (length (now rec) ≡ 128) × (k ≤ 120) ⌝ }
+    ensures { λ r. ⌜ placesOf r ≡ number8 (now (rec .entry)) k ⌝ }
+{
+    Groups::of_word(number8(rec, k))
+}
+
+fn levels_ok(rec: &[u8], count: usize) -> bool
+    requires { ⌜ length (now rec) ≡ 128 ⌝ }
+    ensures { λ r. ⌜ r ≡ userLevelsRule count (now (rec .entry)) ⌝ }
+{
+    (rec[33] <= rec[35]) & (rec[35] <= rec[34]) & (rec[34] <= rec[32]) & ((rec[32] as usize) < count)
+}
+
+fn compartments_ok(rec: &[u8], count: usize) -> bool
+    requires { ⌜ (length (now rec) ≡ 128) × (count ≤ 64) ⌝ }
+    ensures { λ r. ⌜ r ≡ userCompartmentsRule count (now (rec .entry)) ⌝ }
+{
+    let read = number8(rec, 40);
+    let write = number8(rec, 48);
+    let default = number8(rec, 56);
+    let row = number8(rec, 64);
+    word::within(read, word::all_below(count))
+        & word::within(write, read)
+        & word::within(default, read)
+        & word::within(row, default)
+        & word::within(row, write)
+}
+
+fn groups_ok(rec: &[u8], count: usize) -> bool
+    requires { ⌜ (length (now rec) ≡ 128) × (count ≤ 64) ⌝ }
+    ensures { λ r. ⌜ r ≡ userGroupsRule count (now (rec .entry)) ⌝ }
+{
+    let all = Groups::all_below(count);
+    group_set(rec, 72).within(all)
+        & group_set(rec, 80).within(all)
+        & group_set(rec, 88).within(all)
+        & group_set(rec, 96).within(all)
+}
+
+// What a record must be whatever the others are.
+fn shape_ok(image: &[u8], rec: &[u8]) -> bool
+    requires { ⌜ Counted (now image) × (length (now rec) ≡ 128) ⌝ }
+    ensures { λ r. ⌜ r ≡ userShape (now (image .entry)) (now (rec .entry)) ⌝ }
+{
+    names::name_ok(&rec[0..31])
+        & (rec[31] < 128)
+        & all_zero(&rec[36..40])
+        & all_zero(&rec[104..128])
+        & levels_ok(rec, layout::levels(image))
+        & compartments_ok(rec, layout::compartments(image))
+        & groups_ok(rec, layout::groups(image))
+}
+
+// User names rise strictly in byte order.
+fn user_name_ok(image: &[u8], u: usize) -> bool
+    requires { ⌜ Counted (now image) × (u < users (now image)) ⌝ }
+    ensures { λ r. ⌜ r ≡ userNameRule (now (image .entry)) u ⌝ }
+{
+    if u == 0 {
+        return true;
+    }
+    names::name_before(name(image, u - 1), name(image, u))
+}
+
+pub fn user_ok(image: &[u8], u: usize) -> bool
+    requires { ⌜ Counted (now image) × (u < users (now image)) ⌝ }
+    ensures { λ r. ⌜ r ≡ userRule (now (image .entry)) u ⌝ }
+{
+    shape_ok(image, layout::user_record(image, u)) & user_name_ok(image, u)
+}

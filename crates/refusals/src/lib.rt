@@ -1,0 +1,83 @@
+// What every call answers when it does not do what was asked: one case for each number of the scope
+// document's table "Numbers given back", in the table's order. A case holds what the table says is
+// returned with the number, and nothing else.
+ghost use mathlib.Core.Path.{_≡_};
+ghost use Rattle.refusals.specs.Refusals.{numberOf, placeOf};
+
+pub enum Refusal {
+    // 1: the image's length is 0, not a multiple of 512, or over 65,536.
+    ImageLength,
+    // 2: a block's check or place is wrong; the lowest such block.
+    BlockCheck(usize),
+    // 3: any other rule of images is broken.
+    ImageRule,
+    // 4: no user of that name.
+    NoUser,
+    // 5: the text does not have the shape of a label's text.
+    TextShape,
+    // 6: a name is not in its class; the name's offset in the text.
+    UnknownName(usize),
+    // 7: a name came before in its list; the name's offset in the text.
+    RepeatedName(usize),
+    // 8, 9, 10: the label asks for a level, compartments or groups that the user is not allowed.
+    LevelNotAllowed,
+    CompartmentsNotAllowed,
+    GroupsNotAllowed,
+    // 11: the row label would stand outside the new write sets or above the new level.
+    RowLabelOutside,
+    // 12: the width is not 5..512, or the table's length is not a multiple of it.
+    TableShape,
+    // 13: the result is longer than the buffer lent for it.
+    Room,
+    // 14: no row n.
+    NoRow,
+    // 15: row n is not writable.
+    RowNotWritable,
+    // 16: the payload's length is not the width minus 4.
+    PayloadLength,
+    // 17: the merge letters are not three of those allowed.
+    MergeLetters,
+    // 18: a lent label, or a class and place, names a component that the policy lacks.
+    NoComponent,
+    // 19: a lent session breaks its rules for that image.
+    SessionRules,
+}
+
+// The refusal's number in the table.
+pub fn number(r: Refusal) -> u8
+    ensures { λ n. ⌜ n ≡ numberOf r ⌝ }
+{
+    match r {
+        Refusal::ImageLength => 1,
+        Refusal::BlockCheck(_) => 2,
+        Refusal::ImageRule => 3,
+        Refusal::NoUser => 4,
+        Refusal::TextShape => 5,
+        Refusal::UnknownName(_) => 6,
+        Refusal::RepeatedName(_) => 7,
+        Refusal::LevelNotAllowed => 8,
+        Refusal::CompartmentsNotAllowed => 9,
+        Refusal::GroupsNotAllowed => 10,
+        Refusal::RowLabelOutside => 11,
+        Refusal::TableShape => 12,
+        Refusal::Room => 13,
+        Refusal::NoRow => 14,
+        Refusal::RowNotWritable => 15,
+        Refusal::PayloadLength => 16,
+        Refusal::MergeLetters => 17,
+        Refusal::NoComponent => 18,
+        Refusal::SessionRules => 19,
+    }
+}
+
+// The block or the offset that the table names with the number, and 0 where it names none.
+pub fn place(r: Refusal) -> usize
+    ensures { λ p. ⌜ p ≡ placeOf r ⌝ }
+{
+    match r {
+        Refusal::BlockCheck(block) => block,
+        Refusal::UnknownName(offset) => offset,
+        Refusal::RepeatedName(offset) => offset,
+        _ => 0,
+    }
+}
