@@ -3,7 +3,6 @@ ghost use Prim.Native.Nat.{_+_, _*_, _%_, _<_, _≤_};
 ghost use mathlib.Core.Path.{_≡_};
 ghost use lib.ListN.{length};
 ghost use Rattle.blocks.specs.Blocks.{lengthRule, checkRule, placeRule, blockRule, firstBadBlock};
-
 use fields::numbers::number2;
 
 // The length is not 0, a multiple of 512 and at most 65,536.

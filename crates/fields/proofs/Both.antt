@@ -11,6 +11,10 @@ pub both-right : (a b : Bool) → (a && b) ≡ true → b ≡ true
 both-right true b e = e
 both-right false b e = absurd (true≢false (sym e))
 
+-- both at once: where the two are long, `let q = parts _ _ e in` finds them
+pub parts : (a b : Bool) → (a && b) ≡ true → (a ≡ true) × (b ≡ true)
+parts a b e = (both-left a b e, both-right a b e)
+
 pub both : (a b : Bool) → a ≡ true → b ≡ true → (a && b) ≡ true
 both a b p q = rw (p, q)
 

@@ -76,7 +76,7 @@ same-length (x ∷ xs) (y ∷ ys) h = go (eqb x y) (same-length xs ys (λ e. h (
 module _ (a b : List ℕ) (i : ℕ) where
   before-at : i < length a → i < length b
       → nameBefore (drop i a) (drop i b)
-        ≡ (ltb (getD a i 0) (getD b i 0) || eqb (getD a i 0) (getD b i 0) && nameBefore (drop (i + 1) a) (drop (i + 1) b))
+      ≡ (ltb (getD a i 0) (getD b i 0) || eqb (getD a i 0) (getD b i 0) && nameBefore (drop (i + 1) a) (drop (i + 1) b))
   unfolding nameBefore
   before-at ha hb = rw (drop-cons a i 0, drop-cons b i 0, add-one)
 

@@ -3,7 +3,6 @@ ghost use Prim.Native.Nat.{_+_, _<_, _≤_};
 ghost use mathlib.Core.Path.{_≡_};
 ghost use lib.ListN.{length};
 ghost use Rattle.fields.specs.Names.{nameByte, allNameBytes, nameIn, nameRule, sameName, nameBefore};
-
 use crate::numbers::all_zero;
 
 // A..Z, 0..9 and underscore.

@@ -30,8 +30,8 @@ held-is im b low high = at (ltb b (firstLabelBlock im)) refl (ltb b (firstUserBl
 
     at : (s : Bool) → ltb b (firstLabelBlock im) ≡ s → (t : Bool) → ltb b (firstUserBlock im) ≡ t
         → Held im (cond s (packed Component 40 12 (12 * (b - 1)) (components im))
-          (cond t (packed Label 24 21 (21 * (b - firstLabelBlock im)) (labels im))
-          (packed User 128 3 (3 * (b - firstUserBlock im)) (users im))))
+        (cond t (packed Label 24 21 (21 * (b - firstLabelBlock im)) (labels im))
+        (packed User 128 3 (3 * (b - firstUserBlock im)) (users im))))
     at true e t d =
         let h : b < firstLabelBlock im = ltb-true b (firstLabelBlock im) e in
         let f : firstLabelBlock im ≡ 1 + (components im + 11) / 12 = unfolding-label in

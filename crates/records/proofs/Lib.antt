@@ -1,2 +1,8 @@
 pub mod Held
 pub mod Inside
+pub mod MeaningBlocks
+pub mod MeaningComponents
+pub mod MeaningHeader
+pub mod MeaningLabels
+pub mod MeaningUsers
+pub mod Rising

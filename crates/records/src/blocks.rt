@@ -5,10 +5,11 @@ ghost use lib.ListN.{length};
 ghost use Rattle.fields.specs.Scan.{firstBad};
 ghost use Rattle.records.specs.Layout.{blocksNeeded};
 ghost use Rattle.records.specs.Rules.{recordRule, layoutRule, firstBadRecord, contentRule, totalOf, Counted};
-
 use crate::components::component_ok;
 use crate::labels::label_ok;
-use crate::layout::{Kind, block_contents, kind_byte};
+use crate::layout::Kind;
+use crate::layout::block_contents;
+use crate::layout::kind_byte;
 use crate::users::user_ok;
 use fields::numbers::all_zero;
 

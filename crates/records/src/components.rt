@@ -6,10 +6,10 @@ ghost use Rattle.fields.specs.Scan.{firstBad};
 ghost use Rattle.records.specs.Layout.{components, Fitted, componentRecord};
 ghost use Rattle.records.specs.Fields.{componentName, numericForm};
 ghost use Rattle.records.specs.Rules.{classAt, classStart, parentRule, componentShape, numericRule, namesDiffer, newNameRule, componentRule};
-
 use crate::layout;
 use fields::names;
-use fields::numbers::{all_zero, number2};
+use fields::numbers::all_zero;
+use fields::numbers::number2;
 
 // The class that the counts put at place i: 1 level, 2 compartment, 3 group.
 pub fn class_at(image: &[u8], i: usize) -> u8
@@ -122,5 +122,7 @@ pub fn component_ok(image: &[u8], i: usize) -> bool
     ensures { λ r. ⌜ r ≡ componentRule (now (image .entry)) i ⌝ }
 {
     let rec = layout::component_record(image, i);
-    shape_ok(rec, class_at(image, i), layout::groups(image)) & numeric_ok(image, i) & new_name_ok(image, i)
+    shape_ok(rec, class_at(image, i), layout::groups(image))
+        & numeric_ok(image, i)
+        & new_name_ok(image, i)
 }

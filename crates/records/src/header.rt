@@ -3,7 +3,6 @@ ghost use Prim.Native.Nat.{_*_, _≤_};
 ghost use mathlib.Core.Path.{_≡_};
 ghost use lib.ListN.{length};
 ghost use Rattle.records.specs.Rules.{headerRule, fitRule};
-
 use crate::layout;
 use fields::numbers::all_zero;
 

@@ -6,9 +6,10 @@ ghost use Rattle.sets.specs.Groups.{placesOf};
 ghost use Rattle.records.specs.Layout.{labels, labelRecord};
 ghost use Rattle.records.specs.Fields.{tagOf, labelLevel, labelCompartments, labelGroups};
 ghost use Rattle.records.specs.Rules.{labelShape, tagRule, labelRule, Counted};
-
 use crate::layout;
-use fields::numbers::{all_zero, number4, number8};
+use fields::numbers::all_zero;
+use fields::numbers::number4;
+use fields::numbers::number8;
 use sets::groups::Groups;
 use sets::word;
 
@@ -52,7 +53,10 @@ fn shape_ok(image: &[u8], rec: &[u8]) -> bool
         & (tag <= 99999999)
         & ((rec[4] as usize) < layout::levels(image))
         & all_zero(&rec[5..8])
-        & word::within(number8(rec, 8), word::all_below(layout::compartments(image)))
+        & word::within(
+            number8(rec, 8),
+            word::all_below(layout::compartments(image)),
+        )
         & Groups::of_word(number8(rec, 16)).within(all)
 }
 

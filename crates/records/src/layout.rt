@@ -1,10 +1,9 @@
 // Where the counts, blocks and records of an image stand.
-ghost use Prim.Native.Nat.{_+_, _-_, _*_, _/_, _%_, _<_, _≤_, min};
+ghost use Prim.Native.Nat.{_+_, _-_, _*_, _/_, _%_, _^_, _<_, _≤_, min};
 ghost use mathlib.Core.Path.{_≡_};
 ghost use lib.ListN.{length};
-ghost use Rattle.records.specs.Layout.{components, labels, users, firstLabelBlock, firstUserBlock, blocksNeeded, Fitted, componentRecord, labelRecord, userRecord, userBlock, userSlot, kindByte, contentsOf};
+ghost use Rattle.records.specs.Layout.{components, labels, users, firstLabelBlock, firstUserBlock, blocksNeeded, Fitted, componentOffset, componentRecord, labelRecord, userRecord, userBlock, userSlot, kindByte, contentsOf};
 ghost use Rattle.records.specs.Layout as layout;
-
 use fields::numbers::number2;
 
 // What the records of a block are.
@@ -85,12 +84,20 @@ pub fn blocks_needed(image: &[u8]) -> usize
     first_user_block(image) + (users(image) + 2) / 3
 }
 
-// The part of the image that starts at the record of the component at place i among all components.
+// Where the record of the component at place i among all components begins.
+pub fn component_offset(i: usize) -> usize
+    requires { ⌜ componentOffset i < 2 ^ 63 ⌝ }
+    ensures { λ r. ⌜ r ≡ componentOffset i ⌝ }
+{
+    512 * (1 + i / 12) + 4 + 40 * (i % 12)
+}
+
+// The part of the image that starts at that record.
 pub fn component_record<'a>(image: &'a [u8], i: usize) -> &'a [u8]
     requires { ⌜ Fitted (now image) × (i < layout.components (now image)) ⌝ }
     ensures { λ r. ⌜ (now r ≡ componentRecord (now (image .entry)) i) × (length (now r) ≡ 40) ⌝ }
 {
-    let at = 512 * (1 + i / 12) + 4 + 40 * (i % 12);
+    let at = component_offset(i);
     &image[at..at + 40]
 }
 

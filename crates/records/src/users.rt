@@ -5,12 +5,14 @@ ghost use lib.ListN.{length};
 ghost use Rattle.fields.specs.Bytes.{number8};
 ghost use Rattle.sets.specs.Groups.{placesOf};
 ghost use Rattle.records.specs.Layout.{users, userRecord};
+ghost use Rattle.records.specs.Fields as fields;
 ghost use Rattle.records.specs.Fields.{userName};
+ghost use Rattle.records.specs.Users.{levelsOf, compartmentsOf, GroupsAre};
 ghost use Rattle.records.specs.Rules.{userLevelsRule, userCompartmentsRule, userGroupsRule, userShape, userNameRule, userRule, Counted};
-
 use crate::layout;
 use fields::names;
-use fields::numbers::{all_zero, number8};
+use fields::numbers::all_zero;
+use fields::numbers::number8;
 use sets::groups::Groups;
 use sets::word;
 
@@ -30,11 +32,85 @@ pub fn group_set(rec: &[u8], k: usize) -> Groups
     Groups::of_word(number8(rec, k))
 }
 
+pub fn privileges(image: &[u8], u: usize) -> u8
+    requires { ⌜ Counted (now image) × (u < users (now image)) ⌝ }
+    ensures { λ r. ⌜ r ≡ fields.privileges (userRecord (now (image .entry)) u) ⌝ }
+{
+    let rec = layout::user_record(image, u);
+    rec[31]
+}
+
+// A user's four levels.
+pub struct Levels {
+    pub maximum: u8,
+    pub minimum: u8,
+    pub default: u8,
+    pub row: u8,
+}
+
+pub fn user_levels(image: &[u8], u: usize) -> Levels
+    requires { ⌜ Counted (now image) × (u < users (now image)) ⌝ }
+    ensures { λ r. ⌜ r ≡ levelsOf (userRecord (now (image .entry)) u) ⌝ }
+{
+    let rec = layout::user_record(image, u);
+    Levels {
+        maximum: rec[32],
+        minimum: rec[33],
+        default: rec[34],
+        row: rec[35],
+    }
+}
+
+// A user's four sets of compartments.
+pub struct CompartmentSets {
+    pub read: u64,
+    pub write: u64,
+    pub default: u64,
+    pub row: u64,
+}
+
+pub fn compartment_sets(image: &[u8], u: usize) -> CompartmentSets
+    requires { ⌜ Counted (now image) × (u < users (now image)) ⌝ }
+    ensures { λ r. ⌜ r ≡ compartmentsOf (userRecord (now (image .entry)) u) ⌝ }
+{
+    let rec = layout::user_record(image, u);
+    CompartmentSets {
+        read: number8(rec, 40),
+        write: number8(rec, 48),
+        default: number8(rec, 56),
+        row: number8(rec, 64),
+    }
+}
+
+// A user's four sets of groups.
+pub struct GroupSets {
+    pub read: Groups,
+    pub write: Groups,
+    pub default: Groups,
+    pub row: Groups,
+}
+
+pub fn group_sets(image: &[u8], u: usize) -> GroupSets
+    requires { ⌜ Counted (now image) × (u < users (now image)) ⌝ }
+    ensures { λ r. ⌜ GroupsAre (userRecord (now (image .entry)) u) r ⌝ }
+{
+    let rec = layout::user_record(image, u);
+    GroupSets {
+        read: group_set(rec, 72),
+        write: group_set(rec, 80),
+        default: group_set(rec, 88),
+        row: group_set(rec, 96),
+    }
+}
+
 fn levels_ok(rec: &[u8], count: usize) -> bool
     requires { ⌜ length (now rec) ≡ 128 ⌝ }
     ensures { λ r. ⌜ r ≡ userLevelsRule count (now (rec .entry)) ⌝ }
 {
-    (rec[33] <= rec[35]) & (rec[35] <= rec[34]) & (rec[34] <= rec[32]) & ((rec[32] as usize) < count)
+    (rec[33] <= rec[35])
+        & (rec[35] <= rec[34])
+        & (rec[34] <= rec[32])
+        & ((rec[32] as usize) < count)
 }
 
 fn compartments_ok(rec: &[u8], count: usize) -> bool

@@ -46,9 +46,16 @@ loop-again c =
     let s = take 510 block in
     let i = at .loop .i in
     let h : i < length s = rw (length-take-le 510 block (omega arith)) (omega arith) in
-    let x : c .wide .result ≡ getD s i 0 = c .wide .ensures .0 ∙ sym (getD-take 510 block i 0 (omega arith)) in
-    (omega arith, (omega arith, (omega arith,
-    (rw x (sumA-step s _ i h (at .loop .inv .1 .1 .1 .0)), rw x (sumB-step s _ i _ h (at .loop .inv .1 .1 .1 .1))))))
+    let x : c .wide .result ≡ getD s i 0 = c .wide .ensures .0 ∙ sym (getD-take 510 block i 0 (omega arith)) in (
+      omega arith,
+      (
+        omega arith,
+        (
+          omega arith,
+          (rw x (sumA-step s _ i h (at .loop .inv .1 .1 .1 .0)), rw x (sumB-step s _ i _ h (at .loop .inv .1 .1 .1 .1))),
+        ),
+      ),
+    )
 
 shared-slice-read-wide-2 : tie.Need-shared-slice-read-wide-2 Inv-loop μ-loop
 shared-slice-read-wide-2 c = omega arith
@@ -70,8 +77,12 @@ returns c =
     let s = take 510 block in
     let i = at .loop .i in
     let h : length s ≤ i = rw (length-take-le 510 block (omega arith)) (omega arith) in
-    rw (c .before .before .wide2 .ensures .0, c .wide3 .ensures .0,
-    sumA-end s _ i h (at .loop .inv .1 .1 .1 .0), sumB-end s _ i _ h (at .loop .inv .1 .1 .1 .1))
+    rw (
+      c .before .before .wide2 .ensures .0,
+      c .wide3 .ensures .0,
+      sumA-end s _ i h (at .loop .inv .1 .1 .1 .0),
+      sumB-end s _ i _ h (at .loop .inv .1 .1 .1 .1),
+    )
 
 pub check-ok-spec : {M : Type 1} → statement M
 check-ok-spec =

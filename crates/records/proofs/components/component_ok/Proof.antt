@@ -25,9 +25,14 @@ new-name-ok-requires c κs = search needs
 returns : tie.Need-returns
 unfolding componentRule
 returns c =
-    rw (c .before .before .shape-ok .ensures, c .before .numeric-ok .ensures, c .new-name-ok .ensures,
-    c .before .before .before .before .class-at .ensures, c .before .before .before .groups .ensures .0,
-    c .before .before .before .before .before .component-record .ensures .0)
+    rw (
+      c .before .before .shape-ok .ensures,
+      c .before .numeric-ok .ensures,
+      c .new-name-ok .ensures,
+      c .before .before .before .before .class-at .ensures,
+      c .before .before .before .groups .ensures .0,
+      c .before .before .before .before .before .component-record .ensures .0,
+    )
 
 pub component-ok-spec : {M : Type 1} → statement M
 component-ok-spec =

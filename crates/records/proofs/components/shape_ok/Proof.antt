@@ -46,8 +46,12 @@ all-zero-requires c κs = search needs
 returns : tie.Need-returns
 unfolding componentShape
 returns c =
-    rw (c .before .before .before .before .before .name-ok .ensures, c .before .before .before .before .number2 .ensures .0,
-    c .before .before .parent-ok .ensures, c .all-zero .ensures)
+    rw (
+      c .before .before .before .before .before .name-ok .ensures,
+      c .before .before .before .before .number2 .ensures .0,
+      c .before .before .parent-ok .ensures,
+      c .all-zero .ensures,
+    )
 
 pub shape-ok-spec : {M : Type 1} → statement M
 shape-ok-spec =

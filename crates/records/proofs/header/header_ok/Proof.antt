@@ -43,9 +43,14 @@ all-zero-requires c κs = search needs
 returns : tie.Need-returns
 unfolding headerRule
 returns c =
-    rw (c .before .before .before .before .before .before .before .before .before .levels .ensures .0,
-    c .before .before .before .before .before .compartments .ensures .0, c .before .before .before .before .groups .ensures .0,
-    c .before .before .before .users .ensures .0, c .before .before .labels .ensures .0, c .all-zero .ensures)
+    rw (
+      c .before .before .before .before .before .before .before .before .before .levels .ensures .0,
+      c .before .before .before .before .before .compartments .ensures .0,
+      c .before .before .before .before .groups .ensures .0,
+      c .before .before .before .users .ensures .0,
+      c .before .before .labels .ensures .0,
+      c .all-zero .ensures,
+    )
 
 pub header-ok-spec : {M : Type 1} → statement M
 header-ok-spec =

@@ -59,9 +59,20 @@ within-requires-2 c κs = search needs
 returns : tie.Need-returns
 unfolding labelShape
 returns c =
-    rw (c .before .before .before .before .before .before .before .before .before .before .before .before .before .number4 .ensures, c .before .before .before .before .before .before .before .before .before .levels .ensures .0, c .before .before .before .before .before .before .before .all-zero .ensures, c .before .before .before .within .ensures,
-    c .before .before .before .before .before .before .number8 .ensures, c .before .before .before .before .all-below2 .ensures, c .before .before .before .before .before .compartments .ensures .0, c .within2 .ensures,
-    c .before .of-word .ensures, c .before .before .number82 .ensures, c .before .before .before .before .before .before .before .before .before .before .before .all-below .ensures, c .before .before .before .before .before .before .before .before .before .before .before .before .groups .ensures .0)
+    rw (
+      c .before .before .before .before .before .before .before .before .before .before .before .before .before .number4 .ensures,
+      c .before .before .before .before .before .before .before .before .before .levels .ensures .0,
+      c .before .before .before .before .before .before .before .all-zero .ensures,
+      c .before .before .before .within .ensures,
+      c .before .before .before .before .before .before .number8 .ensures,
+      c .before .before .before .before .all-below2 .ensures,
+      c .before .before .before .before .before .compartments .ensures .0,
+      c .within2 .ensures,
+      c .before .of-word .ensures,
+      c .before .before .number82 .ensures,
+      c .before .before .before .before .before .before .before .before .before .before .before .all-below .ensures,
+      c .before .before .before .before .before .before .before .before .before .before .before .before .groups .ensures .0,
+    )
 
 pub shape-ok-spec : {M : Type 1} → statement M
 shape-ok-spec =

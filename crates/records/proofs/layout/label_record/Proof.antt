@@ -44,9 +44,10 @@ part-result-end c = omega (arith, label-inside _ (c .before .before .pre .0) _ (
 
 returns : tie.Need-returns
 unfolding labelRecord labelOffset
-returns c =
-    (rw (c .before .first-label-block .ensures .0, add-sub-cancel-left),
-    simp (length-take, length-drop) (omega (arith, label-inside _ (c .before .before .before .pre .0) _ (c .before .before .before .pre .1))))
+returns c = (
+  rw (c .before .first-label-block .ensures .0, add-sub-cancel-left),
+  simp (length-take, length-drop) (omega (arith, label-inside _ (c .before .before .before .pre .0) _ (c .before .before .before .pre .1))),
+)
 
 pub label-record-spec : {M : Type 1} → statement M
 label-record-spec =

@@ -44,9 +44,10 @@ part-result-end c = omega (arith, user-inside _ (c .before .before .pre .0) _ (c
 
 returns : tie.Need-returns
 unfolding userRecord userOffset
-returns c =
-    (rw (c .before .first-user-block .ensures .0, add-sub-cancel-left),
-    simp (length-take, length-drop) (omega (arith, user-inside _ (c .before .before .before .pre .0) _ (c .before .before .before .pre .1))))
+returns c = (
+  rw (c .before .first-user-block .ensures .0, add-sub-cancel-left),
+  simp (length-take, length-drop) (omega (arith, user-inside _ (c .before .before .before .pre .0) _ (c .before .before .before .pre .1))),
+)
 
 pub user-record-spec : {M : Type 1} → statement M
 user-record-spec =

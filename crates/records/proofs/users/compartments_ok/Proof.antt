@@ -36,8 +36,18 @@ within-requires-5 c κs = search needs
 returns : tie.Need-returns
 unfolding userCompartmentsRule
 returns c =
-    rw (c .before .before .before .before .within .ensures, c .before .before .before .within2 .ensures, c .before .before .within3 .ensures, c .before .within4 .ensures, c .within5 .ensures,
-    c .before .before .before .before .before .before .before .before .before .number8 .ensures, c .before .before .before .before .before .before .before .before .number82 .ensures, c .before .before .before .before .before .before .before .number83 .ensures, c .before .before .before .before .before .before .number84 .ensures, c .before .before .before .before .before .all-below .ensures)
+    rw (
+      c .before .before .before .before .within .ensures,
+      c .before .before .before .within2 .ensures,
+      c .before .before .within3 .ensures,
+      c .before .within4 .ensures,
+      c .within5 .ensures,
+      c .before .before .before .before .before .before .before .before .before .number8 .ensures,
+      c .before .before .before .before .before .before .before .before .number82 .ensures,
+      c .before .before .before .before .before .before .before .number83 .ensures,
+      c .before .before .before .before .before .before .number84 .ensures,
+      c .before .before .before .before .before .all-below .ensures,
+    )
 
 pub compartments-ok-spec : {M : Type 1} → statement M
 compartments-ok-spec =

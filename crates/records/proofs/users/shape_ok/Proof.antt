@@ -64,8 +64,17 @@ groups-ok-requires c κs = search needs
 returns : tie.Need-returns
 unfolding userShape
 returns c =
-    rw (c .before .before .before .before .before .before .before .before .before .before .before .name-ok .ensures, c .before .before .before .before .before .before .before .before .all-zero .ensures, c .before .before .before .before .before .before .all-zero2 .ensures, c .before .before .before .before .levels-ok .ensures,
-    c .before .before .compartments-ok .ensures, c .groups-ok .ensures, c .before .before .before .before .before .levels .ensures .0, c .before .before .before .compartments .ensures .0, c .before .groups .ensures .0)
+    rw (
+      c .before .before .before .before .before .before .before .before .before .before .before .name-ok .ensures,
+      c .before .before .before .before .before .before .before .before .all-zero .ensures,
+      c .before .before .before .before .before .before .all-zero2 .ensures,
+      c .before .before .before .before .levels-ok .ensures,
+      c .before .before .compartments-ok .ensures,
+      c .groups-ok .ensures,
+      c .before .before .before .before .before .levels .ensures .0,
+      c .before .before .before .compartments .ensures .0,
+      c .before .groups .ensures .0,
+    )
 
 pub shape-ok-spec : {M : Type 1} → statement M
 shape-ok-spec =

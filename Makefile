@@ -1,0 +1,17 @@
+# `make` proves and builds the C library and shows the check of the sample image; `make test` is the gate.
+.PHONY: all test clean
+
+all: target/check
+	target/check sample/cooperative.img
+
+target/staticlib/libabi.a: crates.txt $(shell find crates -type f)
+	rt staticlib abi
+
+target/check: examples/check.c include/brawnesk.h target/staticlib/libabi.a
+	gcc -std=c99 -O2 -Wall -Wextra -Iinclude examples/check.c target/staticlib/libabi.a -o $@
+
+test:
+	bash .ci/run
+
+clean:
+	rm -rf target

@@ -1,0 +1,59 @@
+//! The table of ancestors and the rules by below.
+
+use super::records::set_at;
+use super::{Block, Counts};
+
+/// For each group the set of itself and its ancestors.
+pub struct Ancestors([u64; 64]);
+
+impl Ancestors {
+    /// The table, or the lowest group whose parents never end.
+    pub fn read(blocks: &[Block], counts: &Counts) -> Result<Ancestors, usize> {
+        let mut parents = [255; 64];
+        for (group, parent) in parents[..counts.groups].iter_mut().enumerate() {
+            let place = counts.levels + counts.compartments + group;
+            *parent = blocks[1 + place / 12][4 + place % 12 * 40 + 34];
+        }
+        let mut table = [0; 64];
+        for (group, entry) in table[..counts.groups].iter_mut().enumerate() {
+            *entry = walk(&parents, group).ok_or(group)?;
+        }
+        Ok(Ancestors(table))
+    }
+
+    /// Whether each group of a set is in below(other): it or an ancestor is in the other.
+    fn lies_below(&self, set: u64, other: u64) -> bool {
+        let mut rest = set & !other;
+        while rest != 0 {
+            let group = rest.trailing_zeros() as usize;
+            if self.0[group] & other == 0 {
+                return false;
+            }
+            rest &= rest - 1;
+        }
+        true
+    }
+
+    pub fn user_holds(&self, record: &[u8]) -> bool {
+        let [read, write, default, row] = [72, 80, 88, 96].map(|at| set_at(record, at));
+        self.lies_below(write, read)
+            && self.lies_below(default, read)
+            && self.lies_below(row, default)
+            && self.lies_below(row, write)
+    }
+}
+
+/// A group and its ancestors, or nothing where the walk comes back to one of them.
+fn walk(parents: &[u8; 64], group: usize) -> Option<u64> {
+    let mut set = 1 << group;
+    let mut at = parents[group];
+    while at != 255 {
+        let bit = 1 << at;
+        if set & bit != 0 {
+            return None;
+        }
+        set |= bit;
+        at = parents[usize::from(at)];
+    }
+    Some(set)
+}

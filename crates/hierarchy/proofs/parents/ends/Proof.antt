@@ -1,0 +1,67 @@
+use Prim.Native.Nat.{_≤_, _<_}
+use mathlib.Core.Path.{_≡_, sym, _∙_}
+use native.Mathlib.Omega.{arith}
+use borrow.Author.Needs.{needs}
+use Rattle.records.specs.Layout.{groups}
+use Rattle.records.proofs.Inside.{header-inside}
+use Rattle.hierarchy.specs.Below.{endsWithin, endsRule}
+use Rattle.hierarchy.proofs.Steps.{walk-ended, walk-on, walk-none}
+use Rattle.hierarchy.proofs.parents.ends.Statement.{statement}
+use Rattle.hierarchy.proofs.parents.ends.Tie as tie
+
+abbrev Inv-loop : tie.InvT-loop
+Inv-loop image g count at₀ steps₀ at steps = (at < groups image) × (endsWithin image steps at ≡ endsRule image g)
+
+abbrev μ-loop : tie.MeasureT-loop
+μ-loop image g count at₀ steps₀ at steps = steps
+
+groups-requires : tie.Need-groups-requires Inv-loop μ-loop
+groups-requires c κs = header-inside _ (c .before .pre .0 .fitted)
+
+loop-holds : tie.Need-loop-holds Inv-loop μ-loop
+unfolding endsRule
+loop-holds c = (c .before .before .pre .1, rw (c .groups .ensures .0))
+
+parent-requires : tie.Need-parent-requires Inv-loop μ-loop
+parent-requires c κs = search needs
+
+returns : tie.Need-returns Inv-loop μ-loop
+returns c =
+    let im = c .before .before .before .before .before .before .args .image .now in
+    let some : 0 < c .before .before .before .loop .steps = omega arith in
+    let h : groups im ≤ c .before .parent .result = omega arith in
+    sym (walk-ended _ _ _ _ some (c .before .parent .ensures .0) h)
+    ∙ c .before .before .before .loop .inv .1
+
+sub-steps : tie.Need-sub-steps Inv-loop μ-loop
+sub-steps c = omega arith
+
+loop-less : tie.Need-loop-less Inv-loop μ-loop
+loop-less c = omega arith
+
+loop-again : tie.Need-loop-again Inv-loop μ-loop
+loop-again c =
+    let im = c .before .before .before .before .before .before .args .image .now in
+    let some : 0 < c .before .before .before .loop .steps = omega arith in
+    let h : c .before .parent .result < groups im = omega arith in
+    (h, sym (walk-on _ _ _ _ some (c .before .parent .ensures .0) h) ∙ c .before .before .before .loop .inv .1)
+
+returns-2 : tie.Need-returns-2 Inv-loop μ-loop
+returns-2 c =
+    let no : c .before .loop .steps ≡ 0 = omega arith in
+    sym (walk-none _ _ _ no) ∙ c .before .loop .inv .1
+
+pub ends-spec : {M : Type 1} → statement M
+ends-spec =
+    tie.close
+    (tie.spec
+    Inv-loop
+    μ-loop
+    groups-requires
+    loop-holds
+    parent-requires
+    returns
+    sub-steps
+    loop-less
+    loop-again
+    returns-2)

@@ -1,0 +1,70 @@
+use Prim.Native.Nat.{_-_, _≤_, _<_}
+use mathlib.Core.Path.{_≡_, sym, _∙_}
+use native.Mathlib.Nat.{sub-zero}
+use native.Mathlib.Omega.{arith}
+use borrow.Author.Tests.{not-true, not-false}
+use Rattle.fields.specs.Scan.{firstBad}
+use Rattle.fields.proofs.Scan.{loop-bad, loop-good, loop-end}
+use Rattle.records.specs.Layout.{users}
+use Rattle.records.proofs.Inside.{header-inside}
+use Rattle.hierarchy.specs.Below.{belowRule, firstBadBelow}
+use Rattle.hierarchy.proofs.table.first_bad_below.Statement.{statement}
+use Rattle.hierarchy.proofs.table.first_bad_below.Tie as tie
+
+abbrev Inv-loop : tie.InvT-loop
+Inv-loop image table count u₀ u =
+    (u ≤ users image) × (firstBad (belowRule image) (users image - u) u ≡ firstBadBelow image)
+
+abbrev μ-loop : tie.MeasureT-loop
+μ-loop image table count u₀ u = users image - u
+
+users-requires : tie.Need-users-requires Inv-loop μ-loop
+users-requires c κs = header-inside _ (c .before .pre .0 .fitted)
+
+loop-holds : tie.Need-loop-holds Inv-loop μ-loop
+unfolding firstBadBelow
+loop-holds c = (omega arith, rw sub-zero)
+
+below-ok-requires : tie.Need-below-ok-requires Inv-loop μ-loop
+below-ok-requires c κs =
+    (c .before .before .before .before .pre .0, (c .before .before .before .before .pre .1, omega arith))
+
+returns : tie.Need-returns Inv-loop μ-loop
+returns c =
+    let u = c .before .before .before .loop .u in
+    let l : u < users (c .before .before .before .before .before .before .args .image .now) = omega arith in
+    let bad = sym (c .before .below-ok .ensures) ∙ not-true _ (c .if1 .taken) in
+    loop-bad _ _ _ _ l (c .before .before .before .loop .inv .1) bad
+
+add-u : tie.Need-add-u Inv-loop μ-loop
+add-u c = omega arith
+
+loop-less : tie.Need-loop-less Inv-loop μ-loop
+loop-less c = omega arith
+
+loop-again : tie.Need-loop-again Inv-loop μ-loop
+loop-again c =
+    let u = c .before .before .before .loop .u in
+    let l : u < users (c .before .before .before .before .before .before .args .image .now) = omega arith in
+    let good = sym (c .before .below-ok .ensures) ∙ not-false _ (c .if1 .left) in
+    (omega arith, loop-good _ _ _ _ l (c .before .before .before .loop .inv .1) good)
+
+returns-2 : tie.Need-returns-2 Inv-loop μ-loop
+returns-2 c =
+    let l : users (c .before .before .before .before .args .image .now) ≤ c .before .loop .u = omega arith in
+    loop-end _ _ _ _ l (c .before .loop .inv .1)
+
+pub first-bad-below-spec : {M : Type 1} → statement M
+first-bad-below-spec =
+    tie.close
+    (tie.spec
+    Inv-loop
+    μ-loop
+    users-requires
+    loop-holds
+    below-ok-requires
+    returns
+    add-u
+    loop-less
+    loop-again
+    returns-2)

@@ -1,0 +1,2 @@
+-- Groups and their parents: what lies below a set of groups.
+pub mod Below

@@ -1,0 +1,3 @@
+// Groups and their parents: rings of parents, and what lies below a set of groups.
+pub mod parents;
+pub mod table;

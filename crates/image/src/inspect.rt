@@ -1,0 +1,84 @@
+// The first fault of an image, in the order of document 02's request R-2.
+ghost use Prim.Native.Nat.{_≤_, _<_};
+ghost use mathlib.Core.Path.{_≡_};
+ghost use Rattle.records.specs.Layout.{blocksNeeded};
+ghost use Rattle.records.specs.Rules.{Counted};
+ghost use Rattle.image.specs.Check.{firstBadContent, contentFault, countedFault, faultOf};
+use crate::faults::Fault;
+use crate::faults::record_fault;
+use blocks::frame::first_bad_block;
+use blocks::frame::length_ok;
+use hierarchy::parents::first_ring;
+use hierarchy::table;
+use records::blocks::content_ok;
+use records::blocks::first_bad_record;
+use records::blocks::layout_ok;
+use records::header::fit_ok;
+use records::header::header_ok;
+use records::layout;
+
+// The lowest block after the header that breaks a rule; the number of blocks where none does.
+fn first_bad_content(image: &[u8]) -> usize
+    requires { ⌜ Counted (now image) ⌝ }
+    ensures { λ r. ⌜ r ≡ firstBadContent (now (image .entry)) ⌝ }
+{
+    let count = layout::blocks_needed(image);
+    let mut b = 1;
+    while b < count {
+        if !content_ok(image, b) {
+            return b;
+        }
+        b += 1;
+    }
+    b
+}
+
+fn content_fault(image: &[u8], b: usize) -> Fault
+    requires { ⌜ Counted (now image) × ((1 ≤ b) × (b < blocksNeeded (now image))) ⌝ }
+    ensures { λ r. ⌜ r ≡ contentFault (now (image .entry)) b ⌝ }
+{
+    if !layout_ok(image, b) {
+        return Fault::Layout(b);
+    }
+    let held = layout::block_contents(image, b);
+    let kind = held.kind;
+    record_fault(kind, b, first_bad_record(image, b) - held.from)
+}
+
+// The first fault once the header and the length are sound.
+fn counted_fault(image: &[u8]) -> Fault
+    requires { ⌜ Counted (now image) ⌝ }
+    ensures { λ r. ⌜ r ≡ countedFault (now (image .entry)) ⌝ }
+{
+    let b = first_bad_content(image);
+    if b < layout::blocks_needed(image) {
+        return content_fault(image, b);
+    }
+    let g = first_ring(image);
+    if g < layout::groups(image) {
+        return Fault::Ring(g);
+    }
+    let mut lineages = [0u64; 64];
+    table::fill(image, &mut lineages);
+    let u = table::first_bad_below(image, &lineages);
+    if u < layout::users(image) {
+        return Fault::User(layout::user_block(image, u), layout::user_slot(u));
+    }
+    Fault::Sound
+}
+
+pub fn first_fault(image: &[u8]) -> Fault
+    ensures { λ r. ⌜ r ≡ faultOf (now (image .entry)) ⌝ }
+{
+    if !length_ok(image) {
+        return Fault::Length;
+    }
+    let bad = first_bad_block(image);
+    if bad < image.len() / 512 {
+        return Fault::Block(bad);
+    }
+    if !(header_ok(image) & fit_ok(image)) {
+        return Fault::Layout(0);
+    }
+    counted_fault(image)
+}

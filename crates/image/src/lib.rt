@@ -1,0 +1,45 @@
+// The policy image: its check, and what may be asked of an accepted one.
+pub mod faults;
+pub mod inspect;
+pub mod lookup;
+
+ghost use mathlib.Core.Path.{_≡_};
+ghost use Rattle.image.specs.Check.{checkOf};
+ghost use Rattle.image.specs.Lookup.{nameAnswer, namePart};
+use faults::Checked;
+use refusals::Refusal;
+
+// Is the image accepted? Refusals: 1, 2 with the lowest block, 3.
+pub fn check(image: &[u8]) -> Checked
+    ensures { λ r. ⌜ r ≡ checkOf (now (image .entry)) ⌝ }
+{
+    faults::shown(inspect::first_fault(image))
+}
+
+// How the look-up of a component's name by class and place ends. Refusals: 1, 2, 3, 18.
+pub fn name_answer(image: &[u8], class: u8, place: u8) -> Checked
+    ensures { λ r. ⌜ r ≡ nameAnswer (now (image .entry)) class place ⌝ }
+{
+    let answer = check(image);
+    let Checked::Accepted = answer else {
+        return answer;
+    };
+    if lookup::has_component(image, class, place as usize) {
+        Checked::Accepted
+    } else {
+        Checked::Refused(Refusal::NoComponent)
+    }
+}
+
+// The part of the image that holds the component's name; an empty part where `name_answer` refuses.
+pub fn name<'a>(image: &'a [u8], class: u8, place: u8) -> &'a [u8]
+    ensures { λ r. ⌜ (r .ptr, now r) ≡ namePart (image .entry) class place ⌝ }
+{
+    let answer = name_answer(image, class, place);
+    let Checked::Accepted = answer else {
+        return &image[0..0];
+    };
+    let at = lookup::name_offset(image, class, place as usize);
+    let end = at + lookup::name_length(image, class, place as usize);
+    &image[at..end]
+}

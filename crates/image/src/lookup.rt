@@ -1,0 +1,46 @@
+// Where a component's name stands, by class and place.
+ghost use Prim.Native.Nat.{_+_, _<_, _≤_};
+ghost use mathlib.Core.Path.{_≡_};
+ghost use mathlib.Core.Bool.{true};
+ghost use Rattle.records.specs.Layout.{components};
+ghost use Rattle.records.specs.Rules.{Counted};
+ghost use Rattle.image.specs.Lookup.{hasComponent, componentIndex, nameOffset, nameLength};
+use records::layout;
+
+pub fn has_component(image: &[u8], class: u8, place: usize) -> bool
+    requires { ⌜ Counted (now image) ⌝ }
+    ensures { λ r. ⌜ r ≡ hasComponent (now (image .entry)) class place ⌝ }
+{
+    (class == 1) & (place < layout::levels(image))
+        | (class == 2) & (place < layout::compartments(image))
+        | (class == 3) & (place < layout::groups(image))
+}
+
+// The component's place among all components.
+pub fn component_index(image: &[u8], class: u8, place: usize) -> usize
+    requires { ⌜ Counted (now image) × (hasComponent (now image) class place ≡ true) ⌝ }
+    ensures { λ r. ⌜ (r ≡ componentIndex (now (image .entry)) class place) × (r < components (now (image .entry))) ⌝ }
+{
+    if class == 1 {
+        return place;
+    }
+    if class == 2 {
+        return layout::levels(image) + place;
+    }
+    layout::levels(image) + layout::compartments(image) + place
+}
+
+pub fn name_offset(image: &[u8], class: u8, place: usize) -> usize
+    requires { ⌜ Counted (now image) × (hasComponent (now image) class place ≡ true) ⌝ }
+    ensures { λ r. ⌜ r ≡ nameOffset (now (image .entry)) class place ⌝ }
+{
+    layout::component_offset(component_index(image, class, place)) + 2
+}
+
+pub fn name_length(image: &[u8], class: u8, place: usize) -> usize
+    requires { ⌜ Counted (now image) × (hasComponent (now image) class place ≡ true) ⌝ }
+    ensures { λ r. ⌜ r ≡ nameLength (now (image .entry)) class place ⌝ }
+{
+    let rec = layout::component_record(image, component_index(image, class, place));
+    rec[1] as usize
+}

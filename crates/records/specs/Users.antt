@@ -1,0 +1,25 @@
+-- A user's levels and sets, as the values that code hands on.
+use Prim.Native.Nat.{ℕ}
+use mathlib.Core.Path.{_≡_}
+use mathlib.Core.List.{List}
+use Rattle.sets.specs.Groups.{placesOf}
+use Rattle.records.specs.declared.users.Levels.{Levels}
+use Rattle.records.specs.declared.users.CompartmentSets.{CompartmentSets}
+use Rattle.records.specs.declared.users.GroupSets.{GroupSets}
+use Rattle.records.specs.Fields.{maximumLevel, minimumLevel, defaultLevel, rowLevel, readCompartments, writeCompartments, defaultCompartments, rowCompartments, readGroups, writeGroups, defaultGroups, rowGroups}
+
+abbrev pub levelsOf : List ℕ → Levels
+levelsOf rec =
+    record { maximum = maximumLevel rec; minimum = minimumLevel rec; default = defaultLevel rec; row = rowLevel rec }
+
+abbrev pub compartmentsOf : List ℕ → CompartmentSets
+compartmentsOf rec =
+    record
+    { read = readCompartments rec; write = writeCompartments rec; default = defaultCompartments rec; row = rowCompartments rec }
+
+-- the four values are the record's four sets of groups
+pub record GroupsAre (rec : List ℕ) (sets : GroupSets) : Type 0 where
+  pub read : placesOf (sets .read) ≡ readGroups rec
+  pub write : placesOf (sets .write) ≡ writeGroups rec
+  pub default : placesOf (sets .default) ≡ defaultGroups rec
+  pub row : placesOf (sets .row) ≡ rowGroups rec

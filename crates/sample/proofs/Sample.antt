@@ -1,0 +1,24 @@
+-- The sample image is accepted: every rule is computed on it. Assumes nothing.
+use Prim.Native.Nat.{ℕ}
+use mathlib.Core.Path.{_≡_, refl}
+use mathlib.Core.List.{List, [], _∷_}
+use lib.ListN.{length}
+use Rattle.fields.specs.Bytes.{number2, number4, number8, all}
+use Rattle.fields.specs.Names.{nameByte, nameIn, nameRule, sameName, nameBefore}
+use Rattle.fields.specs.Scan.{firstBad}
+use Rattle.sets.specs.Sets.{has, allBelow, within, meets, collect}
+use Rattle.blocks.specs.Blocks.{lengthRule, blockAt, sumA, sumB, checkRule, placeRule, blockRule, blockCount, firstBadBlock}
+use Rattle.records.specs.Layout.{levels, compartments, groups, users, labels, components, firstLabelBlock, firstUserBlock, blocksNeeded, componentOffset, labelOffset, userOffset, componentRecord, labelRecord, userRecord, contentsOf}
+use Rattle.records.specs.Rules.{headerRule, fitRule, classAt, classStart, parentRule, componentShape, numericRule, namesDiffer, newNameRule, componentRule, labelShape, tagRule, labelRule, userLevelsRule, userCompartmentsRule, userGroupsRule, userShape, userNameRule, userRule, recordRule, layoutRule, firstBadRecord, contentRule}
+use Rattle.hierarchy.specs.Below.{parent, hasParent, endsWithin, endsRule, firstRing, lineageWithin, lineage, below, belowRule, firstBadBelow}
+use Rattle.image.specs.declared.faults.Checked.the-variants.{Accepted}
+use Rattle.image.specs.Check.{firstBadContent, contentFault, countedFault, faultOf, checkOf}
+use Rattle.sample.specs.Cooperative.{cooperative}
+
+pub sample-length : length cooperative ≡ 2048
+unfolding cooperative
+sample-length = refl
+
+pub sample-accepted : checkOf cooperative ≡ Accepted
+unfolding cooperative number2 number4 number8 all nameByte nameIn nameRule sameName nameBefore firstBad has allBelow within meets collect lengthRule blockAt sumA sumB checkRule placeRule blockRule blockCount firstBadBlock levels compartments groups users labels components firstLabelBlock firstUserBlock blocksNeeded componentOffset labelOffset userOffset componentRecord labelRecord userRecord contentsOf headerRule fitRule classAt classStart parentRule componentShape numericRule namesDiffer newNameRule componentRule labelShape tagRule labelRule userLevelsRule userCompartmentsRule userGroupsRule userShape userNameRule userRule recordRule layoutRule firstBadRecord contentRule parent hasParent endsWithin endsRule firstRing lineageWithin lineage below belowRule firstBadBelow firstBadContent contentFault countedFault faultOf checkOf
+sample-accepted = refl

@@ -1,0 +1,2 @@
+-- The sample co-operative of document 01.
+pub mod Cooperative

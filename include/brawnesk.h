@@ -1,0 +1,30 @@
+/* Brawnesk: may this session read or write a row of a shared store?
+ *
+ * Every function answers one 64-bit number. Below 2^63 the call is done and the number is its value. Otherwise it is refused:
+ * 2^63 + number * 2^32 + place, where number is the refusal and place the block (refusal 2) or offset (6 and 7) it names.
+ * A refusal changes no lent byte. Lent buffers do not overlap. A pointer to an empty slice may not be null. */
+#ifndef BRAWNESK_H
+#define BRAWNESK_H
+
+#include <stddef.h>
+#include <stdint.h>
+
+#ifdef __cplusplus
+extern "C" {
+#endif
+
+/* Is the policy image accepted? Done: 0. Refusals: 1 length, 2 check or place of a block (its place), 3 any other rule. */
+uint64_t brawnesk_check(const uint8_t *image, size_t image_length);
+
+/* Where the name of a component stands: class 1 level, 2 compartment, 3 group; place counts from 0 in its class.
+ * Done: its offset in the image + 65,536 * its length. Refusals: 1, 2, 3, 18 no such component. */
+uint64_t brawnesk_name(const uint8_t *image, size_t image_length, uint8_t component_class, uint8_t place);
+
+static inline int brawnesk_refused(uint64_t answer) { return answer >> 63 != 0; }
+static inline unsigned brawnesk_number(uint64_t answer) { return (unsigned)(answer >> 32 & 0x7fffffff); }
+static inline uint32_t brawnesk_place(uint64_t answer) { return (uint32_t)answer; }
+
+#ifdef __cplusplus
+}
+#endif
+#endif

@@ -1,0 +1,213 @@
+//! Damage to a component's rules (32 at its record) and to the ends of parents (35).
+
+use super::{Draft, Expected};
+use crate::builder::layout::RecordAt;
+use crate::builder::Policy;
+use crate::rng::Rng;
+
+/// The bytes of a name's alphabet have these beside them.
+pub const BAD_BYTES: &[u8] = b"az@[/:`^ ,-.\0\xff\xc1";
+
+fn any(draft: &Draft, rng: &mut Rng) -> Option<RecordAt> {
+    let count = draft.policy.components();
+    (count > 0).then(|| draft.policy.component_at(rng.index(count)))
+}
+
+/// A component and an earlier one of its class, the one before it or any.
+fn pair(policy: &Policy, rng: &mut Rng, next: bool) -> Option<(RecordAt, RecordAt)> {
+    let (levels, compartments) = (policy.levels.len(), policy.compartments.len());
+    let (first, count) = *rng.pick(&[
+        (0, levels),
+        (levels, compartments),
+        (levels + compartments, policy.groups.len()),
+    ]);
+    if count < 2 {
+        return None;
+    }
+    let later = rng.range(1, count - 1);
+    let earlier = if next { later - 1 } else { rng.index(later) };
+    let at = |place| policy.component_at(first + place);
+    Some((at(earlier), at(later)))
+}
+
+fn write(draft: &mut Draft, at: RecordAt, byte: usize, bytes: &[u8]) -> Option<Expected> {
+    draft.write(at.offset + byte, bytes);
+    Expected::component(at)
+}
+
+pub fn class(draft: &mut Draft, rng: &mut Rng) -> Option<Expected> {
+    let at = any(draft, rng)?;
+    let old = draft.get(at.offset);
+    let value = *rng.pick(&[0, 1, 2, 3, 4, 255]);
+    let value = if value == old {
+        rng.byte_but(old)
+    } else {
+        value
+    };
+    write(draft, at, 0, &[value])
+}
+
+/// Two components of different classes change places.
+pub fn class_order(draft: &mut Draft, rng: &mut Rng) -> Option<Expected> {
+    let count = draft.policy.components();
+    let later = rng.index(count.max(1));
+    let earlier = rng.index(later.max(1));
+    let [low, high] = [earlier, later].map(|place| draft.policy.component_at(place));
+    let first = draft.image.get(low.offset..low.offset + 40)?.to_vec();
+    let second = draft.image.get(high.offset..high.offset + 40)?.to_vec();
+    if first[0] == second[0] {
+        return None;
+    }
+    draft.write(high.offset, &first);
+    write(draft, low, 0, &second)
+}
+
+/// The header counts one level or compartment less and one of the next class more: the record
+/// whose class isn't the one that the counts put there is at fault itself.
+pub fn class_by_header(draft: &mut Draft, rng: &mut Rng) -> Option<Expected> {
+    let policy = &draft.policy;
+    let counts = [
+        policy.levels.len(),
+        policy.compartments.len(),
+        policy.groups.len(),
+    ];
+    let class = rng.index(2);
+    let least = 1 - class;
+    if counts[class] <= least || counts[class + 1] == 64 {
+        return None;
+    }
+    let place: usize = counts[..=class].iter().sum();
+    let at = policy.component_at(place - 1);
+    draft.put(5 + class, &[counts[class] as u8 - 1]);
+    draft.write(6 + class, &[counts[class + 1] as u8 + 1]);
+    Expected::component(at)
+}
+
+pub fn name_empty(draft: &mut Draft, rng: &mut Rng) -> Option<Expected> {
+    let at = any(draft, rng)?;
+    draft.put(at.offset + 2, &[0; 30]);
+    write(draft, at, 1, &[0])
+}
+
+pub fn name_long(draft: &mut Draft, rng: &mut Rng) -> Option<Expected> {
+    let at = any(draft, rng)?;
+    let length = *rng.pick(&[31, 31, 32, 38, 128, 255]);
+    draft.put(at.offset + 2, &[b'N'; 30]);
+    write(draft, at, 1, &[length])
+}
+
+pub fn name_byte(draft: &mut Draft, rng: &mut Rng) -> Option<Expected> {
+    let at = any(draft, rng)?;
+    let length = draft.get(at.offset + 1).max(1);
+    let byte = 2 + rng.index(usize::from(length));
+    write(draft, at, byte, &[*rng.pick(BAD_BYTES)])
+}
+
+pub fn name_rest(draft: &mut Draft, rng: &mut Rng) -> Option<Expected> {
+    let at = any(draft, rng)?;
+    let length = usize::from(draft.get(at.offset + 1));
+    if length >= 30 {
+        return None;
+    }
+    let byte = rng.with_ends(2 + length, 31);
+    let value = if rng.once_in(2) { b'A' } else { rng.nonzero() };
+    write(draft, at, byte, &[value])
+}
+
+pub fn name_repeated(draft: &mut Draft, rng: &mut Rng) -> Option<Expected> {
+    let (earlier, later) = pair(&draft.policy, rng, false)?;
+    let name = draft
+        .image
+        .get(earlier.offset + 1..earlier.offset + 32)?
+        .to_vec();
+    write(draft, later, 1, &name)
+}
+
+pub fn number_over(draft: &mut Draft, rng: &mut Rng) -> Option<Expected> {
+    let at = any(draft, rng)?;
+    let number = rng.with_ends(10_000, 65_535);
+    write(draft, at, 32, &(number as u16).to_le_bytes())
+}
+
+pub fn number_equal(draft: &mut Draft, rng: &mut Rng) -> Option<Expected> {
+    let (earlier, later) = pair(&draft.policy, rng, true)?;
+    let number = [32, 33].map(|byte| draft.get(earlier.offset + byte));
+    write(draft, later, 32, &number)
+}
+
+pub fn number_lower(draft: &mut Draft, rng: &mut Rng) -> Option<Expected> {
+    let (earlier, later) = pair(&draft.policy, rng, true)?;
+    let number = u16::from_le_bytes([32, 33].map(|byte| draft.get(earlier.offset + byte)));
+    let lower = (number > 0).then(|| rng.index(usize::from(number)))?;
+    write(draft, later, 32, &(lower as u16).to_le_bytes())
+}
+
+pub fn level_parent(draft: &mut Draft, rng: &mut Rng) -> Option<Expected> {
+    let count = draft.policy.levels.len();
+    let place = (count > 0).then(|| rng.index(count))?;
+    some_parent(draft, rng, place)
+}
+
+pub fn compartment_parent(draft: &mut Draft, rng: &mut Rng) -> Option<Expected> {
+    let count = draft.policy.compartments.len();
+    let place = (count > 0).then(|| rng.index(count))?;
+    some_parent(draft, rng, draft.policy.levels.len() + place)
+}
+
+fn some_parent(draft: &mut Draft, rng: &mut Rng, place: usize) -> Option<Expected> {
+    let parent = rng.with_ends(0, 254) as u8;
+    write(draft, draft.policy.component_at(place), 34, &[parent])
+}
+
+pub fn group_parent_missing(draft: &mut Draft, rng: &mut Rng) -> Option<Expected> {
+    let count = draft.policy.groups.len();
+    let group = (count > 0).then(|| rng.index(count))?;
+    let parent = rng.with_ends(count, 254);
+    write(draft, draft.policy.group_at(group), 34, &[parent as u8])
+}
+
+pub fn unused(draft: &mut Draft, rng: &mut Rng) -> Option<Expected> {
+    let at = any(draft, rng)?;
+    let byte = rng.with_ends(35, 39);
+    let value = rng.nonzero();
+    write(draft, at, byte, &[value])
+}
+
+pub fn ring_of_one(draft: &mut Draft, rng: &mut Rng) -> Option<Expected> {
+    ring(draft, rng, 1)
+}
+
+pub fn ring_of_two(draft: &mut Draft, rng: &mut Rng) -> Option<Expected> {
+    ring(draft, rng, 2)
+}
+
+pub fn ring_long(draft: &mut Draft, rng: &mut Rng) -> Option<Expected> {
+    let count = draft.policy.groups.len();
+    let length = if rng.once_in(3) {
+        count
+    } else {
+        rng.range(3, count.max(3))
+    };
+    ring(draft, rng, length.max(3))
+}
+
+/// Gives some groups each other as parents, so that a walk from them never ends. Nor does one from
+/// any group under them.
+fn ring(draft: &mut Draft, rng: &mut Rng, length: usize) -> Option<Expected> {
+    let count = draft.policy.groups.len().min(64);
+    if count < length {
+        return None;
+    }
+    let mut order: Vec<usize> = (0..count).collect();
+    rng.shuffle(&mut order);
+    for at in 0..length {
+        let (group, parent) = (order[at], order[(at + 1) % length] as u8);
+        draft.policy.groups[group].parent = Some(parent);
+        draft.write(draft.policy.group_at(group).offset + 34, &[parent]);
+    }
+    let ring = order[..length]
+        .iter()
+        .fold(0, |set, &group| set | 1 << group);
+    let endless = draft.policy.below(ring);
+    Expected::ring(endless.trailing_zeros() as usize)
+}

@@ -1,0 +1,101 @@
+//! An image under damage, with the policy that it was made from.
+
+use crate::builder::layout::{seal, RecordAt, BLOCK};
+use crate::builder::{to_image, Policy};
+use crate::model::{Fault, Refusal};
+
+/// What a damaged image is refused with, if it was well-formed before.
+#[derive(Clone, Copy, Debug, PartialEq, Eq)]
+pub enum Expected {
+    Refused(Refusal),
+    Fault(Fault),
+}
+
+impl Expected {
+    pub fn refusal(self) -> Refusal {
+        match self {
+            Expected::Refused(refusal) => refusal,
+            Expected::Fault(_) => Refusal::Image,
+        }
+    }
+
+    pub fn length() -> Option<Expected> {
+        Some(Expected::Refused(Refusal::Length))
+    }
+
+    pub fn unsound(block: usize) -> Option<Expected> {
+        Some(Expected::Refused(Refusal::Block(block)))
+    }
+
+    pub fn block(block: usize) -> Option<Expected> {
+        Some(Expected::Fault(Fault::Block { block }))
+    }
+
+    pub fn component(at: RecordAt) -> Option<Expected> {
+        let RecordAt { block, record, .. } = at;
+        Some(Expected::Fault(Fault::Component { block, record }))
+    }
+
+    pub fn label(at: RecordAt) -> Option<Expected> {
+        let RecordAt { block, record, .. } = at;
+        Some(Expected::Fault(Fault::Label { block, record }))
+    }
+
+    pub fn user(at: RecordAt) -> Option<Expected> {
+        let RecordAt { block, record, .. } = at;
+        Some(Expected::Fault(Fault::User { block, record }))
+    }
+
+    pub fn ring(group: usize) -> Option<Expected> {
+        Some(Expected::Fault(Fault::Ring { group }))
+    }
+}
+
+/// Several kinds of damage may be done to one draft. An earlier one may have cut the image, so
+/// writing outside it is left undone.
+pub struct Draft {
+    pub policy: Policy,
+    pub image: Vec<u8>,
+}
+
+impl Draft {
+    pub fn new(policy: Policy) -> Draft {
+        let image = to_image(&policy);
+        Draft { policy, image }
+    }
+
+    /// Makes the image anew from the policy, as it now is.
+    pub fn rebuild(&mut self) {
+        self.image = to_image(&self.policy);
+    }
+
+    pub fn blocks(&self) -> usize {
+        self.image.len() / BLOCK
+    }
+
+    /// A byte of the image, or 0 outside it.
+    pub fn get(&self, at: usize) -> u8 {
+        self.image.get(at).copied().unwrap_or(0)
+    }
+
+    /// Writes bytes without mending a check.
+    pub fn put(&mut self, at: usize, bytes: &[u8]) {
+        if let Some(part) = self.image.get_mut(at..at + bytes.len()) {
+            part.copy_from_slice(bytes);
+        }
+    }
+
+    /// Writes bytes that lie in one block and mends the block's check.
+    pub fn write(&mut self, at: usize, bytes: &[u8]) {
+        self.put(at, bytes);
+        seal(&mut self.image, at / BLOCK);
+    }
+
+    /// Adds a block of the given kind without records, with the place and check that it needs.
+    pub fn push_block(&mut self, kind: u8) {
+        let block = self.blocks();
+        self.image.resize((block + 1) * BLOCK, 0);
+        let place = (block as u16).to_le_bytes();
+        self.write(block * BLOCK, &[kind, 0, place[0], place[1]]);
+    }
+}

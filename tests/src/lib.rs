@@ -1,0 +1,15 @@
+//! Tests of the compiled library against a second implementation, the model, which follows
+//! document 01 and shares no code with the library.
+//!
+//! - `model`: the rules of an image, as the document states them.
+//! - `builder`: well-formed policies and their images.
+//! - `damage`: for each rule of an image, a change that breaks it.
+//! - `cases`: images by seed, for comparing.
+//! - `ffi`: the compiled library.
+
+pub mod builder;
+pub mod cases;
+pub mod damage;
+pub mod ffi;
+pub mod model;
+pub mod rng;

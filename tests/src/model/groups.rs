@@ -1,0 +1,31 @@
+//! Parents of groups, and the set below(S).
+
+use super::layout::Image;
+use std::iter;
+
+fn parent(image: &Image, group: usize) -> Option<usize> {
+    match image.group(group)[34] {
+        255 => None,
+        place => Some(usize::from(place)),
+    }
+}
+
+/// The lowest group from which following parents never reaches "none". A walk that ends meets no
+/// group twice, so it has at most as many steps as there are groups.
+pub fn first_endless(image: &Image) -> Option<usize> {
+    let groups = image.counts.groups;
+    let is_endless = |&group: &usize| {
+        let walk = iter::successors(Some(group), |&group| parent(image, group));
+        walk.take(groups + 1).count() > groups
+    };
+    (0..groups).find(is_endless)
+}
+
+/// S with every group that has an ancestor, at any distance, in S. Parents end here.
+pub fn below(image: &Image, set: &[usize]) -> Vec<usize> {
+    let is_below = |&group: &usize| {
+        let mut walk = iter::successors(Some(group), |&group| parent(image, group));
+        walk.any(|ancestor| set.contains(&ancestor))
+    };
+    (0..image.counts.groups).filter(is_below).collect()
+}

@@ -1,0 +1,161 @@
+//! The compiled `brawnesk_check` and `brawnesk_name` against the model.
+//!
+//! A wrong answer names its seed; `BRAWNESK_SEED=<seed> cargo test --release` runs that one alone.
+
+use brawnesk_tests::builder::{full, sample, to_image};
+use brawnesk_tests::cases::{Case, Kind};
+use brawnesk_tests::damage::Damage;
+use brawnesk_tests::ffi::{self, Answer};
+use brawnesk_tests::model::{self, Refusal};
+use brawnesk_tests::rng::Rng;
+use std::collections::BTreeMap;
+
+const CASES: u64 = 26_000;
+
+/// How often each kind of image and each answer came: 0 for done, else the refusal's number.
+#[derive(Default)]
+struct Tally {
+    kinds: BTreeMap<Kind, usize>,
+    answers: BTreeMap<u32, usize>,
+    large: usize,
+}
+
+impl Tally {
+    fn add(&mut self, answer: Answer) {
+        let number = match answer {
+            Answer::Done(_) => 0,
+            Answer::Refused { number, .. } => number,
+        };
+        *self.answers.entry(number).or_default() += 1;
+    }
+}
+
+fn expected(result: Result<u64, Refusal>) -> Answer {
+    match result {
+        Ok(value) => Answer::Done(value),
+        Err(refusal) => Answer::Refused {
+            number: refusal.number(),
+            place: refusal.place() as u32,
+        },
+    }
+}
+
+fn expected_name(image: &[u8], class: u8, place: u8) -> Answer {
+    let part = model::name(image, class, place);
+    expected(part.map(|(offset, length)| offset as u64 + 65_536 * length as u64))
+}
+
+/// Which names are asked for: of a small valid image all that there are and those around them, of
+/// others a few.
+fn questions(case: &Case, rng: &mut Rng) -> Vec<(u8, u8)> {
+    let is_small = case.image.len() < 8 * 512;
+    if case.kind == Kind::Valid && is_small && rng.once_in(4) {
+        let places = (0..=9).chain([31, 32, 63, 64, 65, 127, 128, 254, 255]);
+        return places
+            .flat_map(|place| (0..=4).map(move |class| (class, place)))
+            .collect();
+    }
+    let place = |rng: &mut Rng| match rng.index(4) {
+        0 => rng.byte(),
+        1 => 255,
+        _ => rng.index(8) as u8,
+    };
+    (0..3).map(|_| (rng.index(5) as u8, place(rng))).collect()
+}
+
+fn compare(seed: u64, tally: &mut Tally) {
+    let case = Case::new(seed);
+    let kind = case.kind;
+    let image = &case.image;
+    let answer = ffi::check(image);
+    let wanted = expected(model::check(image).map(|()| 0));
+    assert_eq!(answer, wanted, "check of {kind:?}, seed {seed}");
+    tally.add(answer);
+    for (class, place) in questions(&case, &mut Rng::new(!seed)) {
+        let answer = ffi::name(image, class, place);
+        let wanted = expected_name(image, class, place);
+        assert_eq!(
+            answer, wanted,
+            "name {class}, {place} of {kind:?}, seed {seed}"
+        );
+        tally.add(answer);
+    }
+    *tally.kinds.entry(kind).or_default() += 1;
+    tally.large += usize::from(image.len() >= 100 * 512 && image.len() <= 65_536);
+}
+
+#[test]
+fn the_library_agrees_with_the_model() {
+    let mut tally = Tally::default();
+    if let Ok(seed) = std::env::var("BRAWNESK_SEED") {
+        return compare(seed.parse().expect("a seed is a number"), &mut tally);
+    }
+    for seed in 0..CASES {
+        compare(seed, &mut tally);
+    }
+    println!("answers {:?}, large images {}", tally.answers, tally.large);
+    for &damage in Damage::ALL {
+        let times = tally
+            .kinds
+            .get(&Kind::Damaged(damage))
+            .copied()
+            .unwrap_or(0);
+        assert!(times >= 100, "{damage:?} came {times} times");
+    }
+    for (number, least) in [(0, 4_000), (1, 1_000), (2, 1_000), (3, 10_000), (18, 4_000)] {
+        let times = tally.answers.get(&number).copied().unwrap_or(0);
+        assert!(times >= least, "answer {number} came {times} times");
+    }
+    assert!(tally.large >= 300, "{} large images", tally.large);
+}
+
+#[test]
+fn the_sample_is_accepted_and_its_names_are_right() {
+    let image = to_image(&sample());
+    assert_eq!(ffi::check(&image), Answer::Done(0));
+    let names: [&[&str]; 3] = [
+        &["OPEN", "CREW", "VAULT"],
+        &["KILN", "GLAZE"],
+        &["WORKS", "NORTH", "DOCK", "SOUTH"],
+    ];
+    for (class, names) in (1..).zip(names) {
+        for (place, &name) in (0..).zip(names) {
+            let Answer::Done(value) = ffi::name(&image, class, place) else {
+                panic!("name {class}, {place} is refused");
+            };
+            let (offset, length) = (value as usize % 65_536, value as usize / 65_536);
+            assert_eq!(&image[offset..][..length], name.as_bytes());
+        }
+        let refused = ffi::name(&image, class, names.len() as u8);
+        assert_eq!(refused, expected(Err(Refusal::Component)));
+    }
+}
+
+/// Every name of the largest image, in all its component blocks.
+#[test]
+fn all_names_of_the_largest_image_are_right() {
+    let policy = full();
+    let image = to_image(&policy);
+    let classes = [&policy.levels, &policy.compartments, &policy.groups];
+    for (class, components) in (1..).zip(classes) {
+        for (place, component) in (0..).zip(components) {
+            let answer = ffi::name(&image, class, place);
+            assert_eq!(answer, expected_name(&image, class, place));
+            let Answer::Done(value) = answer else {
+                panic!("name {class}, {place} is refused");
+            };
+            let (offset, length) = (value as usize % 65_536, value as usize / 65_536);
+            assert_eq!(&image[offset..][..length], component.name.as_bytes());
+        }
+    }
+}
+
+#[test]
+fn lengths_are_judged_first() {
+    for length in [0, 1, 511, 513, 65_535, 65_537, 66_048, 131_072] {
+        assert_eq!(ffi::check(&vec![0; length]), expected(Err(Refusal::Length)));
+    }
+    // Zeros have right checks; each block but the first has a wrong place.
+    assert_eq!(ffi::check(&[0; 512]), expected(Err(Refusal::Image)));
+    assert_eq!(ffi::check(&[0; 65_536]), expected(Err(Refusal::Block(1))));
+}
