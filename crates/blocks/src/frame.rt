@@ -13,13 +13,22 @@ pub fn length_ok(image: &[u8]) -> bool
     (0 < n) & (n % 512 == 0) & (n <= 65536)
 }
 
-fn wide(x: u8) -> u32
+fn wide(x: u8) -> u16
     ensures { λ r. ⌜ (r ≡ x) × (r < 256) ⌝ }
 {
-    x as u32
+    x as u16
 }
 
-// The sums of 510 bytes stay below 2^32 without a remainder, so one remainder at the end serves.
+// A byte of either half of the 510 and how often sums are taken from it on; the product fits 17 bits.
+fn times(y: u16, w: u16) -> u32
+    requires { ⌜ (y ≤ 510) × (w ≤ 255) ⌝ }
+    ensures { λ r. ⌜ (r ≡ y * w) × (r ≤ 130050) ⌝ }
+{
+    (y as u32) * (w as u32)
+}
+
+// The sums of 510 bytes stay below 2^32 without a remainder, so one remainder at the end serves. Byte i counts 510 - i times
+// in the second sum; 255 times is none, so both halves of the bytes count alike.
 fn check_ok(block: &[u8]) -> bool
     requires { ⌜ length (now block) ≡ 512 ⌝ }
     ensures { λ r. ⌜ r ≡ checkRule (now (block .entry)) ⌝ }
@@ -27,12 +36,14 @@ fn check_ok(block: &[u8]) -> bool
     let mut a: u32 = 0;
     let mut b: u32 = 0;
     let mut i = 0;
-    while i < 510 {
-        a += wide(block[i]);
-        b += a;
+    while i < 255 {
+        let y = wide(block[i]) + wide(block[i + 255]);
+        let w = (255 - i) as u16;
+        a += y as u32;
+        b += times(y, w);
         i += 1;
     }
-    (wide(block[510]) == a % 255) & (wide(block[511]) == b % 255)
+    (wide(block[510]) as u32 == a % 255) & (wide(block[511]) as u32 == b % 255)
 }
 
 fn place_ok(block: &[u8], place: usize) -> bool

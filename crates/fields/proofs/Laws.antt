@@ -27,19 +27,21 @@ module _ (s : List ℕ) (k n : ℕ) where
 
 -- ---- a test of every byte
 module _ (test : ℕ → Bool) (s : List ℕ) (i : ℕ) where
-  all-at : i < length s → all test (drop i s) ≡ (test (getD s i 0) && all test (drop (i + 1) s))
+  pub all-at : i < length s → all test (drop i s) ≡ (test (getD s i 0) && all test (drop (i + 1) s))
   unfolding all
   all-at h = rw (drop-cons s i 0, add-one)
 
-  pub all-stop : i < length s → all test (drop i s) ≡ all test s → test (getD s i 0) ≡ false → false ≡ all test s
-  all-stop h inv e = sym (sym inv ∙ all-at h ∙ rw e)
+  -- w is what the whole gives
+  module _ (w : Bool) where
+    pub all-from-stop : i < length s → all test (drop i s) ≡ w → test (getD s i 0) ≡ false → false ≡ w
+    all-from-stop h inv e = sym (sym inv ∙ all-at h ∙ rw e)
 
-  pub all-step : i < length s → all test (drop i s) ≡ all test s → test (getD s i 0) ≡ true → all test (drop (i + 1) s) ≡ all test s
-  all-step h inv e = sym (sym inv ∙ all-at h ∙ rw e)
+    pub all-from-step : i < length s → all test (drop i s) ≡ w → test (getD s i 0) ≡ true → all test (drop (i + 1) s) ≡ w
+    all-from-step h inv e = sym (sym inv ∙ all-at h ∙ rw e)
 
-  pub all-done : length s ≤ i → all test (drop i s) ≡ all test s → true ≡ all test s
-  unfolding all
-  all-done h inv = rw (drop-of-length-le s h) at inv
+    pub all-from-done : length s ≤ i → all test (drop i s) ≡ w → true ≡ w
+    unfolding all
+    all-from-done h inv = rw (drop-of-length-le s h) at inv
 
 -- ---- the same name
 module _ (a b : List ℕ) (i : ℕ) where

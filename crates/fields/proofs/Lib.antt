@@ -2,3 +2,4 @@ pub mod Both
 pub mod Laws
 pub mod Meaning
 pub mod Scan
+pub mod Words

@@ -5,11 +5,14 @@ ghost use lib.ListN.{length};
 ghost use Rattle.fields.specs.Names.{nameByte, allNameBytes, nameIn, nameRule, sameName, nameBefore};
 use crate::numbers::all_zero;
 
-// A..Z, 0..9 and underscore.
+// A..Z, 0..9 and underscore; most are letters, so those leave first.
 fn name_byte(x: u8) -> bool
     ensures { λ r. ⌜ r ≡ nameByte x ⌝ }
 {
-    (65 <= x) & (x <= 90) | (48 <= x) & (x <= 57) | (x == 95)
+    if (65 <= x) & (x <= 90) {
+        return true;
+    }
+    (48 <= x) & (x <= 57) | (x == 95)
 }
 
 fn all_name_bytes(s: &[u8]) -> bool

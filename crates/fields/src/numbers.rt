@@ -1,7 +1,7 @@
 // Little-endian numbers and unused bytes.
 ghost use Prim.Native.Nat.{_+_, _<_, _≤_};
 ghost use mathlib.Core.Path.{_≡_};
-ghost use lib.ListN.{length};
+ghost use lib.ListN.{length, drop};
 ghost use Rattle.fields.specs.Bytes.{number2, number4, number8, allZero};
 
 fn wide(x: u8) -> u32
@@ -34,11 +34,12 @@ pub fn number8(s: &[u8], k: usize) -> u64
     (number4(s, k) as u64) + (number4(s, k + 4) as u64) * 4294967296
 }
 
-// Unused bytes are zero.
-pub fn all_zero(s: &[u8]) -> bool
-    ensures { λ r. ⌜ r ≡ allZero (now (s .entry)) ⌝ }
+// The bytes from k on are zero.
+fn rest_zero(s: &[u8], k: usize) -> bool
+    requires { ⌜ k ≤ length (now s) ⌝ }
+    ensures { λ r. ⌜ r ≡ allZero (drop k (now (s .entry))) ⌝ }
 {
-    let mut i = 0;
+    let mut i = k;
     while i < s.len() {
         if s[i] != 0 {
             return false;
@@ -46,4 +47,19 @@ pub fn all_zero(s: &[u8]) -> bool
         i += 1;
     }
     true
+}
+
+// Unused bytes are zero: eight at a time, then those that are left.
+pub fn all_zero(s: &[u8]) -> bool
+    ensures { λ r. ⌜ r ≡ allZero (now (s .entry)) ⌝ }
+{
+    let n = s.len();
+    let mut i = 0;
+    while 8 <= n - i {
+        if number8(s, i) != 0 {
+            return false;
+        }
+        i += 8;
+    }
+    rest_zero(s, i)
 }

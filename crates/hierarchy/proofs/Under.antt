@@ -25,11 +25,11 @@ module _ (im : List ℕ) where
   unfolding below
   below-limit s = collect-below (λ g. meets (lineage im g) s) (groups im)
 
-  below-true : (s g : ℕ) → has (below im s) g ≡ true → (g < groups im) × (meets (lineage im g) s ≡ true)
+  pub below-true : (s g : ℕ) → has (below im s) g ≡ true → (g < groups im) × (meets (lineage im g) s ≡ true)
   unfolding below
   below-true s g h = collect-true (λ g. meets (lineage im g) s) (groups im) g h
 
-  true-below : (s g : ℕ) → g < groups im → meets (lineage im g) s ≡ true → has (below im s) g ≡ true
+  pub true-below : (s g : ℕ) → g < groups im → meets (lineage im g) s ≡ true → has (below im s) g ≡ true
   unfolding below
   true-below s g l m = true-collect (λ g. meets (lineage im g) s) (groups im) g l m
 

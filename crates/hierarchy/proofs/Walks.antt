@@ -11,7 +11,7 @@ use lib.Arith.{lt-of-le-ne}
 use lib.Dec.{eqb, ltb}
 use Rattle.records.specs.Layout.{groups}
 use Rattle.hierarchy.specs.Below.{parent, hasParent, Above, here, up, endsWithin, endsRule}
-use Rattle.hierarchy.proofs.Lineage.{parent-below, ends-step, ends-here, ends-none, ends-mono}
+use Rattle.hierarchy.proofs.Lineage.{parent-below, ends-step, ends-here, ends-none, ends-mono, ends-top, above-trans}
 
 -- ---- m + 1 different numbers are not all below m
 module _ (m : ℕ) (f : ℕ → ℕ) (below : (i : ℕ) → i ≤ suc m → f i < suc m)
@@ -132,3 +132,10 @@ module _ (im : List ℕ) where
   top-ends g p h a e =
       let q = above-after a e in
       ends-more (suc (q .0)) (groups im) g (few-steps (q .0) g h (q .1)) (q .1 .0)
+
+  -- a walk that comes to a group whose parents end
+  pub above-ends : (g p : ℕ) → g < groups im → Above im g p → endsRule im p ≡ true → endsRule im g ≡ true
+  unfolding endsRule
+  above-ends g p h a e =
+      let q = ends-top im (groups im) p e in
+      top-ends g (q .0) h (above-trans im a (q .1 .0)) (q .1 .1)

@@ -27,6 +27,10 @@ endsWithin im (suc n) g = let rest = endsWithin im n (parent im g) in not (hasPa
 unfoldable pub endsRule : List ℕ → ℕ → Bool
 endsRule im g = endsWithin im (groups im) g
 
+-- the parents of every group before g end
+abbrev pub EndBefore : List ℕ → ℕ → Type 0
+EndBefore im g = (k : ℕ) → k < g → endsRule im k ≡ true
+
 -- the lowest group whose parents never end; the number of groups where there is none
 unfoldable pub firstRing : List ℕ → ℕ
 firstRing im = firstBad (endsRule im) (groups im) 0

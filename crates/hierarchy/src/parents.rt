@@ -5,7 +5,7 @@ ghost use Rattle.sets.specs.Groups.{placesOf};
 ghost use Rattle.records.specs.Layout.{groups};
 ghost use Rattle.records.specs.Rules.{Counted};
 ghost use Rattle.hierarchy.specs.Below as below;
-ghost use Rattle.hierarchy.specs.Below.{endsRule, firstRing};
+ghost use Rattle.hierarchy.specs.Below.{endsRule, EndBefore, firstRing};
 use records::layout;
 use sets::groups::Groups;
 
@@ -21,9 +21,10 @@ pub fn parent(image: &[u8], g: usize) -> usize
     rec[34] as usize
 }
 
-// Do the parents of g end? A walk that ends meets no group twice, so it takes no more steps than there are groups.
+// Do the parents of g end, where those of every group before it do? A walk that ends meets no group twice, so it takes no
+// more steps than there are groups.
 fn ends(image: &[u8], g: usize) -> bool
-    requires { ⌜ Counted (now image) × (g < groups (now image)) ⌝ }
+    requires { ⌜ Counted (now image) × ((g < groups (now image)) × EndBefore (now image) g) ⌝ }
     ensures { λ r. ⌜ r ≡ endsRule (now (image .entry)) g ⌝ }
 {
     let count = layout::groups(image);
@@ -31,6 +32,9 @@ fn ends(image: &[u8], g: usize) -> bool
     let mut steps = count;
     while steps > 0 {
         at = parent(image, at);
+        if at < g {
+            return true;
+        }
         if at >= count {
             return true;
         }

@@ -3,6 +3,7 @@ ghost use Prim.Native.Nat.{_<_};
 ghost use mathlib.Core.Path.{_≡_};
 ghost use lib.ListN.{length, getD};
 ghost use Rattle.sets.specs.Groups.{placesOf};
+ghost use Rattle.sets.specs.Sets.{within};
 ghost use Rattle.records.specs.Layout.{groups, users};
 ghost use Rattle.records.specs.Rules.{Counted};
 ghost use Rattle.hierarchy.specs.Below as hierarchy;
@@ -60,6 +61,25 @@ pub fn below(image: &[u8], table: &Table, s: Groups) -> Groups
     r
 }
 
+// Does every group of `set` lie below `other`? Those of `other` do, so the rest is asked, group after group.
+fn lies_below(image: &[u8], table: &Table, set: Groups, other: Groups) -> bool
+    requires { ⌜ Counted (now image) × Tabled (now image) (now table) ⌝ }
+    ensures { λ r. ⌜ r ≡ within (placesOf set) (hierarchy.below (now (image .entry)) (placesOf other)) ⌝ }
+{
+    if !set.within(Groups::all_below(layout::groups(image))) {
+        return false;
+    }
+    let mut rest = set.less(other);
+    while !rest.is_empty() {
+        let g = rest.first();
+        if !stored(table, g).meets(other) {
+            return false;
+        }
+        rest = rest.without(g);
+    }
+    true
+}
+
 // Do the user's write and default groups lie below the read ones, and the row groups below the default and the write ones?
 fn below_ok(image: &[u8], table: &Table, u: usize) -> bool
     requires { ⌜ Counted (now image) × (Tabled (now image) (now table) × (u < users (now image))) ⌝ }
@@ -70,11 +90,16 @@ fn below_ok(image: &[u8], table: &Table, u: usize) -> bool
     let write = group_set(rec, 80);
     let default = group_set(rec, 88);
     let row = group_set(rec, 96);
-    let below_read = below(image, table, read);
-    write.within(below_read)
-        & default.within(below_read)
-        & row.within(below(image, table, default))
-        & row.within(below(image, table, write))
+    if !lies_below(image, table, write, read) {
+        return false;
+    }
+    if !lies_below(image, table, default, read) {
+        return false;
+    }
+    if !lies_below(image, table, row, default) {
+        return false;
+    }
+    lies_below(image, table, row, write)
 }
 
 // The lowest user whose groups break that rule; the number of users where there is none.

@@ -1,3 +1,4 @@
 pub mod Accepted
 pub mod Place
 pub mod Placed
+pub mod Policy

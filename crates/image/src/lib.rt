@@ -1,5 +1,6 @@
 // The policy image: its check, and what may be asked of an accepted one.
 pub mod faults;
+pub mod given;
 pub mod inspect;
 pub mod lookup;
 

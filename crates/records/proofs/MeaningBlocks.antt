@@ -72,7 +72,9 @@ module _ (im : List ℕ) (b : ℕ) where
   -- a record of the block keeps its kind's rule
   held-kept : contentRule im b ≡ true → (held : Contents) → contentsOf im b ≡ held
       → (i : ℕ) → held .from ≤ i → i < held .to → recordRule im (held .kind) i ≡ true
-  held-kept e held q = subst (λ (h : Contents). (i : ℕ) → h .from ≤ i → i < h .to → recordRule im (h .kind) i ≡ true) q (content-means im b e .sound)
+  held-kept e held q =
+      subst (λ (h : Contents). (i : ℕ) → h .from ≤ i → i < h .to → recordRule im (h .kind) i ≡ true) q
+      (content-means im b e .sound)
 
 -- ---- every block
 module _ (im : List ℕ) (kept : (b : ℕ) → 1 ≤ b → b < blocksNeeded im → contentRule im b ≡ true) where
@@ -83,8 +85,8 @@ module _ (im : List ℕ) (kept : (b : ℕ) → 1 ≤ b → b < blocksNeeded im �
       let low : 1 ≤ b = omega arith in
       let in-kind : b < firstLabelBlock im = omega arith in
       let high : b < blocksNeeded im = omega arith in
-      held-kept im b (kept b low high) (packed Component 40 12 (12 * (b - 1)) (components im)) (component-block im b in-kind) i
-      (omega arith) (omega arith)
+      held-kept im b (kept b low high) (packed Component 40 12 (12 * (b - 1)) (components im))
+      (component-block im b in-kind) i (omega arith) (omega arith)
 
   pub labels-kept : (k : ℕ) → k < labels im → labelRule im k ≡ true
   unfolding recordRule blocksNeeded firstUserBlock firstLabelBlock
@@ -94,8 +96,8 @@ module _ (im : List ℕ) (kept : (b : ℕ) → 1 ≤ b → b < blocksNeeded im �
       let from : firstLabelBlock im ≤ b = omega arith in
       let in-kind : b < firstUserBlock im = omega arith in
       let high : b < blocksNeeded im = omega arith in
-      held-kept im b (kept b low high) (packed Label 24 21 (21 * (b - firstLabelBlock im)) (labels im)) (label-block im b from in-kind) k
-      (omega arith) (omega arith)
+      held-kept im b (kept b low high) (packed Label 24 21 (21 * (b - firstLabelBlock im)) (labels im))
+      (label-block im b from in-kind) k (omega arith) (omega arith)
 
   pub users-kept : (u : ℕ) → u < users im → userRule im u ≡ true
   unfolding recordRule blocksNeeded firstUserBlock firstLabelBlock
@@ -104,5 +106,5 @@ module _ (im : List ℕ) (kept : (b : ℕ) → 1 ≤ b → b < blocksNeeded im �
       let low : 1 ≤ b = omega arith in
       let from : firstUserBlock im ≤ b = omega arith in
       let high : b < blocksNeeded im = omega arith in
-      held-kept im b (kept b low high) (packed User 128 3 (3 * (b - firstUserBlock im)) (users im)) (user-block im b from) u
-      (omega arith) (omega arith)
+      held-kept im b (kept b low high) (packed User 128 3 (3 * (b - firstUserBlock im)) (users im))
+      (user-block im b from) u (omega arith) (omega arith)

@@ -38,7 +38,8 @@ module _ (im : List ℕ) (i : ℕ) where
 pub class-from : (im : List ℕ) (j k : ℕ) → classAt im j ≡ classAt im k → classStart im k ≤ j
 unfolding classAt classStart
 class-from im j k =
-    at (ltb j (levels im)) refl (ltb j (levels im + compartments im)) refl (ltb k (levels im)) (ltb k (levels im + compartments im))
+    at (ltb j (levels im)) refl (ltb j (levels im + compartments im)) refl
+    (ltb k (levels im)) (ltb k (levels im + compartments im))
   where
     at : (s : Bool) → ltb j (levels im) ≡ s → (t : Bool) → ltb j (levels im + compartments im) ≡ t → (u v : Bool)
         → _≡_ {A = ℕ} (cond s 1 (cond t 2 3)) (cond u 1 (cond v 2 3))

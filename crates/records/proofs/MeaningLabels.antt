@@ -69,7 +69,8 @@ module _ (im : List ℕ) (k : ℕ) where
 module _ (im : List ℕ) (kept : (k : ℕ) → k < labels im → labelRule im k ≡ true) where
   pub tags-rise : (j k : ℕ) → j < k → k < labels im → tagOf (labelRecord im j) < tagOf (labelRecord im k)
   tags-rise j k less high =
-      rise (λ a b. tagOf (labelRecord im a) < tagOf (labelRecord im b)) (λ a b c. lt-trans) 0 (labels im) step j k (omega arith) less high
+      rise (λ a b. tagOf (labelRecord im a) < tagOf (labelRecord im b)) (λ a b c. lt-trans)
+      0 (labels im) step j k (omega arith) less high
     where
       step : (m : ℕ) → 0 < m → m < labels im → tagOf (labelRecord im (m - 1)) < tagOf (labelRecord im m)
       step m low upto = ⊎-elim (λ q. absurd (omega arith)) (λ l. l) (label-means im m (kept m upto) .rises)

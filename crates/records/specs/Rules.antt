@@ -1,4 +1,4 @@
--- The rules of an image's header and records. Each is a Boolean; proofs/Meaning.antt says what each means for places and bytes.
+-- The rules of an image's header and records. Each is a Boolean; proofs/Meaning*.antt say what each means for places and bytes.
 use Prim.Native.Nat.{ℕ, _+_, _-_, _*_, _≤_}
 use mathlib.Core.Path.{_≡_}
 use mathlib.Core.Bool.{Bool, cond, not, _&&_, _||_}

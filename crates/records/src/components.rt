@@ -1,9 +1,10 @@
 // The rules of a component record.
-ghost use Prim.Native.Nat.{_+_, _-_, _<_, _≤_};
+ghost use Prim.Native.Nat.{_+_, _-_, _%_, _^_, _<_, _≤_};
 ghost use mathlib.Core.Path.{_≡_};
 ghost use lib.ListN.{length};
+ghost use Rattle.fields.specs.Names.{sameName};
 ghost use Rattle.fields.specs.Scan.{firstBad};
-ghost use Rattle.records.specs.Layout.{components, Fitted, componentRecord};
+ghost use Rattle.records.specs.Layout.{components, Fitted, componentOffset, componentRecord};
 ghost use Rattle.records.specs.Fields.{componentName, numericForm};
 ghost use Rattle.records.specs.Rules.{classAt, classStart, parentRule, componentShape, numericRule, namesDiffer, newNameRule, componentRule};
 use crate::layout;
@@ -87,11 +88,47 @@ fn numeric_ok(image: &[u8], i: usize) -> bool
     numeric_form(image, i - 1) < numeric_form(image, i)
 }
 
-fn names_differ(image: &[u8], i: usize, j: usize) -> bool
-    requires { ⌜ Fitted (now image) × ((i < components (now image)) × (j < components (now image))) ⌝ }
-    ensures { λ r. ⌜ r ≡ namesDiffer (now (image .entry)) i j ⌝ }
+// Where a component's record begins, and how many records its block has from it on: a walk from one record to the next
+// divides nothing.
+struct Spot {
+    at: usize,
+    left: usize,
+}
+
+fn spot_of(j: usize) -> Spot
+    requires { ⌜ componentOffset j < 2 ^ 63 ⌝ }
+    ensures { λ r. ⌜ (r .at ≡ componentOffset j) × (r .left ≡ 12 - j % 12) ⌝ }
 {
-    !names::same_name(component_name(image, j), component_name(image, i))
+    Spot {
+        at: layout::component_offset(j),
+        left: 12 - j % 12,
+    }
+}
+
+fn spot_after(spot: Spot, j: usize) -> Spot
+    requires { ⌜ (componentOffset j < 2 ^ 63) × ((spot .at ≡ componentOffset j) × (spot .left ≡ 12 - j % 12)) ⌝ }
+    ensures { λ r. ⌜ (r .at ≡ componentOffset (j + 1)) × (r .left ≡ 12 - (j + 1) % 12) ⌝ }
+{
+    if spot.left == 1 {
+        Spot {
+            at: spot.at + 72,
+            left: 12,
+        }
+    } else {
+        Spot {
+            at: spot.at + 40,
+            left: spot.left - 1,
+        }
+    }
+}
+
+// Does the component at j, whose record begins at `at`, have that name?
+fn is_named(image: &[u8], at: usize, j: usize, name: &[u8]) -> bool
+    requires { ⌜ Fitted (now image) × ((j < components (now image)) × (at ≡ componentOffset j)) ⌝ }
+    ensures { λ r. ⌜ r ≡ sameName (componentName (componentRecord (now (image .entry)) j)) (now (name .entry)) ⌝ }
+{
+    let rec = &image[at..at + 40];
+    names::same_name(names::name_in(&rec[1..32]), name)
 }
 
 // The first place from `start` on whose component has the name of the one at i; i where there is none before it.
@@ -99,11 +136,14 @@ fn first_same_name(image: &[u8], start: usize, i: usize) -> usize
     requires { ⌜ Fitted (now image) × ((i < components (now image)) × (start ≤ i)) ⌝ }
     ensures { λ r. ⌜ r ≡ firstBad (namesDiffer (now (image .entry)) i) (i - start) start ⌝ }
 {
+    let name = component_name(image, i);
+    let mut spot = spot_of(start);
     let mut j = start;
     while j < i {
-        if !names_differ(image, i, j) {
+        if is_named(image, spot.at, j, name) {
             return j;
         }
+        spot = spot_after(spot, j);
         j += 1;
     }
     j

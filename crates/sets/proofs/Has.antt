@@ -16,11 +16,11 @@ use Rattle.sets.specs.Sets.{has, none, one, allBelow, union, intersectio
 
 -- ---- the lowest place, and the half
 
-has-zero : (s : ℕ) → has s 0 ≡ eqb (s % 2) 1
+pub has-zero : (s : ℕ) → has s 0 ≡ eqb (s % 2) 1
 unfolding has
 has-zero s = ap (λ (x : ℕ). eqb (x % 2) 1) (div-one s)
 
-has-suc : (s p : ℕ) → has s (suc p) ≡ has (s / 2) p
+pub has-suc : (s p : ℕ) → has s (suc p) ≡ has (s / 2) p
 unfolding has
 has-suc s p =
     ap (λ (x : ℕ). eqb (x % 2) 1) (ap (λ (x : ℕ). s / x) (pow-succ' 2 p) ∙ sym (div-div-eq-div-mul s 2 (2 ^ p)))

@@ -3,9 +3,11 @@
 --     Within    inclusion, by places and as an order
 --     Meets     common places, and empty sets
 --     Bounds    sets of places below n are the numbers below 2 ^ n; every operation stays there
+--     Lowest    the lowest place, and a set without one of its places
 --     Places    the places of a `Groups` value are below `width`
 pub mod Has
 pub mod Within
 pub mod Meets
 pub mod Bounds
+pub mod Lowest
 pub mod Places

@@ -88,3 +88,29 @@ within-union-both a b c v w =
 
 pub less-within : (a b : ℕ) → within (less a b) a ≡ true
 less-within a b = has-within (less a b) a (λ p h. and-eq-true-iff (has a p) (not (has b p)) .0 (sym (less-has a b p) ∙ h) .0)
+
+-- places of a that b has too may be left out
+pub less-within-same : (a b c : ℕ) → ((p : ℕ) → has a p ≡ true → has c p ≡ true → has b p ≡ true)
+    → within (less a c) b ≡ within a b
+less-within-same a b c f = at (within a b) refl
+  where
+    rest : within (less a c) b ≡ true → (p : ℕ) → has a p ≡ true → (t : Bool) → has c p ≡ t → has b p ≡ true
+    rest w p h true e = f p h e
+    rest w p h false e =
+        within-has (less a c) b w p (less-has a c p ∙ ap₂ (λ (s t : Bool). s && not t) h e)
+
+    at : (t : Bool) → within a b ≡ t → within (less a c) b ≡ t
+    at true w = within-trans (less a c) a b (less-within a c) w
+    at false w = under (within (less a c) b) refl
+      where
+        under : (t : Bool) → within (less a c) b ≡ t → t ≡ false
+        under true v = absurd (true≢false (sym (has-within a b (λ p h. rest v p h (has c p) refl)) ∙ w))
+        under false v = refl
+
+-- a place of a that b lacks
+pub lacks-within : (a b p : ℕ) → has a p ≡ true → has b p ≡ false → within a b ≡ false
+lacks-within a b p h k = at (within a b) refl
+  where
+    at : (t : Bool) → within a b ≡ t → t ≡ false
+    at true w = absurd (true≢false (sym (within-has a b w p h) ∙ k))
+    at false w = refl

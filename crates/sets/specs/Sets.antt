@@ -2,10 +2,11 @@
 -- a set, `&` of two words is their intersection, and every law holds at any width.
 --
 -- The names: `has` is membership; `none`, `one p`, `allBelow n` and `collect f n` are sets; `union`, `intersection` and
--- `less` make a set of two; `within` (inclusion), `meets` (a common place) and `empty` are tests. A law is named by the
--- operation and then the fact: `union-has`, `within-trans`, `less-below`. Assumes nothing.
-use mathlib.Core.Bool.{Bool, not, cond}
-use Prim.Native.Nat.{ℕ, zero, suc, _+_, _-_, _/_, _%_, _^_}
+-- `less` make a set of two; `within` (inclusion), `meets` (a common place) and `empty` are tests; `Lowest` says which place
+-- is the first. A law is named by the operation and then the fact: `union-has`, `within-trans`, `less-below`. Assumes nothing.
+use mathlib.Core.Path.{_≡_}
+use mathlib.Core.Bool.{Bool, true, false, not, cond}
+use Prim.Native.Nat.{ℕ, zero, suc, _+_, _-_, _/_, _%_, _^_, _≤_, _<_}
 use lib.Bits.{bitAnd, bitOr}
 use lib.Dec.{eqb}
 
@@ -50,3 +51,9 @@ empty s = eqb s 0
 unfoldable pub collect : (ℕ → Bool) → ℕ → ℕ
 collect f zero = 0
 collect f (suc n) = collect f n + cond (f n) (2 ^ n) 0
+
+-- p is the lowest place of s below n; p is n where s has no place there
+pub record Lowest (n s p : ℕ) : Type 0 where
+  pub upto : p ≤ n
+  pub here : p < n → has s p ≡ true
+  pub lower : (q : ℕ) → q < p → has s q ≡ false

@@ -3,7 +3,7 @@
 ghost use mathlib.Core.Path.{_≡_};
 ghost use Prim.Native.Nat.{_*_, _/_, _%_, _^_, _<_, _≤_};
 ghost use Rattle.sets.specs.Sets as sets;
-ghost use Rattle.sets.specs.Sets.{one, allBelow};
+ghost use Rattle.sets.specs.Sets.{one, allBelow, Lowest};
 ghost use Rattle.sets.specs.Groups.{placesOf, width};
 use crate::word;
 
@@ -101,5 +101,22 @@ impl Groups {
         Self {
             w0: word::less(self.w0, other.w0),
         }
+    }
+
+    // The set but for the place p.
+    pub fn without(self, p: usize) -> Self
+        requires { ⌜ p < width ⌝ }
+        ensures { λ r. ⌜ placesOf r ≡ sets.less (placesOf self) (one p) ⌝ }
+    {
+        Self {
+            w0: word::without(self.w0, p),
+        }
+    }
+
+    // The lowest place of the set; `width` where the set is empty.
+    pub fn first(self) -> usize
+        ensures { λ r. ⌜ Lowest width (placesOf self) r ⌝ }
+    {
+        word::first(self.w0)
     }
 }

@@ -2,7 +2,7 @@
 ghost use mathlib.Core.Path.{_≡_};
 ghost use Prim.Native.Nat.{_<_, _≤_};
 ghost use Rattle.sets.specs.Sets as sets;
-ghost use Rattle.sets.specs.Sets.{one, allBelow};
+ghost use Rattle.sets.specs.Sets.{one, allBelow, Lowest};
 
 // Is p in s? No word has a place past 63.
 pub fn has(s: u64, p: usize) -> bool
@@ -67,4 +67,19 @@ pub fn less(a: u64, b: u64) -> u64
     ensures { λ r. ⌜ r ≡ sets.less a b ⌝ }
 {
     a - (a & b)
+}
+
+// s but for the place p.
+pub fn without(s: u64, p: usize) -> u64
+    requires { ⌜ p < 64 ⌝ }
+    ensures { λ r. ⌜ r ≡ sets.less s (one p) ⌝ }
+{
+    less(s, 1u64 << p)
+}
+
+// The lowest place of s; 64 where s is empty.
+pub fn first(s: u64) -> usize
+    ensures { λ r. ⌜ Lowest 64 s r ⌝ }
+{
+    u64::trailing_zeros(s) as usize
 }

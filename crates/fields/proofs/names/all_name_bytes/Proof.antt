@@ -5,7 +5,7 @@ use borrow.Author.Needs.{needs}
 use borrow.Author.Tests.{not-true, not-false}
 use lib.ListN.{length, drop}
 use Rattle.fields.specs.Names.{allNameBytes}
-use Rattle.fields.proofs.Laws.{all-stop, all-step, all-done}
+use Rattle.fields.proofs.Laws.{all-from-stop, all-from-step, all-from-done}
 use Rattle.fields.proofs.names.all_name_bytes.Statement.{statement}
 use Rattle.fields.proofs.names.all_name_bytes.Tie as tie
 
@@ -25,7 +25,7 @@ name-byte-requires : tie.Need-name-byte-requires Inv-loop μ-loop
 name-byte-requires c κs = search needs
 
 returns : tie.Need-returns Inv-loop μ-loop
-returns c = all-stop _ _ _ (omega arith) (c .before .before .before .before .loop .inv .1) (sym (c .before .name-byte .ensures) ∙ not-true _ (c .if1 .taken))
+returns c = all-from-stop _ _ _ _ (c .before .before .before .loop-test .taken) (c .before .before .before .before .loop .inv .1) (sym (c .before .name-byte .ensures) ∙ not-true _ (c .if1 .taken))
 
 add-i : tie.Need-add-i Inv-loop μ-loop
 add-i c = omega arith
@@ -34,10 +34,10 @@ loop-less : tie.Need-loop-less Inv-loop μ-loop
 loop-less c = omega arith
 
 loop-again : tie.Need-loop-again Inv-loop μ-loop
-loop-again c = (omega arith, all-step _ _ _ (omega arith) (c .before .before .before .before .loop .inv .1) (sym (c .before .name-byte .ensures) ∙ not-false _ (c .if1 .left)))
+loop-again c = (omega arith, all-from-step _ _ _ _ (c .before .before .before .loop-test .taken) (c .before .before .before .before .loop .inv .1) (sym (c .before .name-byte .ensures) ∙ not-false _ (c .if1 .left)))
 
 returns-2 : tie.Need-returns-2 Inv-loop μ-loop
-returns-2 c = all-done _ _ _ (c .loop-test .left) (c .before .loop .inv .1)
+returns-2 c = all-from-done _ _ _ _ (c .loop-test .left) (c .before .loop .inv .1)
 
 pub all-name-bytes-spec : {M : Type 1} → statement M
 all-name-bytes-spec =

@@ -1,5 +1,7 @@
+use mathlib.Core.Path.{sym, _∙_}
 use borrow.Author.Needs.{needs}
-use Rattle.hierarchy.specs.Below.{belowRule}
+use borrow.Author.Tests.{not-true, not-false}
+use Rattle.hierarchy.proofs.Steps.{rule-by}
 use Rattle.hierarchy.proofs.table.below_ok.Statement.{statement}
 use Rattle.hierarchy.proofs.table.below_ok.Tie as tie
 
@@ -18,44 +20,66 @@ group-set-requires-3 c κs = search needs
 group-set-requires-4 : tie.Need-group-set-requires-4
 group-set-requires-4 c κs = search needs
 
-below-requires : tie.Need-below-requires
-below-requires c κs = search needs
-
-within-requires : tie.Need-within-requires
-within-requires c κs = search needs
-
-within-requires-2 : tie.Need-within-requires-2
-within-requires-2 c κs = search needs
-
-below-requires-2 : tie.Need-below-requires-2
-below-requires-2 c κs = search needs
-
-within-requires-3 : tie.Need-within-requires-3
-within-requires-3 c κs = search needs
-
-below-requires-3 : tie.Need-below-requires-3
-below-requires-3 c κs =
-    let pre = c .before .before .before .before .before .before .before .before .before .before .before .pre in
-    (pre .0, pre .1 .0)
-
-within-requires-4 : tie.Need-within-requires-4
-within-requires-4 c κs = search needs
+lies-below-requires : tie.Need-lies-below-requires
+lies-below-requires c κs = search needs
 
 returns : tie.Need-returns
-unfolding belowRule
 returns c =
-    let w1 = c .before .before .before .before .before .within .ensures in
-    let w2 = c .before .before .before .before .within2 .ensures in
-    let w3 = c .before .before .within3 .ensures in
-    let b1 = c .before .before .before .before .before .before .below .ensures in
-    let b2 = c .before .before .before .below2 .ensures in
-    let b3 = c .before .below3 .ensures in
-    let g1 = c .before .before .before .before .before .before .before .before .before .before .group-set .ensures in
-    let g2 = c .before .before .before .before .before .before .before .before .before .group-set2 .ensures in
-    let g3 = c .before .before .before .before .before .before .before .before .group-set3 .ensures in
-    let g4 = c .before .before .before .before .before .before .before .group-set4 .ensures in
-    let rec = c .before .before .before .before .before .before .before .before .before .before .before .user-record .ensures .0 in
-    rw (w1, w2, w3, c .within4 .ensures, b1, b2, b3, g1, g2, g3, g4, rec)
+    let sets = c .before .before in
+    let read = sets .before .before .before .group-set .ensures in
+    let write = sets .before .before .group-set2 .ensures in
+    let default = sets .before .group-set3 .ensures in
+    let rec = sets .before .before .before .before .user-record .ensures .0 in
+    let rule = rule-by _ _ _ _ _ _ _ rec read write default (sets .group-set4 .ensures) in
+    let no = sym (c .before .lies-below .ensures) ∙ not-true _ (c .if1 .taken) in
+    sym (rule ∙ rw no)
+
+lies-below-requires-2 : tie.Need-lies-below-requires-2
+lies-below-requires-2 c κs = search needs
+
+returns-2 : tie.Need-returns-2
+returns-2 c =
+    let sets = c .before .before .before .before in
+    let read = sets .before .before .before .group-set .ensures in
+    let write = sets .before .before .group-set2 .ensures in
+    let default = sets .before .group-set3 .ensures in
+    let rec = sets .before .before .before .before .user-record .ensures .0 in
+    let rule = rule-by _ _ _ _ _ _ _ rec read write default (sets .group-set4 .ensures) in
+    let yes1 = sym (c .before .before .before .lies-below .ensures) ∙ not-false _ (c .before .before .if1 .left) in
+    let no = sym (c .before .lies-below2 .ensures) ∙ not-true _ (c .if2 .taken) in
+    sym (rule ∙ rw (yes1, no))
+
+lies-below-requires-3 : tie.Need-lies-below-requires-3
+lies-below-requires-3 c κs = search needs
+
+returns-3 : tie.Need-returns-3
+returns-3 c =
+    let sets = c .before .before .before .before .before .before in
+    let read = sets .before .before .before .group-set .ensures in
+    let write = sets .before .before .group-set2 .ensures in
+    let default = sets .before .group-set3 .ensures in
+    let rec = sets .before .before .before .before .user-record .ensures .0 in
+    let rule = rule-by _ _ _ _ _ _ _ rec read write default (sets .group-set4 .ensures) in
+    let yes1 = sym (c .before .before .before .before .before .lies-below .ensures) ∙ not-false _ (c .before .before .before .before .if1 .left) in
+    let yes2 = sym (c .before .before .before .lies-below2 .ensures) ∙ not-false _ (c .before .before .if2 .left) in
+    let no = sym (c .before .lies-below3 .ensures) ∙ not-true _ (c .if3 .taken) in
+    sym (rule ∙ rw (yes1, yes2, no))
+
+lies-below-requires-4 : tie.Need-lies-below-requires-4
+lies-below-requires-4 c κs = search needs
+
+returns-4 : tie.Need-returns-4
+returns-4 c =
+    let sets = c .before .before .before .before .before .before .before in
+    let read = sets .before .before .before .group-set .ensures in
+    let write = sets .before .before .group-set2 .ensures in
+    let default = sets .before .group-set3 .ensures in
+    let rec = sets .before .before .before .before .user-record .ensures .0 in
+    let rule = rule-by _ _ _ _ _ _ _ rec read write default (sets .group-set4 .ensures) in
+    let yes1 = sym (c .before .before .before .before .before .before .lies-below .ensures) ∙ not-false _ (c .before .before .before .before .before .if1 .left) in
+    let yes2 = sym (c .before .before .before .before .lies-below2 .ensures) ∙ not-false _ (c .before .before .before .if2 .left) in
+    let yes3 = sym (c .before .before .lies-below3 .ensures) ∙ not-false _ (c .before .if3 .left) in
+    c .lies-below4 .ensures ∙ sym (rule ∙ rw (yes1, yes2, yes3))
 
 pub below-ok-spec : {M : Type 1} → statement M
 below-ok-spec =
@@ -66,11 +90,11 @@ below-ok-spec =
     group-set-requires-2
     group-set-requires-3
     group-set-requires-4
-    below-requires
-    within-requires
-    within-requires-2
-    below-requires-2
-    within-requires-3
-    below-requires-3
-    within-requires-4
-    returns)
+    lies-below-requires
+    returns
+    lies-below-requires-2
+    returns-2
+    lies-below-requires-3
+    returns-3
+    lies-below-requires-4
+    returns-4)

@@ -1,0 +1,52 @@
+// Look-ups for the crates above, once the image is known to be accepted. Counts and the fields of records are asked of
+// `records`, ancestors and below of `hierarchy`.
+ghost use Prim.Native.Nat.{_<_};
+ghost use mathlib.Core.Path.{_≡_};
+ghost use Rattle.fields.specs.Names.{sameName};
+ghost use Rattle.records.specs.Layout.{users, userRecord};
+ghost use Rattle.records.specs.Fields.{userName};
+ghost use Rattle.records.specs.Rules.{Counted};
+ghost use Rattle.image.specs.Lookup.{labelOfTag, userOfName};
+use fields::names::same_name;
+use records::labels;
+use records::layout;
+use records::users;
+
+// The label record that carries the tag; the number of labels where none does.
+pub fn label_of_tag(image: &[u8], tag: u32) -> usize
+    requires { ⌜ Counted (now image) ⌝ }
+    ensures { λ r. ⌜ r ≡ labelOfTag (now (image .entry)) tag ⌝ }
+{
+    let count = layout::labels(image);
+    let mut k = 0;
+    while k < count {
+        if labels::tag(image, k) == tag {
+            return k;
+        }
+        k += 1;
+    }
+    k
+}
+
+fn is_user(image: &[u8], u: usize, name: &[u8]) -> bool
+    requires { ⌜ Counted (now image) × (u < users (now image)) ⌝ }
+    ensures { λ r. ⌜ r ≡ sameName (userName (userRecord (now (image .entry)) u)) (now (name .entry)) ⌝ }
+{
+    same_name(users::name(image, u), name)
+}
+
+// The user record that has the name; the number of users where none has.
+pub fn user_of_name(image: &[u8], name: &[u8]) -> usize
+    requires { ⌜ Counted (now image) ⌝ }
+    ensures { λ r. ⌜ r ≡ userOfName (now (image .entry)) (now (name .entry)) ⌝ }
+{
+    let count = layout::users(image);
+    let mut u = 0;
+    while u < count {
+        if is_user(image, u, name) {
+            return u;
+        }
+        u += 1;
+    }
+    u
+}
