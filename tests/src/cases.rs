@@ -2,7 +2,7 @@
 
 use crate::builder::layout::{seal, BLOCK};
 use crate::builder::{random, to_image, Policy, Sizes};
-use crate::damage::{Damage, Draft};
+use crate::damage::{Damage, Draft, Expected};
 use crate::rng::Rng;
 
 #[derive(Clone, Copy, Debug, PartialEq, Eq, PartialOrd, Ord)]
@@ -31,21 +31,28 @@ const OTHERS: [(Kind, usize); 5] = [
 pub struct Case {
     pub kind: Kind,
     pub image: Vec<u8>,
+    /// What damage of one kind is refused with.
+    pub expected: Option<Expected>,
 }
 
 impl Case {
     pub fn new(seed: u64) -> Case {
         let kind = kind_of(seed);
         let mut rng = Rng::new(seed);
+        let mut expected = None;
         let image = match kind {
             Kind::Valid => to_image(&policy(&mut rng)),
-            Kind::Damaged(damage) => damaged(damage, &mut rng),
+            Kind::Damaged(damage) => damaged(damage, &mut rng, &mut expected),
             Kind::Several => several(&mut rng),
             Kind::Changed => changed(&mut rng, false),
             Kind::ChangedMended => changed(&mut rng, true),
             Kind::Noise => noise(&mut rng),
         };
-        Case { kind, image }
+        Case {
+            kind,
+            image,
+            expected,
+        }
     }
 }
 
@@ -69,10 +76,11 @@ fn policy(rng: &mut Rng) -> Policy {
 }
 
 /// Policies are tried until one has what the damage needs.
-fn damaged(damage: Damage, rng: &mut Rng) -> Vec<u8> {
+fn damaged(damage: Damage, rng: &mut Rng, expected: &mut Option<Expected>) -> Vec<u8> {
     loop {
         let mut draft = Draft::new(policy(rng));
-        if damage.apply(&mut draft, rng).is_some() {
+        *expected = damage.apply(&mut draft, rng);
+        if expected.is_some() {
             return draft.image;
         }
     }

@@ -1,12 +1,12 @@
 -- The two sums without a remainder at each byte: the first is the sum of the bytes, the second counts each byte as often as
 -- sums are taken from it on. One remainder at the end gives the same. Assumes nothing.
-use Prim.Native.Nat.{ℕ, zero, suc, _+_, _-_, _*_, _%_, _≤_, _<_}
-use mathlib.Core.Path.{_≡_, refl, sym, ap, ap₂, _∙_, subst}
+use Prim.Native.Nat.{ℕ, suc, _+_, _-_, _*_, _%_, _≤_, _<_}
+use mathlib.Core.Path.{_≡_, sym, ap, ap₂, _∙_, subst}
 use mathlib.Core.List.{List, [], _∷_, _++_}
-use native.Mathlib.Nat.{add-comm, mod-add-mod, add-mod, add-mul, mul-add, mul-suc, add-zero, zero-add, mul-comm, mul-zero, zero-mul, add-mul-mod-self-right, add-assoc, mul-mod-left}
+use native.Mathlib.Nat.{add-comm, mod-add-mod, add-mod, add-mul, mul-add, mul-suc, add-zero, zero-add, mul-zero, zero-mul, add-mul-mod-self-right, add-assoc}
 use native.Mathlib.Numerals.{add-one}
 use native.Mathlib.Omega.{arith}
-use lib.ListN.{length, getD, take, drop, length-append, length-drop, take-append-drop, drop-of-length-le}
+use lib.ListN.{length, getD, take, drop, length-append, length-drop, drop-of-length-le}
 use lib.Seq.{drop-cons, length-take-le, getD-take, getD-drop, take-add}
 use Rattle.blocks.specs.Blocks.{sumA, sumB}
 

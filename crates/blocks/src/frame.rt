@@ -19,7 +19,7 @@ fn wide(x: u8) -> u16
     x as u16
 }
 
-// A byte of either half of the 510 and how often sums are taken from it on; the product fits 17 bits.
+// Two bytes, one of each half of the 510, and how often they count; the product fits 17 bits.
 fn times(y: u16, w: u16) -> u32
     requires { ⌜ (y ≤ 510) × (w ≤ 255) ⌝ }
     ensures { λ r. ⌜ (r ≡ y * w) × (r ≤ 130050) ⌝ }

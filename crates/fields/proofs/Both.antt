@@ -1,6 +1,6 @@
 -- What a test of several parts tells of each. Assumes nothing.
-use mathlib.Core.Path.{_≡_, refl, sym, _∙_}
-use mathlib.Core.Bool.{Bool, true, false, _&&_, _||_, not, true≢false}
+use mathlib.Core.Path.{_≡_, refl, sym}
+use mathlib.Core.Bool.{Bool, true, false, _&&_, _||_, true≢false}
 use mathlib.Core.Logic.{_⊎_, inl, inr}
 
 pub both-left : (a b : Bool) → (a && b) ≡ true → a ≡ true
@@ -21,8 +21,3 @@ both a b p q = rw (p, q)
 pub either : (a b : Bool) → (a || b) ≡ true → (a ≡ true) ⊎ (b ≡ true)
 either true b e = inl refl
 either false b e = inr e
-
--- a test that is not false is true
-pub is-true : (a : Bool) → (a ≡ false → ⊥) → a ≡ true
-is-true true h = refl
-is-true false h = absurd (h refl)

@@ -1,12 +1,12 @@
 -- Laws of `firstBad`: what it means for places, and what a loop that runs it needs. Assumes nothing.
 use Prim.Native.Nat.{ℕ, zero, suc, _+_, _-_, _≤_, _<_}
 use mathlib.Core.Path.{_≡_, refl, sym, ap, _∙_, subst}
-use mathlib.Core.Bool.{Bool, true, false, cond, true≢false}
+use mathlib.Core.Bool.{Bool, true, false, cond}
 use mathlib.Core.Logic.{⊎-elim}
-use native.Mathlib.Nat.{add-zero, zero-add, add-suc, suc-add, sub-self, le-refl, eq-or-lt-of-le}
+use native.Mathlib.Nat.{add-zero, le-refl, eq-or-lt-of-le}
 use native.Mathlib.Numerals.{add-one}
 use native.Mathlib.Omega.{arith}
-use borrow.Author.Tests.{eqb-true, eq-eqb}
+use borrow.Author.Tests.{eqb-true}
 use Rattle.fields.specs.Scan.{firstBad, everywhere}
 
 module _ (rule : ℕ → Bool) where

@@ -1,5 +1,5 @@
 // Names: their alphabet, the field that holds one, equality and order.
-ghost use Prim.Native.Nat.{_+_, _<_, _≤_};
+ghost use Prim.Native.Nat.{_+_, _<_};
 ghost use mathlib.Core.Path.{_≡_};
 ghost use lib.ListN.{length};
 ghost use Rattle.fields.specs.Names.{nameByte, allNameBytes, nameIn, nameRule, sameName, nameBefore};

@@ -6,6 +6,7 @@ ghost use Rattle.records.specs.Layout.{groups};
 ghost use Rattle.records.specs.Rules.{Counted};
 ghost use Rattle.hierarchy.specs.Below as below;
 ghost use Rattle.hierarchy.specs.Below.{endsRule, EndBefore, firstRing};
+use records::components;
 use records::layout;
 use sets::groups::Groups;
 
@@ -14,11 +15,10 @@ pub fn parent(image: &[u8], g: usize) -> usize
     requires { ⌜ Counted (now image) × (g < groups (now image)) ⌝ }
     ensures { λ r. ⌜ (r ≡ below.parent (now (image .entry)) g) × (r < 256) ⌝ }
 {
-    let rec = layout::component_record(
+    components::parent(
         image,
         layout::levels(image) + layout::compartments(image) + g,
-    );
-    rec[34] as usize
+    )
 }
 
 // Do the parents of g end, where those of every group before it do? A walk that ends meets no group twice, so it takes no

@@ -10,7 +10,7 @@ ghost use Rattle.hierarchy.specs.Below as hierarchy;
 ghost use Rattle.hierarchy.specs.Below.{belowRule, firstBadBelow, Tabled};
 use crate::parents::lineage;
 use records::layout;
-use records::users::group_set;
+use records::users::group_sets;
 use sets::groups::Groups;
 
 pub type Table = [u64; 64];
@@ -85,11 +85,11 @@ fn below_ok(image: &[u8], table: &Table, u: usize) -> bool
     requires { ⌜ Counted (now image) × (Tabled (now image) (now table) × (u < users (now image))) ⌝ }
     ensures { λ r. ⌜ r ≡ belowRule (now (image .entry)) u ⌝ }
 {
-    let rec = layout::user_record(image, u);
-    let read = group_set(rec, 72);
-    let write = group_set(rec, 80);
-    let default = group_set(rec, 88);
-    let row = group_set(rec, 96);
+    let sets = group_sets(image, u);
+    let read = sets.read;
+    let write = sets.write;
+    let default = sets.default;
+    let row = sets.row;
     if !lies_below(image, table, write, read) {
         return false;
     }

@@ -1,6 +1,6 @@
 -- The place that a refused check tells is below 128. Assumes nothing.
-use Prim.Native.Nat.{ℕ, _-_, _/_, _≤_, _<_}
-use mathlib.Core.Path.{_≡_, refl, sym, ap, _∙_, subst}
+use Prim.Native.Nat.{ℕ, _-_, _<_}
+use mathlib.Core.Path.{_≡_, refl, subst}
 use mathlib.Core.Bool.{Bool, true, false, cond, _&&_}
 use mathlib.Core.List.{List}
 use native.Mathlib.Omega.{arith}
@@ -13,7 +13,6 @@ use Rattle.records.specs.declared.layout.Kind.the-variants as kind
 use Rattle.records.specs.Layout.{groups, users, blocksNeeded, userBlock, userSlot, contentsOf}
 use Rattle.records.specs.Rules.{headerRule, fitRule, layoutRule, firstBadRecord}
 use Rattle.refusals.specs.declared.Refusal.{Refusal}
-use Rattle.refusals.specs.declared.Refusal.the-variants.{NoComponent}
 use Rattle.refusals.specs.Refusals.{placeOf}
 use Rattle.hierarchy.specs.Below.{firstRing, firstBadBelow}
 use Rattle.image.specs.declared.faults.Fault.{Fault}

@@ -1,13 +1,12 @@
 -- A component that the policy has lies among its class, and its name inside its record. Assumes nothing.
 use Prim.Native.Nat.{ℕ, _+_, _≤_, _<_}
-use mathlib.Core.Path.{_≡_, refl, sym, ap, _∙_, subst}
-use mathlib.Core.Bool.{Bool, true, false, cond, _&&_, _||_, or-false}
+use mathlib.Core.Path.{_≡_, refl}
+use mathlib.Core.Bool.{Bool, true, false, cond, or-false}
 use mathlib.Core.List.{List}
-use mathlib.Core.Logic.{⊎-elim}
 use native.Mathlib.Omega.{arith}
-use borrow.Author.Tests.{ltb-true, eqb-true, eqb-false, ne-eqb, eq-eqb}
+use borrow.Author.Tests.{ltb-true, eqb-true, eqb-false, ne-eqb}
 use lib.Dec.{eqb, ltb}
-use Rattle.fields.proofs.Both.{both-left, both-right, either}
+use Rattle.fields.proofs.Both.{both-right}
 use Rattle.records.specs.Layout.{levels, compartments, groups, components, componentRecord}
 use lib.ListN.{length}
 use Rattle.fields.proofs.Laws.{part-byte}

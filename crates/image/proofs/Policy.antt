@@ -1,14 +1,14 @@
 -- What callers may use of an accepted image. Assumes nothing.
-use Prim.Native.Nat.{ℕ, zero-le, _+_, _^_, _≤_, _<_}
+use Prim.Native.Nat.{ℕ, zero-le, _≤_, _<_}
 use mathlib.Core.Path.{_≡_, refl, sym, _∙_}
-use mathlib.Core.Bool.{true, false, _&&_}
+use mathlib.Core.Bool.{Bool, true, false, true≢false}
 use mathlib.Core.List.{List}
-use native.Mathlib.Nat.{zero-add}
 use native.Mathlib.Omega.{arith}
-use borrow.Author.Tests.{eqb-true, eq-eqb}
+use borrow.Author.Tests.{eqb-true, eq-eqb, ltb-true, ltb-false}
+use lib.Dec.{eqb, ltb}
 use Rattle.fields.specs.Names.{sameName, nameBefore}
 use Rattle.fields.proofs.Both.{parts}
-use Rattle.fields.proofs.Meaning.{same-means, same-refl, found-unique}
+use Rattle.fields.proofs.Meaning.{same-means, same-refl, found-at, found-first, found-unique}
 use Rattle.sets.specs.Sets.{within}
 use Rattle.records.specs.Layout.{components, labels, users, groups, labelRecord, userRecord}
 use Rattle.records.specs.Fields.{tagOf, userName, readGroups, writeGroups, defaultGroups, rowGroups}
@@ -78,3 +78,39 @@ module _ (im : List ℕ) (acc : IsAccepted im) where
   user-found u h =
       found-unique _ (users im) 0 u zero-le (omega arith) (same-refl (userName (userRecord im u)))
       (λ j low high e. user-unique im (users-kept im (keeps im acc .contents)) j u (omega arith) h (same-means _ _ e))
+
+-- what a look-up gives in any image: the place of a record that has what was asked for, or the number of records where none has it
+module _ (im : List ℕ) where
+  pub label-carries : (tag : ℕ) → labelOfTag im tag < labels im → tagOf (labelRecord im (labelOfTag im tag)) ≡ tag
+  unfolding labelOfTag
+  label-carries tag h = eqb-true (tagOf (labelRecord im (labelOfTag im tag))) tag
+      (found-at (λ k. eqb (tagOf (labelRecord im k)) tag) (labels im) 0 (omega arith))
+
+  pub label-missing : (tag : ℕ) → labelOfTag im tag ≡ labels im → (k : ℕ) → k < labels im → tagOf (labelRecord im k) ≡ tag → ⊥
+  unfolding labelOfTag
+  label-missing tag e k h q =
+      true≢false
+      (sym (eq-eqb (tagOf (labelRecord im k)) tag q)
+      ∙ found-first (λ k. eqb (tagOf (labelRecord im k)) tag) (labels im) 0 k zero-le (omega arith))
+
+  pub user-carries : (name : List ℕ) → userOfName im name < users im → userName (userRecord im (userOfName im name)) ≡ name
+  unfolding userOfName
+  user-carries name h = same-means _ name (found-at (λ u. sameName (userName (userRecord im u)) name) (users im) 0 (omega arith))
+
+  pub user-missing : (name : List ℕ) → userOfName im name ≡ users im → (u : ℕ) → u < users im
+      → sameName (userName (userRecord im u)) name ≡ false
+  unfolding userOfName
+  user-missing name e u h = found-first (λ u. sameName (userName (userRecord im u)) name) (users im) 0 u zero-le (omega arith)
+
+-- a tag that no label may carry, as 0 or any over 99,999,999, is unknown in an accepted image
+pub tag-outside : (im : List ℕ) → IsAccepted im → (tag : ℕ) → (1 ≤ tag → 99999999 < tag) → labels im ≤ labelOfTag im tag
+tag-outside im acc tag out = at (ltb (labelOfTag im tag) (labels im)) refl
+  where
+    at : (t : Bool) → ltb (labelOfTag im tag) (labels im) ≡ t → labels im ≤ labelOfTag im tag
+    at true e =
+        let h : labelOfTag im tag < labels im = ltb-true _ _ e in
+        let k = label-kept im acc (labelOfTag im tag) h .kept in
+        let q = label-carries im tag h in
+        let low : 1 ≤ tag = omega arith in
+        absurd (omega (arith, out low))
+    at false e = ltb-false _ _ e

@@ -1,14 +1,14 @@
 -- What may be asked of an image: a component's name by class and place, a label's place by tag, a user's place by name.
 use Prim.Native.Nat.{ℕ, _+_}
 use mathlib.Core.Bool.{Bool, cond, _&&_, _||_}
-use mathlib.Core.List.{List, []}
+use mathlib.Core.List.{List}
 use denote.Ref.{RefT}
 use lib.Dec.{eqb, ltb}
-use Rattle.fields.specs.Bytes.{byteAt, part}
+use Rattle.fields.specs.Bytes.{part}
 use Rattle.fields.specs.Names.{sameName}
 use Rattle.fields.specs.Scan.{firstWhere}
-use Rattle.records.specs.Layout.{levels, compartments, groups, users, labels, componentOffset, componentRecord, labelRecord, userRecord}
-use Rattle.records.specs.Fields.{tagOf, userName}
+use Rattle.records.specs.Layout.{levels, compartments, groups, users, labels, componentNameOffset, componentRecord, labelRecord, userRecord}
+use Rattle.records.specs.Fields.{componentNameLength, tagOf, userName}
 use Rattle.refusals.specs.declared.Refusal.the-variants.{NoComponent}
 use Rattle.image.specs.declared.faults.Checked.{Checked}
 use Rattle.image.specs.declared.faults.Checked.the-variants.{Accepted, Refused}
@@ -27,10 +27,10 @@ componentIndex im class place =
 
 -- where its name begins in the image, and how long it is
 unfoldable pub nameOffset : List ℕ → ℕ → ℕ → ℕ
-nameOffset im class place = componentOffset (componentIndex im class place) + 2
+nameOffset im class place = componentNameOffset (componentIndex im class place)
 
 unfoldable pub nameLength : List ℕ → ℕ → ℕ → ℕ
-nameLength im class place = byteAt (componentRecord im (componentIndex im class place)) 1
+nameLength im class place = componentNameLength (componentRecord im (componentIndex im class place))
 
 -- how the look-up ends: 1, 2, 3, or 18 where the policy lacks the component
 abbrev pub unlessLacking : Checked → Bool → Checked

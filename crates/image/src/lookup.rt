@@ -1,10 +1,11 @@
 // Where a component's name stands, by class and place.
-ghost use Prim.Native.Nat.{_+_, _<_, _≤_};
+ghost use Prim.Native.Nat.{_+_, _<_};
 ghost use mathlib.Core.Path.{_≡_};
 ghost use mathlib.Core.Bool.{true};
 ghost use Rattle.records.specs.Layout.{components};
 ghost use Rattle.records.specs.Rules.{Counted};
 ghost use Rattle.image.specs.Lookup.{hasComponent, componentIndex, nameOffset, nameLength};
+use records::components;
 use records::layout;
 
 pub fn has_component(image: &[u8], class: u8, place: usize) -> bool
@@ -34,13 +35,12 @@ pub fn name_offset(image: &[u8], class: u8, place: usize) -> usize
     requires { ⌜ Counted (now image) × (hasComponent (now image) class place ≡ true) ⌝ }
     ensures { λ r. ⌜ r ≡ nameOffset (now (image .entry)) class place ⌝ }
 {
-    layout::component_offset(component_index(image, class, place)) + 2
+    layout::component_name_offset(component_index(image, class, place))
 }
 
 pub fn name_length(image: &[u8], class: u8, place: usize) -> usize
     requires { ⌜ Counted (now image) × (hasComponent (now image) class place ≡ true) ⌝ }
     ensures { λ r. ⌜ r ≡ nameLength (now (image .entry)) class place ⌝ }
 {
-    let rec = layout::component_record(image, component_index(image, class, place));
-    rec[1] as usize
+    components::name_length(image, component_index(image, class, place))
 }

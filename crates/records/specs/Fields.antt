@@ -11,6 +11,9 @@ classOf rec = byteAt rec 0
 abbrev pub componentNameField : List ℕ → List ℕ
 componentNameField rec = part rec 1 31
 
+abbrev pub componentNameLength : List ℕ → ℕ
+componentNameLength rec = byteAt rec 1
+
 abbrev pub componentName : List ℕ → List ℕ
 componentName rec = nameIn (componentNameField rec)
 

@@ -60,6 +60,10 @@ userBlock im u = firstUserBlock im + u / 3
 unfoldable pub userSlot : ℕ → ℕ
 userSlot u = u % 3
 
+-- where a component's name begins
+abbrev pub componentNameOffset : ℕ → ℕ
+componentNameOffset i = componentOffset i + 2
+
 unfoldable pub componentRecord : List ℕ → ℕ → List ℕ
 componentRecord im i = part im (componentOffset i) 40
 

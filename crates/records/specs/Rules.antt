@@ -1,6 +1,5 @@
 -- The rules of an image's header and records. Each is a Boolean; proofs/Meaning*.antt say what each means for places and bytes.
 use Prim.Native.Nat.{ℕ, _+_, _-_, _*_, _≤_}
-use mathlib.Core.Path.{_≡_}
 use mathlib.Core.Bool.{Bool, cond, not, _&&_, _||_}
 use mathlib.Core.List.{List}
 use lib.Dec.{eqb, leb, ltb}

@@ -1,7 +1,6 @@
 // A block after the header: its layout, then its records in order.
 ghost use Prim.Native.Nat.{_-_, _<_, _≤_};
 ghost use mathlib.Core.Path.{_≡_};
-ghost use lib.ListN.{length};
 ghost use Rattle.fields.specs.Scan.{firstBad};
 ghost use Rattle.records.specs.Layout.{blocksNeeded};
 ghost use Rattle.records.specs.Rules.{recordRule, layoutRule, firstBadRecord, contentRule, totalOf, Counted};

@@ -1,11 +1,11 @@
 // The rules of a component record.
-ghost use Prim.Native.Nat.{_+_, _-_, _%_, _^_, _<_, _≤_};
+ghost use Prim.Native.Nat.{_+_, _-_, _<_, _≤_};
 ghost use mathlib.Core.Path.{_≡_};
 ghost use lib.ListN.{length};
 ghost use Rattle.fields.specs.Names.{sameName};
 ghost use Rattle.fields.specs.Scan.{firstBad};
 ghost use Rattle.records.specs.Layout.{components, Fitted, componentOffset, componentRecord};
-ghost use Rattle.records.specs.Fields.{componentName, numericForm};
+ghost use Rattle.records.specs.Fields.{componentNameLength, componentName, numericForm, parentOf};
 ghost use Rattle.records.specs.Rules.{classAt, classStart, parentRule, componentShape, numericRule, namesDiffer, newNameRule, componentRule};
 use crate::layout;
 use fields::names;
@@ -70,6 +70,23 @@ pub fn component_name<'a>(image: &'a [u8], i: usize) -> &'a [u8]
     names::name_in(&rec[1..32])
 }
 
+pub fn name_length(image: &[u8], i: usize) -> usize
+    requires { ⌜ Fitted (now image) × (i < components (now image)) ⌝ }
+    ensures { λ r. ⌜ r ≡ componentNameLength (componentRecord (now (image .entry)) i) ⌝ }
+{
+    let rec = layout::component_record(image, i);
+    rec[1] as usize
+}
+
+// The parent's place among groups, as the record has it.
+pub fn parent(image: &[u8], i: usize) -> usize
+    requires { ⌜ Fitted (now image) × (i < components (now image)) ⌝ }
+    ensures { λ r. ⌜ (r ≡ parentOf (componentRecord (now (image .entry)) i)) × (r < 256) ⌝ }
+{
+    let rec = layout::component_record(image, i);
+    rec[34] as usize
+}
+
 fn numeric_form(image: &[u8], i: usize) -> u32
     requires { ⌜ Fitted (now image) × (i < components (now image)) ⌝ }
     ensures { λ r. ⌜ r ≡ numericForm (componentRecord (now (image .entry)) i) ⌝ }
@@ -88,40 +105,6 @@ fn numeric_ok(image: &[u8], i: usize) -> bool
     numeric_form(image, i - 1) < numeric_form(image, i)
 }
 
-// Where a component's record begins, and how many records its block has from it on: a walk from one record to the next
-// divides nothing.
-struct Spot {
-    at: usize,
-    left: usize,
-}
-
-fn spot_of(j: usize) -> Spot
-    requires { ⌜ componentOffset j < 2 ^ 63 ⌝ }
-    ensures { λ r. ⌜ (r .at ≡ componentOffset j) × (r .left ≡ 12 - j % 12) ⌝ }
-{
-    Spot {
-        at: layout::component_offset(j),
-        left: 12 - j % 12,
-    }
-}
-
-fn spot_after(spot: Spot, j: usize) -> Spot
-    requires { ⌜ (componentOffset j < 2 ^ 63) × ((spot .at ≡ componentOffset j) × (spot .left ≡ 12 - j % 12)) ⌝ }
-    ensures { λ r. ⌜ (r .at ≡ componentOffset (j + 1)) × (r .left ≡ 12 - (j + 1) % 12) ⌝ }
-{
-    if spot.left == 1 {
-        Spot {
-            at: spot.at + 72,
-            left: 12,
-        }
-    } else {
-        Spot {
-            at: spot.at + 40,
-            left: spot.left - 1,
-        }
-    }
-}
-
 // Does the component at j, whose record begins at `at`, have that name?
 fn is_named(image: &[u8], at: usize, j: usize, name: &[u8]) -> bool
     requires { ⌜ Fitted (now image) × ((j < components (now image)) × (at ≡ componentOffset j)) ⌝ }
@@ -137,13 +120,13 @@ fn first_same_name(image: &[u8], start: usize, i: usize) -> usize
     ensures { λ r. ⌜ r ≡ firstBad (namesDiffer (now (image .entry)) i) (i - start) start ⌝ }
 {
     let name = component_name(image, i);
-    let mut spot = spot_of(start);
+    let mut here = layout::record_at(start);
     let mut j = start;
     while j < i {
-        if is_named(image, spot.at, j, name) {
+        if is_named(image, here.at, j, name) {
             return j;
         }
-        spot = spot_after(spot, j);
+        here = layout::record_after(here, j);
         j += 1;
     }
     j

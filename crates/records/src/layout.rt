@@ -2,7 +2,7 @@
 ghost use Prim.Native.Nat.{_+_, _-_, _*_, _/_, _%_, _^_, _<_, _≤_, min};
 ghost use mathlib.Core.Path.{_≡_};
 ghost use lib.ListN.{length};
-ghost use Rattle.records.specs.Layout.{components, labels, users, firstLabelBlock, firstUserBlock, blocksNeeded, Fitted, componentOffset, componentRecord, labelRecord, userRecord, userBlock, userSlot, kindByte, contentsOf};
+ghost use Rattle.records.specs.Layout.{components, labels, users, firstLabelBlock, firstUserBlock, blocksNeeded, Fitted, componentOffset, componentNameOffset, componentRecord, labelRecord, userRecord, userBlock, userSlot, kindByte, contentsOf};
 ghost use Rattle.records.specs.Layout as layout;
 use fields::numbers::number2;
 
@@ -90,6 +90,48 @@ pub fn component_offset(i: usize) -> usize
     ensures { λ r. ⌜ r ≡ componentOffset i ⌝ }
 {
     512 * (1 + i / 12) + 4 + 40 * (i % 12)
+}
+
+// Where its name begins.
+pub fn component_name_offset(i: usize) -> usize
+    requires { ⌜ componentOffset i < 2 ^ 63 ⌝ }
+    ensures { λ r. ⌜ r ≡ componentNameOffset i ⌝ }
+{
+    component_offset(i) + 2
+}
+
+// Where a component's record begins, and how many records its block has from it on: a walk from one record to the next
+// divides nothing.
+pub struct RecordAt {
+    pub at: usize,
+    pub left: usize,
+}
+
+pub fn record_at(j: usize) -> RecordAt
+    requires { ⌜ componentOffset j < 2 ^ 63 ⌝ }
+    ensures { λ r. ⌜ (r .at ≡ componentOffset j) × (r .left ≡ 12 - j % 12) ⌝ }
+{
+    RecordAt {
+        at: component_offset(j),
+        left: 12 - j % 12,
+    }
+}
+
+pub fn record_after(here: RecordAt, j: usize) -> RecordAt
+    requires { ⌜ (componentOffset j < 2 ^ 63) × ((here .at ≡ componentOffset j) × (here .left ≡ 12 - j % 12)) ⌝ }
+    ensures { λ r. ⌜ (r .at ≡ componentOffset (j + 1)) × (r .left ≡ 12 - (j + 1) % 12) ⌝ }
+{
+    if here.left == 1 {
+        RecordAt {
+            at: here.at + 72,
+            left: 12,
+        }
+    } else {
+        RecordAt {
+            at: here.at + 40,
+            left: here.left - 1,
+        }
+    }
 }
 
 // The part of the image that starts at that record.

@@ -1,7 +1,5 @@
 -- The sample image is accepted: every rule is computed on it. Assumes nothing.
-use Prim.Native.Nat.{ℕ}
 use mathlib.Core.Path.{_≡_, refl}
-use mathlib.Core.List.{List, [], _∷_}
 use lib.ListN.{length}
 use Rattle.fields.specs.Bytes.{number2, number4, number8, all}
 use Rattle.fields.specs.Names.{nameByte, nameIn, nameRule, sameName, nameBefore}

@@ -1,5 +1,5 @@
-use Prim.Native.Nat.{_+_, _≤_, _<_, _-_, _*_, _%_}
-use mathlib.Core.Path.{_≡_, ap₂}
+use Prim.Native.Nat.{_+_, _≤_, _-_, _*_}
+use mathlib.Core.Path.{ap₂}
 use native.Mathlib.Nat.{zero-add}
 use native.Mathlib.Omega.{arith}
 use borrow.Author.Needs.{needs}

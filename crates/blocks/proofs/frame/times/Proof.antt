@@ -2,7 +2,6 @@ use Prim.Native.Nat.{_*_, _≤_}
 use mathlib.Core.Path.{refl}
 use native.Mathlib.Nat.{mul-le-mul}
 use native.Mathlib.Omega.{arith}
-use borrow.Author.Needs.{needs}
 use Rattle.blocks.proofs.frame.times.Statement.{statement}
 use Rattle.blocks.proofs.frame.times.Tie as tie
 

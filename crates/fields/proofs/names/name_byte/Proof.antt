@@ -1,4 +1,3 @@
-use mathlib.Core.Path.{refl}
 use Rattle.fields.specs.Names.{nameByte}
 use Rattle.fields.proofs.names.name_byte.Statement.{statement}
 use Rattle.fields.proofs.names.name_byte.Tie as tie

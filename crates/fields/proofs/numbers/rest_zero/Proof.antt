@@ -1,8 +1,8 @@
 use Prim.Native.Nat.{_≤_, _-_}
-use mathlib.Core.Path.{_≡_, refl, sym, _∙_}
+use mathlib.Core.Path.{_≡_, refl}
 use native.Mathlib.Omega.{arith}
 use borrow.Author.Tests.{eq-eqb, ne-eqb}
-use lib.ListN.{length, drop, getD}
+use lib.ListN.{length, drop}
 use Rattle.fields.specs.Bytes.{allZero}
 use Rattle.fields.proofs.Laws.{all-from-stop, all-from-step, all-from-done}
 use Rattle.fields.proofs.numbers.rest_zero.Statement.{statement}

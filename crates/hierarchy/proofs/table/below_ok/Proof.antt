@@ -1,24 +1,12 @@
-use mathlib.Core.Path.{sym, _∙_}
+use mathlib.Core.Path.{refl, sym, _∙_}
 use borrow.Author.Needs.{needs}
 use borrow.Author.Tests.{not-true, not-false}
 use Rattle.hierarchy.proofs.Steps.{rule-by}
 use Rattle.hierarchy.proofs.table.below_ok.Statement.{statement}
 use Rattle.hierarchy.proofs.table.below_ok.Tie as tie
 
-user-record-requires : tie.Need-user-record-requires
-user-record-requires c κs = search needs
-
-group-set-requires : tie.Need-group-set-requires
-group-set-requires c κs = search needs
-
-group-set-requires-2 : tie.Need-group-set-requires-2
-group-set-requires-2 c κs = search needs
-
-group-set-requires-3 : tie.Need-group-set-requires-3
-group-set-requires-3 c κs = search needs
-
-group-set-requires-4 : tie.Need-group-set-requires-4
-group-set-requires-4 c κs = search needs
+group-sets-requires : tie.Need-group-sets-requires
+group-sets-requires c κs = search needs
 
 lies-below-requires : tie.Need-lies-below-requires
 lies-below-requires c κs = search needs
@@ -26,11 +14,8 @@ lies-below-requires c κs = search needs
 returns : tie.Need-returns
 returns c =
     let sets = c .before .before in
-    let read = sets .before .before .before .group-set .ensures in
-    let write = sets .before .before .group-set2 .ensures in
-    let default = sets .before .group-set3 .ensures in
-    let rec = sets .before .before .before .before .user-record .ensures .0 in
-    let rule = rule-by _ _ _ _ _ _ _ rec read write default (sets .group-set4 .ensures) in
+    let are = sets .before .before .before .before .group-sets .ensures in
+    let rule = rule-by _ _ _ _ _ _ _ refl (are .read) (are .write) (are .default) (are .row) in
     let no = sym (c .before .lies-below .ensures) ∙ not-true _ (c .if1 .taken) in
     sym (rule ∙ rw no)
 
@@ -40,11 +25,8 @@ lies-below-requires-2 c κs = search needs
 returns-2 : tie.Need-returns-2
 returns-2 c =
     let sets = c .before .before .before .before in
-    let read = sets .before .before .before .group-set .ensures in
-    let write = sets .before .before .group-set2 .ensures in
-    let default = sets .before .group-set3 .ensures in
-    let rec = sets .before .before .before .before .user-record .ensures .0 in
-    let rule = rule-by _ _ _ _ _ _ _ rec read write default (sets .group-set4 .ensures) in
+    let are = sets .before .before .before .before .group-sets .ensures in
+    let rule = rule-by _ _ _ _ _ _ _ refl (are .read) (are .write) (are .default) (are .row) in
     let yes1 = sym (c .before .before .before .lies-below .ensures) ∙ not-false _ (c .before .before .if1 .left) in
     let no = sym (c .before .lies-below2 .ensures) ∙ not-true _ (c .if2 .taken) in
     sym (rule ∙ rw (yes1, no))
@@ -55,11 +37,8 @@ lies-below-requires-3 c κs = search needs
 returns-3 : tie.Need-returns-3
 returns-3 c =
     let sets = c .before .before .before .before .before .before in
-    let read = sets .before .before .before .group-set .ensures in
-    let write = sets .before .before .group-set2 .ensures in
-    let default = sets .before .group-set3 .ensures in
-    let rec = sets .before .before .before .before .user-record .ensures .0 in
-    let rule = rule-by _ _ _ _ _ _ _ rec read write default (sets .group-set4 .ensures) in
+    let are = sets .before .before .before .before .group-sets .ensures in
+    let rule = rule-by _ _ _ _ _ _ _ refl (are .read) (are .write) (are .default) (are .row) in
     let yes1 = sym (c .before .before .before .before .before .lies-below .ensures) ∙ not-false _ (c .before .before .before .before .if1 .left) in
     let yes2 = sym (c .before .before .before .lies-below2 .ensures) ∙ not-false _ (c .before .before .if2 .left) in
     let no = sym (c .before .lies-below3 .ensures) ∙ not-true _ (c .if3 .taken) in
@@ -71,11 +50,8 @@ lies-below-requires-4 c κs = search needs
 returns-4 : tie.Need-returns-4
 returns-4 c =
     let sets = c .before .before .before .before .before .before .before in
-    let read = sets .before .before .before .group-set .ensures in
-    let write = sets .before .before .group-set2 .ensures in
-    let default = sets .before .group-set3 .ensures in
-    let rec = sets .before .before .before .before .user-record .ensures .0 in
-    let rule = rule-by _ _ _ _ _ _ _ rec read write default (sets .group-set4 .ensures) in
+    let are = sets .before .before .before .before .group-sets .ensures in
+    let rule = rule-by _ _ _ _ _ _ _ refl (are .read) (are .write) (are .default) (are .row) in
     let yes1 = sym (c .before .before .before .before .before .before .lies-below .ensures) ∙ not-false _ (c .before .before .before .before .before .if1 .left) in
     let yes2 = sym (c .before .before .before .before .lies-below2 .ensures) ∙ not-false _ (c .before .before .before .if2 .left) in
     let yes3 = sym (c .before .before .lies-below3 .ensures) ∙ not-false _ (c .before .if3 .left) in
@@ -85,11 +61,7 @@ pub below-ok-spec : {M : Type 1} → statement M
 below-ok-spec =
     tie.close
     (tie.spec
-    user-record-requires
-    group-set-requires
-    group-set-requires-2
-    group-set-requires-3
-    group-set-requires-4
+    group-sets-requires
     lies-below-requires
     returns
     lies-below-requires-2

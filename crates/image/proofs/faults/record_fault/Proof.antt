@@ -1,4 +1,3 @@
-use mathlib.Core.Path.{refl}
 use borrow.Author.Needs.{needs}
 use Rattle.image.proofs.faults.record_fault.Statement.{statement}
 use Rattle.image.proofs.faults.record_fault.Tie as tie

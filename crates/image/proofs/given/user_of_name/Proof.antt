@@ -1,9 +1,7 @@
-use Prim.Native.Nat.{ℕ, _≤_, _-_}
-use mathlib.Core.Path.{_≡_, refl, sym, _∙_}
-use mathlib.Core.Bool.{not}
+use Prim.Native.Nat.{_-_}
+use mathlib.Core.Path.{_≡_}
 use native.Mathlib.Nat.{sub-zero}
 use native.Mathlib.Omega.{arith}
-use borrow.Author.Needs.{needs}
 use Rattle.fields.specs.Names.{sameName}
 use Rattle.fields.specs.Scan.{firstWhere}
 use Rattle.fields.proofs.Scan.{loop-bad, loop-good, loop-end}

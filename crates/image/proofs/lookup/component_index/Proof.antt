@@ -1,9 +1,7 @@
-use Prim.Native.Nat.{_<_}
-use mathlib.Core.Path.{_≡_}
 use native.Mathlib.Omega.{arith}
 use borrow.Author.Needs.{needs}
 use borrow.Author.Tests.{eq-eqb, ne-eqb}
-use Rattle.records.specs.Layout.{levels, compartments, groups, components}
+use Rattle.records.specs.Layout.{levels, compartments, components}
 use Rattle.records.proofs.Inside.{header-inside}
 use Rattle.image.specs.Lookup.{componentIndex}
 use Rattle.image.proofs.Placed.{placed-level, placed-compartment, placed-group}

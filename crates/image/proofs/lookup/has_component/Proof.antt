@@ -1,4 +1,3 @@
-use borrow.Author.Needs.{needs}
 use Rattle.records.proofs.Inside.{header-inside}
 use Rattle.image.specs.Lookup.{hasComponent}
 use Rattle.image.proofs.lookup.has_component.Statement.{statement}

@@ -8,18 +8,14 @@ use Rattle.image.proofs.lookup.name_offset.Tie as tie
 component-index-requires : tie.Need-component-index-requires
 component-index-requires c κs = search needs
 
-component-offset-requires : tie.Need-component-offset-requires
+component-name-offset-requires : tie.Need-component-name-offset-requires
 unfolding componentOffset components
-component-offset-requires c κs = omega (arith, c .before .before .pre .0)
-
-add-result : tie.Need-add-result
-unfolding componentOffset components
-add-result c = omega (arith, c .before .before .before .pre .0)
+component-name-offset-requires c κs = omega (arith, c .before .before .pre .0)
 
 returns : tie.Need-returns
 unfolding nameOffset
-returns c = rw (c .component-offset .ensures, c .before .component-index .ensures .0)
+returns c = rw (c .component-name-offset .ensures, c .before .component-index .ensures .0)
 
 pub name-offset-spec : {M : Type 1} → statement M
 name-offset-spec =
-    tie.close (tie.spec component-index-requires component-offset-requires add-result returns)
+    tie.close (tie.spec component-index-requires component-name-offset-requires returns)

@@ -1,4 +1,3 @@
-use mathlib.Core.Path.{_≡_}
 use borrow.Author.Needs.{needs}
 use Rattle.records.specs.Rules.{firstBadRecord}
 use Rattle.records.proofs.Held.{held-is}

@@ -1,4 +1,3 @@
-use mathlib.Core.Path.{_≡_, _∙_, sym, ap}
 use borrow.Author.Needs.{needs}
 use Rattle.records.specs.Rules.{recordRule}
 use Rattle.records.proofs.blocks.record_ok.Statement.{statement}

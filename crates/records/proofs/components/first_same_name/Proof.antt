@@ -1,10 +1,9 @@
-use Prim.Native.Nat.{ℕ, _≤_, _<_, _-_, _%_, _^_}
-use mathlib.Core.Path.{_≡_, refl, sym, _∙_}
+use Prim.Native.Nat.{ℕ, _≤_, _-_, _%_}
+use mathlib.Core.Path.{_≡_, refl, _∙_}
 use mathlib.Core.Bool.{Bool, not}
 use mathlib.Core.List.{List}
 use native.Mathlib.Omega.{arith}
 use borrow.Author.Needs.{needs}
-use lib.ListN.{length}
 use Rattle.fields.specs.Names.{sameName}
 use Rattle.fields.specs.Scan.{firstBad}
 use Rattle.fields.proofs.Scan.{loop-bad, loop-good, loop-end}
@@ -16,12 +15,12 @@ use Rattle.records.proofs.components.first_same_name.Statement.{stateme
 use Rattle.records.proofs.components.first_same_name.Tie as tie
 
 abbrev Inv-loop : tie.InvT-loop
-Inv-loop image start i name spot₀ j₀ spot j =
-    (j ≤ i) × ((name ≡ componentName (componentRecord image i)) × ((spot .at ≡ componentOffset j) × ((spot .left ≡ 12 - j % 12)
+Inv-loop image start i name here₀ j₀ here j =
+    (j ≤ i) × ((name ≡ componentName (componentRecord image i)) × ((here .at ≡ componentOffset j) × ((here .left ≡ 12 - j % 12)
     × (firstBad (namesDiffer image i) (i - j) j ≡ firstBad (namesDiffer image i) (i - start) start))))
 
 abbrev μ-loop : tie.MeasureT-loop
-μ-loop image start i name spot₀ j₀ spot j = i - j
+μ-loop image start i name here₀ j₀ here j = i - j
 
 -- what the name's test tells of the rule
 named : (im : List ℕ) (i j : ℕ) (name : List ℕ) (t : Bool) → name ≡ componentName (componentRecord im i)
@@ -32,13 +31,13 @@ named im i j name t e d = rw (← e, ← d)
 component-name-requires : tie.Need-component-name-requires Inv-loop μ-loop
 component-name-requires c κs = search needs
 
-spot-of-requires : tie.Need-spot-of-requires Inv-loop μ-loop
-spot-of-requires c κs =
+record-at-requires : tie.Need-record-at-requires Inv-loop μ-loop
+record-at-requires c κs =
     let p = c .before .before .pre in
     omega (arith, component-inside _ (p .0) (c .before .before .args .start) (omega arith))
 
 loop-holds : tie.Need-loop-holds Inv-loop μ-loop
-loop-holds c = (omega arith, (c .before .component-name .ensures, (c .spot-of .ensures .0, (c .spot-of .ensures .1, refl))))
+loop-holds c = (omega arith, (c .before .component-name .ensures, (c .record-at .ensures .0, (c .record-at .ensures .1, refl))))
 
 is-named-requires : tie.Need-is-named-requires Inv-loop μ-loop
 is-named-requires c κs = (c .before .before .before .before .before .pre .0, (omega arith, c .before .loop .inv .1 .1 .0))
@@ -48,8 +47,8 @@ returns c =
     let inv = c .before .before .before .loop .inv in
     loop-bad _ _ _ _ (c .before .before .loop-test .taken) (inv .1 .1 .1 .1) (named _ _ _ _ _ (inv .1 .0) (c .before .is-named .ensures) ∙ rw (c .if1 .taken))
 
-spot-after-requires : tie.Need-spot-after-requires Inv-loop μ-loop
-spot-after-requires c κs =
+record-after-requires : tie.Need-record-after-requires Inv-loop μ-loop
+record-after-requires c κs =
     let p = c .before .before .before .before .before .before .before .pre in
     let inv = c .before .before .before .loop .inv in
     (omega (arith, component-inside _ (p .0) (c .before .before .before .loop .j) (omega arith)), (inv .1 .1 .0, inv .1 .1 .1 .0))
@@ -67,9 +66,9 @@ loop-again c =
       (
         inv .1 .0,
         (
-          c .spot-after .ensures .0,
+          c .record-after .ensures .0,
           (
-            c .spot-after .ensures .1,
+            c .record-after .ensures .1,
             loop-good _ _ _ _ (c .before .before .before .loop-test .taken) (inv .1 .1 .1 .1) (named _ _ _ _ _ (inv .1 .0) (c .before .before .is-named .ensures) ∙ rw (c .before .if1 .left)),
           ),
         ),
@@ -86,11 +85,11 @@ first-same-name-spec =
     Inv-loop
     μ-loop
     component-name-requires
-    spot-of-requires
+    record-at-requires
     loop-holds
     is-named-requires
     returns
-    spot-after-requires
+    record-after-requires
     add-j
     loop-less
     loop-again

@@ -1,4 +1,3 @@
-use mathlib.Core.Path.{_∙_}
 use borrow.Author.Needs.{needs}
 use Rattle.records.proofs.components.numeric_form.Statement.{statement}
 use Rattle.records.proofs.components.numeric_form.Tie as tie

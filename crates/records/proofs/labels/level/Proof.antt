@@ -1,4 +1,3 @@
-use mathlib.Core.Path.{refl}
 use borrow.Author.Needs.{needs}
 use Rattle.records.proofs.labels.level.Statement.{statement}
 use Rattle.records.proofs.labels.level.Tie as tie

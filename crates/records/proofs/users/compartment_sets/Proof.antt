@@ -1,4 +1,3 @@
-use mathlib.Core.Path.{refl}
 use borrow.Author.Needs.{needs}
 use Rattle.records.proofs.users.compartment_sets.Statement.{statement}
 use Rattle.records.proofs.users.compartment_sets.Tie as tie

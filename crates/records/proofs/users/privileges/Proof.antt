@@ -1,4 +1,3 @@
-use mathlib.Core.Path.{refl}
 use borrow.Author.Needs.{needs}
 use Rattle.records.proofs.users.privileges.Statement.{statement}
 use Rattle.records.proofs.users.privileges.Tie as tie

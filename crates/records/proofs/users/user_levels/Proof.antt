@@ -1,4 +1,3 @@
-use mathlib.Core.Path.{refl}
 use borrow.Author.Needs.{needs}
 use Rattle.records.proofs.users.user_levels.Statement.{statement}
 use Rattle.records.proofs.users.user_levels.Tie as tie

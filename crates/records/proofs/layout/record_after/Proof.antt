@@ -4,8 +4,8 @@ use native.Mathlib.Nat.{mod-add-mod}
 use native.Mathlib.Omega.{arith}
 use borrow.Author.Needs.{needs}
 use Rattle.records.specs.Layout.{componentOffset}
-use Rattle.records.proofs.components.spot_after.Statement.{statement}
-use Rattle.records.proofs.components.spot_after.Tie as tie
+use Rattle.records.proofs.layout.record_after.Statement.{statement}
+use Rattle.records.proofs.layout.record_after.Tie as tie
 
 add-t5 : tie.Need-add-t5
 add-t5 c = search needs
@@ -28,5 +28,5 @@ returns-2 : tie.Need-returns-2
 unfolding componentOffset
 returns-2 c = (omega arith, omega arith)
 
-pub spot-after-spec : {M : Type 1} → statement M
-spot-after-spec = tie.close (tie.spec add-t5 add-t6 sub-t7 returns returns-2)
+pub record-after-spec : {M : Type 1} → statement M
+record-after-spec = tie.close (tie.spec add-t5 add-t6 sub-t7 returns returns-2)
