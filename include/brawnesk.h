@@ -20,6 +20,18 @@ uint64_t brawnesk_check(const uint8_t *image, size_t image_length);
  * Done: its offset in the image + 65,536 * its length. Refusals: 1, 2, 3, 18 no such component. */
 uint64_t brawnesk_name(const uint8_t *image, size_t image_length, uint8_t component_class, uint8_t place);
 
+/* A label is 48 bytes: byte 4 the level's place; 8..15 the compartments and 16..47 the groups, as little-endian sets with bit p
+ * for place p. The other bytes are written as zero and not looked at. */
+enum { BRAWNESK_LABEL = 48 };
+
+/* The label that a text names: LEVEL, LEVEL:list, LEVEL:list:list or LEVEL::list. Done: 0, and the label's 48 bytes are written.
+ * Refusals: 1, 2, 3, 5 the text's shape, then the leftmost name refused by 6 not in its class or 7 repeated (its offset). */
+uint64_t brawnesk_parse(const uint8_t *image, size_t image_length, const uint8_t *text, size_t text_length, uint8_t *label);
+
+/* A label's text, at the front of the buffer; later bytes stay. Done: its length. Refusals: 1, 2, 3, 18 the label names a
+ * component that the policy lacks, 13 the text is longer than the buffer. */
+uint64_t brawnesk_print(const uint8_t *image, size_t image_length, const uint8_t *label, uint8_t *text, size_t text_length);
+
 static inline int brawnesk_refused(uint64_t answer) { return answer >> 63 != 0; }
 static inline unsigned brawnesk_number(uint64_t answer) { return (unsigned)(answer >> 32 & 0x7fffffff); }
 static inline uint32_t brawnesk_place(uint64_t answer) { return (uint32_t)answer; }

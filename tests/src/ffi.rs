@@ -32,6 +32,19 @@ pub fn name(image: &[u8], class: u8, place: u8) -> Answer {
     Answer::decode(library::name(image, class, place))
 }
 
+/// `brawnesk_parse`: when done, the label is written.
+pub fn parse(image: &[u8], text: &[u8], label: &mut [u8; LABEL]) -> Answer {
+    Answer::decode(library::parse(image, text, label))
+}
+
+/// `brawnesk_print`: when done, the length of the text at the front of `out`.
+pub fn print(image: &[u8], label: &[u8; LABEL], out: &mut [u8]) -> Answer {
+    Answer::decode(library::print(image, label, out))
+}
+
+/// The bytes of a label.
+pub const LABEL: usize = 48;
+
 /// False where the archive was absent when this package was built.
 pub const LINKED: bool = cfg!(not(no_library));
 
@@ -40,6 +53,23 @@ mod library {
     extern "C" {
         fn brawnesk_check(image: *const u8, len: usize) -> u64;
         fn brawnesk_name(image: *const u8, len: usize, class: u8, place: u8) -> u64;
+    }
+
+    extern "C" {
+        fn brawnesk_parse(
+            image: *const u8,
+            len: usize,
+            text: *const u8,
+            text_len: usize,
+            label: *mut u8,
+        ) -> u64;
+        fn brawnesk_print(
+            image: *const u8,
+            len: usize,
+            label: *const u8,
+            out: *mut u8,
+            out_len: usize,
+        ) -> u64;
     }
 
     // A slice's pointer is never null in Rust, not even an empty one's; the library asks for that.
@@ -53,6 +83,26 @@ mod library {
         // SAFETY: as in `check`.
         unsafe { brawnesk_name(image.as_ptr(), image.len(), class, place) }
     }
+
+    pub fn parse(image: &[u8], text: &[u8], label: &mut [u8; super::LABEL]) -> u64 {
+        let (text, text_len) = (text.as_ptr(), text.len());
+        // SAFETY: as in `check`; the label is borrowed alone, and the call writes its 48 bytes only.
+        unsafe {
+            brawnesk_parse(
+                image.as_ptr(),
+                image.len(),
+                text,
+                text_len,
+                label.as_mut_ptr(),
+            )
+        }
+    }
+
+    pub fn print(image: &[u8], label: &[u8; super::LABEL], out: &mut [u8]) -> u64 {
+        let (out, out_len) = (out.as_mut_ptr(), out.len());
+        // SAFETY: as in `check`; `out` is borrowed alone, and the call writes inside it only.
+        unsafe { brawnesk_print(image.as_ptr(), image.len(), label.as_ptr(), out, out_len) }
+    }
 }
 
 #[cfg(no_library)]
@@ -64,6 +114,14 @@ mod library {
     }
 
     pub fn name(_: &[u8], _: u8, _: u8) -> u64 {
+        panic!("{ABSENT}")
+    }
+
+    pub fn parse(_: &[u8], _: &[u8], _: &mut [u8; super::LABEL]) -> u64 {
+        panic!("{ABSENT}")
+    }
+
+    pub fn print(_: &[u8], _: &[u8; super::LABEL], _: &mut [u8]) -> u64 {
         panic!("{ABSENT}")
     }
 }

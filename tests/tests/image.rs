@@ -4,38 +4,17 @@
 
 use brawnesk_tests::builder::{full, sample, to_image};
 use brawnesk_tests::cases::{Case, Kind};
+use brawnesk_tests::compare::{expected, Tally};
 use brawnesk_tests::ffi::{self, Answer};
 use brawnesk_tests::model::{self, Refusal};
 use brawnesk_tests::rng::Rng;
-use std::collections::BTreeMap;
 
 const CASES: u64 = 26_000;
 
-/// How often each answer came: 0 for done, else the refusal's number.
 #[derive(Default)]
-struct Tally {
-    answers: BTreeMap<u32, usize>,
+struct Seen {
+    answers: Tally,
     large: usize,
-}
-
-impl Tally {
-    fn add(&mut self, answer: Answer) {
-        let number = match answer {
-            Answer::Done(_) => 0,
-            Answer::Refused { number, .. } => number,
-        };
-        *self.answers.entry(number).or_default() += 1;
-    }
-}
-
-fn expected(result: Result<u64, Refusal>) -> Answer {
-    match result {
-        Ok(value) => Answer::Done(value),
-        Err(refusal) => Answer::Refused {
-            number: refusal.number(),
-            place: refusal.place() as u32,
-        },
-    }
 }
 
 fn expected_name(image: &[u8], class: u8, place: u8) -> Answer {
@@ -68,7 +47,7 @@ fn questions(case: &Case, rng: &mut Rng) -> Vec<(u8, u8)> {
     (0..3).map(|_| (class(rng), place(rng))).collect()
 }
 
-fn compare(seed: u64, tally: &mut Tally) {
+fn compare(seed: u64, seen: &mut Seen) {
     let case = Case::new(seed);
     let kind = case.kind;
     let image = &case.image;
@@ -79,7 +58,7 @@ fn compare(seed: u64, tally: &mut Tally) {
         let refusal = expected(Err(damage.refusal()));
         assert_eq!(answer, refusal, "damage of {kind:?}, seed {seed}");
     }
-    tally.add(answer);
+    seen.answers.add(answer);
     for (class, place) in questions(&case, &mut Rng::new(!seed)) {
         let answer = ffi::name(image, class, place);
         let wanted = expected_name(image, class, place);
@@ -87,26 +66,24 @@ fn compare(seed: u64, tally: &mut Tally) {
             answer, wanted,
             "name {class}, {place} of {kind:?}, seed {seed}"
         );
-        tally.add(answer);
+        seen.answers.add(answer);
     }
-    tally.large += usize::from(image.len() >= 100 * 512 && image.len() <= 65_536);
+    seen.large += usize::from(image.len() >= 100 * 512 && image.len() <= 65_536);
 }
 
 #[test]
 fn the_library_agrees_with_the_model() {
-    let mut tally = Tally::default();
+    let mut seen = Seen::default();
     if let Ok(seed) = std::env::var("BRAWNESK_SEED") {
-        return compare(seed.parse().expect("a seed is a number"), &mut tally);
+        return compare(seed.parse().expect("a seed is a number"), &mut seen);
     }
     for seed in 0..CASES {
-        compare(seed, &mut tally);
+        compare(seed, &mut seen);
     }
-    println!("answers {:?}, large images {}", tally.answers, tally.large);
-    for (number, least) in [(0, 4_000), (1, 1_000), (2, 1_000), (3, 10_000), (18, 4_000)] {
-        let times = tally.answers.get(&number).copied().unwrap_or(0);
-        assert!(times >= least, "answer {number} came {times} times");
-    }
-    assert!(tally.large >= 300, "{} large images", tally.large);
+    println!("answers {:?}, large images {}", seen.answers, seen.large);
+    let least = [(0, 4_000), (1, 1_000), (2, 1_000), (3, 10_000), (18, 4_000)];
+    seen.answers.assert_least(&least);
+    assert!(seen.large >= 300, "{} large images", seen.large);
 }
 
 #[test]

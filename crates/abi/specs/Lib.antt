@@ -1,2 +1,3 @@
 -- What the C functions answer.
 pub mod Answers
+pub mod Labels

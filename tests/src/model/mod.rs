@@ -1,9 +1,14 @@
-//! The rules of a policy image, written from document 01 section by section, without a thought
-//! for speed. Nothing here is shared with the library or with the builder of images.
+//! The rules of a policy image and of label text, written from document 01 section by section,
+//! without a thought for speed. Nothing here is shared with the library or with the builder of images.
 
 mod groups;
+mod label;
 mod layout;
 mod records;
+mod text;
+
+pub use label::Label;
+pub use text::{parse, print, print_within};
 
 use layout::{Image, Kind, Run, BLOCK};
 
@@ -16,7 +21,15 @@ pub enum Refusal {
     Block(usize),
     /// 3: any other rule of the image is broken.
     Image,
-    /// 18: a class and place name a component that the policy lacks.
+    /// 5: a text isn't of the shape of label text.
+    Text,
+    /// 6: a name isn't in its class; its offset.
+    NameUnknown(usize),
+    /// 7: a name came before in its list; its offset.
+    NameRepeated(usize),
+    /// 13: the result is longer than its buffer.
+    Room,
+    /// 18: a lent label, or a class and place, names a component that the policy lacks.
     Component,
 }
 
@@ -26,6 +39,10 @@ impl Refusal {
             Refusal::Length => 1,
             Refusal::Block(_) => 2,
             Refusal::Image => 3,
+            Refusal::Text => 5,
+            Refusal::NameUnknown(_) => 6,
+            Refusal::NameRepeated(_) => 7,
+            Refusal::Room => 13,
             Refusal::Component => 18,
         }
     }
@@ -33,6 +50,7 @@ impl Refusal {
     pub fn place(self) -> usize {
         match self {
             Refusal::Block(block) => block,
+            Refusal::NameUnknown(offset) | Refusal::NameRepeated(offset) => offset,
             _ => 0,
         }
     }
@@ -69,10 +87,15 @@ pub fn check(image: &[u8]) -> Result<(), Refusal> {
     }
 }
 
+/// The image taken apart, if it is accepted.
+fn accepted(image: &[u8]) -> Result<Image<'_>, Refusal> {
+    check(image)?;
+    Image::read(image).ok_or(Refusal::Image)
+}
+
 /// Where the name of a component stands in the image: its offset and length.
 pub fn name(image: &[u8], class: u8, place: u8) -> Result<(usize, usize), Refusal> {
-    check(image)?;
-    let accepted = Image::read(image).ok_or(Refusal::Image)?;
+    let accepted = accepted(image)?;
     let (first, count) = accepted.counts.class(class).ok_or(Refusal::Component)?;
     let place = usize::from(place);
     if place >= count {

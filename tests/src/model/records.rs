@@ -46,14 +46,17 @@ fn class_at(image: &Image, place: usize) -> (u8, usize) {
 /// A name's length, its bytes and the zeros after it.
 fn name_holds(length: u8, field: &[u8]) -> bool {
     let length = usize::from(length);
-    let is_name_byte = |byte: &u8| matches!(byte, b'A'..=b'Z' | b'0'..=b'9' | b'_');
     (1..=30).contains(&length)
         && field[..length].iter().all(is_name_byte)
         && all_zero(&field[length..])
 }
 
+pub fn is_name_byte(byte: &u8) -> bool {
+    matches!(byte, b'A'..=b'Z' | b'0'..=b'9' | b'_')
+}
+
 /// The name whose length stands at `at`, right before it.
-fn name_of(record: &[u8], at: usize) -> &[u8] {
+pub fn name_of(record: &[u8], at: usize) -> &[u8] {
     &record[at + 1..][..usize::from(record[at])]
 }
 

@@ -1,0 +1,70 @@
+-- The first part of a text and the parts after it, and how a loop that looks for a mark finds its end. Assumes nothing.
+use Prim.Native.Nat.{ℕ, suc, _+_, _-_, _≤_, _<_}
+use mathlib.Core.Path.{_≡_, refl, sym, ap, _∙_}
+use mathlib.Core.Bool.{Bool, true, false, cond}
+use mathlib.Core.List.{List, [], _∷_}
+use native.Mathlib.Nat.{add-sub-cancel-left}
+use native.Mathlib.Numerals.{add-one}
+use native.Mathlib.Omega.{arith}
+use borrow.Author.Tests.{eq-eqb, ne-eqb, lt-ltb, le-ltb, ltb-true, ltb-false}
+use lib.Dec.{eqb, ltb}
+use lib.ListN.{length, getD, take, drop, drop-of-length-le, length-drop}
+use lib.Seq.{drop-cons, drop-drop}
+use Rattle.labels.specs.Text.{onto, split}
+use Rattle.labels.specs.Lists.{untilMark, afterMark}
+
+-- ---- the loop: what is left gives what the whole gives
+module _ (mark : ℕ) (s : List ℕ) (i w : ℕ) where
+  pub until-stop : i < length s → i + untilMark mark (drop i s) ≡ w → getD s i 0 ≡ mark → i ≡ w
+  unfolding untilMark
+  until-stop h inv e = omega (arith, rw (drop-cons s i 0 h, eq-eqb _ _ e) at inv)
+
+  pub until-step : i < length s → i + untilMark mark (drop i s) ≡ w → (getD s i 0 ≡ mark → ⊥) → i + 1 + untilMark mark (drop (i + 1) s) ≡ w
+  unfolding untilMark
+  until-step h inv n = rw (add-one i) (omega (arith, rw (drop-cons s i 0 h, ne-eqb _ _ n) at inv))
+
+  pub until-done : length s ≤ i → i + untilMark mark (drop i s) ≡ w → i ≡ w
+  unfolding untilMark
+  until-done h inv = omega (arith, rw (drop-of-length-le s h) at inv)
+
+-- ---- the first part ends at the first mark
+ltb-suc : (u n : ℕ) → ltb u n ≡ ltb (suc u) (suc n)
+ltb-suc u n = go (ltb u n) refl
+  where
+    go : (t : Bool) → ltb u n ≡ t → t ≡ ltb (suc u) (suc n)
+    go true e = sym (lt-ltb (suc u) (suc n) (omega (arith, ltb-true u n e)))
+    go false e = sym (le-ltb (suc u) (suc n) (omega (arith, ltb-false u n e)))
+
+split-first : (mark : ℕ) (s : List ℕ)
+    → split mark s ≡ take (untilMark mark s) s ∷ cond (ltb (untilMark mark s) (length s)) (split mark (drop (suc (untilMark mark s)) s)) []
+unfolding split untilMark
+split-first mark [] = refl
+split-first mark (x ∷ xs) = at (eqb x mark) (split-first mark xs)
+  where
+    at : (t : Bool)
+        → split mark xs ≡ take (untilMark mark xs) xs ∷ cond (ltb (untilMark mark xs) (length xs)) (split mark (drop (suc (untilMark mark xs)) xs)) []
+        → cond t ([] ∷ split mark xs) (onto x (split mark xs))
+        ≡ take (cond t 0 (suc (untilMark mark xs))) (x ∷ xs)
+        ∷ cond (ltb (cond t 0 (suc (untilMark mark xs))) (length (x ∷ xs)))
+        (split mark (drop (suc (cond t 0 (suc (untilMark mark xs)))) (x ∷ xs))) []
+    at true later = rw (lt-ltb 0 (suc (length xs)) (omega arith))
+    at false later = rw (later, ltb-suc (untilMark mark xs) (length xs))
+
+ltb-shift : (at u n : ℕ) → at ≤ n → ltb u (n - at) ≡ ltb (at + u) n
+ltb-shift at u n h = go (ltb u (n - at)) refl
+  where
+    go : (t : Bool) → ltb u (n - at) ≡ t → t ≡ ltb (at + u) n
+    go true e = sym (lt-ltb (at + u) n (omega (arith, ltb-true u (n - at) e)))
+    go false e = sym (le-ltb (at + u) n (omega (arith, ltb-false u (n - at) e)))
+
+drop-shift : (text : List ℕ) (at u : ℕ) → drop (suc u) (drop at text) ≡ drop (at + u + 1) text
+drop-shift text at u =
+    let e : at + suc u ≡ at + u + 1 = omega arith in
+    drop-drop (suc u) at text ∙ ap (λ (n : ℕ). drop n text) e
+
+-- the parts from `at` on, the first of which ends at r
+pub split-from : (mark : ℕ) (text : List ℕ) (at r : ℕ) → at ≤ length text → r ≡ at + untilMark mark (drop at text)
+    → split mark (drop at text) ≡ take (r - at) (drop at text) ∷ afterMark mark text r
+split-from mark text at r h e =
+    split-first mark (drop at text)
+    ∙ rw (length-drop at text, ltb-shift at (untilMark mark (drop at text)) (length text) h, drop-shift text at (untilMark mark (drop at text)), e, add-sub-cancel-left)

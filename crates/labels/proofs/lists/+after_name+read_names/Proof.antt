@@ -1,0 +1,142 @@
+-- A list's reader and the reader after a name call each other, and the bytes that are left fall: twice their number, and one more for
+-- the reader of a name, since a name at the end is followed by the reader after it at the same place. Assumes nothing.
+use Prim.Native.Nat.{ℕ, _<_, _*_, _+_, _-_}
+use mathlib.Core.Path.{sym, _∙_}
+use native.Mathlib.Omega.{arith}
+use borrow.Author.Needs.{needs}
+use borrow.Author.Tests.{lt-ltb, le-ltb}
+use lib.ListN.{length}
+use Rattle.labels.specs.Parse.{readNames}
+use Rattle.labels.proofs.Classes.{class-limit}
+use Rattle.labels.proofs.Naming.{found-below, list-unknown, list-repeated, list-next}
+use borrow.Fn.Kinds.{In}
+use borrow.Fn.PlainCycle.{Measures, is, falls, and}
+use Rattle.labels.proofs.lists.after_name.Reads as after-name
+use Rattle.labels.proofs.lists.after_name.Kinds as after-name-kinds
+use Rattle.labels.proofs.lists.+after_name+read_names.Lts-after_name as after-name-lts
+use Rattle.labels.proofs.lists.read_names.Reads as read-names
+use Rattle.labels.proofs.lists.read_names.Kinds as read-names-kinds
+use Rattle.labels.proofs.lists.+after_name+read_names.Lts-read_names as read-names-lts
+use Rattle.labels.proofs.lists.mark_from.Reads as mark-from-reads
+use Rattle.labels.proofs.names.find.Reads as find-reads
+use Rattle.sets.proofs.groups.Groups.has.Reads as has-reads
+use Rattle.sets.proofs.groups.Groups.with.Reads as with-reads
+use Rattle.labels.proofs.lists.+after_name+read_names.{statement}
+use Rattle.labels.proofs.lists.+after_name+read_names.Tie.{close}
+
+abbrev μ-after-name : Measures 2 after-name-kinds.ps ℕ
+μ-after-name κs a = 2 * (length (a .1 .1 .0 .now) - a .1 .1 .1 .0)
+
+abbrev μ-read-names : Measures 2 read-names-kinds.ps ℕ
+μ-read-names κs a = 2 * (length (a .1 .1 .0 .now) - a .1 .1 .1 .0) + 1
+
+abbrev after-name-at : ℕ → In 2 after-name-kinds.ps
+after-name-at t =
+    and 2 after-name-kinds.ps (is 2 after-name-kinds.ps μ-after-name t) after-name.Pre
+
+abbrev after-name-below : ℕ → In 2 after-name-kinds.ps
+after-name-below t =
+    and 2 after-name-kinds.ps (falls 2 after-name-kinds.ps _<_ μ-after-name t) after-name.Pre
+
+abbrev read-names-at : ℕ → In 2 read-names-kinds.ps
+read-names-at t =
+    and 2 read-names-kinds.ps (is 2 read-names-kinds.ps μ-read-names t) read-names.Pre
+
+abbrev read-names-below : ℕ → In 2 read-names-kinds.ps
+read-names-below t =
+    and 2 read-names-kinds.ps (falls 2 read-names-kinds.ps _<_ μ-read-names t) read-names.Pre
+
+-- what the two are told of the functions that they call
+abbrev after-name-calls : ℕ → after-name-lts.Claims
+after-name-calls t = (read-names-below t, read-names.Post)
+
+abbrev read-names-calls : ℕ → read-names-lts.Claims
+read-names-calls t = (
+  mark-from-reads.Asked,
+  mark-from-reads.Learnt,
+  find-reads.Asked,
+  find-reads.Learnt,
+  has-reads.Asked,
+  has-reads.Learnt,
+  with-reads.Asked,
+  with-reads.Learnt,
+  after-name-below t,
+  after-name.Post,
+)
+
+after-name-add-read-names : (t : ℕ) → after-name-lts.Need-add-read-names (after-name-calls t) (after-name-at t) after-name.Post
+after-name-add-read-names t c = omega arith
+
+after-name-read-names-requires : (t : ℕ) → after-name-lts.Need-read-names-requires (after-name-calls t) (after-name-at t) after-name.Post
+after-name-read-names-requires t c κs = (omega arith, (c .before .before .before .pre .1 .0, (c .before .before .before .pre .1 .1 .0, omega arith)))
+
+after-name-returns : (t : ℕ) → after-name-lts.Need-returns (after-name-calls t) (after-name-at t) after-name.Post
+after-name-returns t c = rw (lt-ltb _ _ (c .before .if1 .taken)) (c .read-names .ensures)
+
+after-name-returns-2 : (t : ℕ) → after-name-lts.Need-returns-2 (after-name-calls t) (after-name-at t) after-name.Post
+unfolding readNames
+after-name-returns-2 t c = rw (le-ltb _ _ (c .if1 .left))
+
+read-names-mark-from-requires : (t : ℕ) → read-names-lts.Need-mark-from-requires (read-names-calls t) (read-names-at t) read-names.Post
+read-names-mark-from-requires t c κs = omega arith
+
+read-names-sub-find : (t : ℕ) → read-names-lts.Need-sub-find (read-names-calls t) (read-names-at t) read-names.Post
+read-names-sub-find t c = omega arith
+
+read-names-part-find-start : (t : ℕ) → read-names-lts.Need-part-find-start (read-names-calls t) (read-names-at t) read-names.Post
+read-names-part-find-start t c = omega arith
+
+read-names-part-find-end : (t : ℕ) → read-names-lts.Need-part-find-end (read-names-calls t) (read-names-at t) read-names.Post
+read-names-part-find-end t c = omega arith
+
+read-names-find-requires : (t : ℕ) → read-names-lts.Need-find-requires (read-names-calls t) (read-names-at t) read-names.Post
+read-names-find-requires t c κs = let p = c .before .before .before .before .pre .1 in (p .0, p .1 .0)
+
+read-names-enum-known-found : (t : ℕ) → read-names-lts.Need-enum-known-found (read-names-calls t) (read-names-at t) read-names.Post
+read-names-enum-known-found t c = search needs
+
+read-names-enum-told : (t : ℕ) → read-names-lts.Need-enum-told (read-names-calls t) (read-names-at t) read-names.Post
+read-names-enum-told t c = search needs
+
+read-names-returns : (t : ℕ) → read-names-lts.Need-returns (read-names-calls t) (read-names-at t) read-names.Post
+read-names-returns t c = list-unknown _ _ _ _ _ _ (c .before .before .before .before .before .before .before .pre .1 .1 .1) (c .before .before .before .before .mark-from .ensures .0) (c .before .before .before .before .mark-from .ensures .1 .1) (sym (c .before .before .find .ensures) ∙ c .enum-told .given .1)
+
+read-names-has-requires : (t : ℕ) → read-names-lts.Need-has-requires (read-names-calls t) (read-names-at t) read-names.Post
+read-names-has-requires t c κs = search needs
+
+read-names-returns-2 : (t : ℕ) → read-names-lts.Need-returns-2 (read-names-calls t) (read-names-at t) read-names.Post
+read-names-returns-2 t c = list-repeated _ _ _ _ _ _ (c .before .before .before .before .before .before .before .before .before .before .pre .1 .1 .1) (c .before .before .before .before .before .before .before .mark-from .ensures .0) (c .before .before .before .before .before .before .before .mark-from .ensures .1 .1) _ (sym (c .before .before .before .before .before .find .ensures) ∙ c .before .before .before .found .given .1) (sym (c .before .has .ensures) ∙ c .if1 .taken)
+
+read-names-with-requires : (t : ℕ) → read-names-lts.Need-with-requires (read-names-calls t) (read-names-at t) read-names.Post
+read-names-with-requires t c κs = omega (arith, found-below _ _ _ _ (sym (c .before .before .before .before .before .find .ensures) ∙ c .before .before .before .found .given .1), class-limit _ (c .before .before .before .before .before .before .before .before .before .before .args .class) (c .before .before .before .before .before .before .before .before .before .before .pre .1 .0))
+
+read-names-after-name-requires : (t : ℕ) → read-names-lts.Need-after-name-requires (read-names-calls t) (read-names-at t) read-names.Post
+read-names-after-name-requires t c κs = (omega arith, (c .before .before .before .before .before .before .before .before .before .before .before .pre .1 .0, (c .before .before .before .before .before .before .before .before .before .before .before .pre .1 .1 .0, omega arith)))
+
+read-names-returns-3 : (t : ℕ) → read-names-lts.Need-returns-3 (read-names-calls t) (read-names-at t) read-names.Post
+read-names-returns-3 t c = c .after-name .ensures ∙ rw (c .before .with .ensures) (list-next _ _ _ _ _ _ (c .before .before .before .before .before .before .before .before .before .before .before .before .pre .1 .1 .1) (c .before .before .before .before .before .before .before .before .before .mark-from .ensures .0) (c .before .before .before .before .before .before .before .before .before .mark-from .ensures .1 .1) _ (sym (c .before .before .before .before .before .before .before .find .ensures) ∙ c .before .before .before .before .before .found .given .1) (sym (c .before .before .before .has .ensures) ∙ c .before .before .if1 .left))
+
+pub +after-name+read-names-spec : {M : Type 1} → statement M
++after-name+read-names-spec = close μ-after-name μ-read-names (λ t. after-name-lts.spec (after-name-calls t)
+    (after-name-at t)
+    after-name.Post
+    (after-name-add-read-names t)
+    (after-name-read-names-requires t)
+    (after-name-returns t)
+    (after-name-returns-2 t))
+    λ t. read-names-lts.spec (read-names-calls t)
+    (read-names-at t)
+    read-names.Post
+    (read-names-mark-from-requires t)
+    (read-names-sub-find t)
+    (read-names-part-find-start t)
+    (read-names-part-find-end t)
+    (read-names-find-requires t)
+    (read-names-enum-known-found t)
+    (read-names-enum-told t)
+    (read-names-returns t)
+    (read-names-has-requires t)
+    (read-names-returns-2 t)
+    (read-names-with-requires t)
+    (read-names-after-name-requires t)
+    (read-names-returns-3 t)

@@ -1,0 +1,24 @@
+use mathlib.Core.Path.{_∙_}
+use Rattle.labels.proofs.Naming.{list-begun, list-empty}
+use borrow.Author.Needs.{needs}
+use Rattle.labels.proofs.lists.read_list.Statement.{statement}
+use Rattle.labels.proofs.lists.read_list.Tie as tie
+
+none-requires : tie.Need-none-requires
+none-requires c κs = search needs
+
+read-names-requires : tie.Need-read-names-requires
+read-names-requires c κs = search needs
+
+returns : tie.Need-returns
+returns c = c .read-names .ensures ∙ rw (c .before .none .ensures) (list-begun _ _ _ _ (c .before .before .if1 .taken))
+
+none-requires-2 : tie.Need-none-requires-2
+none-requires-2 c κs = search needs
+
+returns-2 : tie.Need-returns-2
+returns-2 c = rw (c .none2 .ensures) (list-empty _ _ _ _ (c .before .if1 .left))
+
+pub read-list-spec : {M : Type 1} → statement M
+read-list-spec =
+    tie.close (tie.spec none-requires read-names-requires returns none-requires-2 returns-2)

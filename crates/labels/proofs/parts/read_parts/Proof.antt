@@ -1,0 +1,57 @@
+use mathlib.Core.Path.{sym, _∙_}
+use native.Mathlib.Omega.{arith}
+use Rattle.labels.proofs.Classes.{class-limit}
+use Rattle.labels.proofs.Naming.{found-below}
+use Rattle.labels.proofs.Joining.{level-unknown, level-found}
+use borrow.Author.Needs.{needs}
+use Rattle.labels.proofs.parts.read_parts.Statement.{statement}
+use Rattle.labels.proofs.parts.read_parts.Tie as tie
+
+mark-from-requires : tie.Need-mark-from-requires
+mark-from-requires c κs = search needs
+
+sub-find : tie.Need-sub-find
+sub-find c = search needs
+
+part-find-start : tie.Need-part-find-start
+part-find-start c = search needs
+
+part-find-end : tie.Need-part-find-end
+part-find-end c = search needs
+
+find-requires : tie.Need-find-requires
+find-requires c κs = search needs
+
+enum-known-found : tie.Need-enum-known-found
+enum-known-found c = search needs
+
+enum-told : tie.Need-enum-told
+enum-told c = search needs
+
+returns : tie.Need-returns
+returns c = level-unknown _ _ _ (c .before .before .before .before .mark-from .ensures .0) (c .before .before .before .before .mark-from .ensures .1 .1) (sym (c .before .before .find .ensures) ∙ c .enum-told .given .1)
+
+cast-read-sets : tie.Need-cast-read-sets
+cast-read-sets c = omega (arith, found-below _ _ _ _ (sym (c .before .before .before .find .ensures) ∙ c .before .found .given .1), class-limit _ 1 (c .before .before .before .before .before .before .before .before .pre))
+
+read-sets-requires : tie.Need-read-sets-requires
+read-sets-requires c κs = search needs
+
+returns-2 : tie.Need-returns-2
+returns-2 c = c .read-sets .ensures ∙ level-found _ _ _ (c .before .before .before .before .before .before .mark-from .ensures .0) (c .before .before .before .before .before .before .mark-from .ensures .1 .1) _ (sym (c .before .before .before .before .find .ensures) ∙ c .before .before .found .given .1)
+
+pub read-parts-spec : {M : Type 1} → statement M
+read-parts-spec =
+    tie.close
+    (tie.spec
+    mark-from-requires
+    sub-find
+    part-find-start
+    part-find-end
+    find-requires
+    enum-known-found
+    enum-told
+    returns
+    cast-read-sets
+    read-sets-requires
+    returns-2)

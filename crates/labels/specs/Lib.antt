@@ -1,0 +1,7 @@
+-- Labels and their text.
+pub mod Label
+pub mod Text
+pub mod Parse
+pub mod States
+pub mod Lists
+pub mod Print

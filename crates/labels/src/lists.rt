@@ -1,0 +1,72 @@
+// The lists of a label's text. The text handed in ends where the list ends, so that offsets count from the text's start.
+ghost use Prim.Native.Nat.{_+_, _≤_};
+ghost use mathlib.Core.Path.{_≡_};
+ghost use lib.ListN.{length, drop};
+ghost use Rattle.records.specs.Rules.{Counted};
+ghost use Rattle.sets.specs.Groups.{placesOf};
+ghost use Rattle.labels.specs.Text.{comma, split};
+ghost use Rattle.labels.specs.Parse.{readNames, readList};
+ghost use Rattle.labels.specs.Lists.{untilMark, afterMark, namesOf};
+use crate::names::Found;
+use crate::names::find;
+use sets::groups::Groups;
+
+// The places that a list names, or the offset of its leftmost name that is unknown or came before.
+pub enum Names {
+    Read(Groups),
+    Unknown(usize),
+    Repeated(usize),
+}
+
+// The first place from `at` on that holds the mark; the text's length where none does.
+pub fn mark_from(text: &[u8], at: usize, mark: u8) -> usize
+    requires { ⌜ at ≤ length (now text) ⌝ }
+    ensures { λ r. ⌜ (r ≡ at + untilMark mark (drop at (now (text .entry)))) × ((at ≤ r) × (r ≤ length (now (text .entry)))) ⌝ }
+{
+    let mut i = at;
+    while i < text.len() {
+        if text[i] == mark {
+            return i;
+        }
+        i += 1;
+    }
+    i
+}
+
+// A list is one name, or one name, a comma and a list. `set` has the names before this one.
+fn read_names(image: &[u8], class: u8, text: &[u8], at: usize, set: Groups) -> Names
+    requires { ⌜ Counted (now image) × (((1 ≤ class) × (class ≤ 3)) × (at ≤ length (now text))) ⌝ }
+    ensures { λ r. ⌜ namesOf r ≡ readNames (now (image .entry)) class at (placesOf set) (split comma (drop at (now (text .entry)))) ⌝ }
+{
+    let end = mark_from(text, at, 44);
+    let found = find(image, class, &text[at..end]);
+    let Found::At(place) = found else {
+        return Names::Unknown(at);
+    };
+    if set.has(place) {
+        return Names::Repeated(at);
+    }
+    after_name(image, class, text, end, set.with(place))
+}
+
+// After a name the list ends, or a comma and a list follow.
+fn after_name(image: &[u8], class: u8, text: &[u8], at: usize, set: Groups) -> Names
+    requires { ⌜ Counted (now image) × (((1 ≤ class) × (class ≤ 3)) × (at ≤ length (now text))) ⌝ }
+    ensures { λ r. ⌜ namesOf r ≡ readNames (now (image .entry)) class (at + 1) (placesOf set) (afterMark comma (now (text .entry)) at) ⌝ }
+{
+    if at < text.len() {
+        return read_names(image, class, text, at + 1, set);
+    }
+    Names::Read(set)
+}
+
+// The list from `at` on; one that is empty gives the empty set.
+pub fn read_list(image: &[u8], class: u8, text: &[u8], at: usize) -> Names
+    requires { ⌜ Counted (now image) × (((1 ≤ class) × (class ≤ 3)) × (at ≤ length (now text))) ⌝ }
+    ensures { λ r. ⌜ namesOf r ≡ readList (now (image .entry)) class at (drop at (now (text .entry))) ⌝ }
+{
+    if at < text.len() {
+        return read_names(image, class, text, at, Groups::none());
+    }
+    Names::Read(Groups::none())
+}

@@ -1,0 +1,93 @@
+// The parts of a label's text between its colons: the level, then compartments, then groups. A name's offset counts from the
+// text's start, so each list is read in the text up to the list's end.
+ghost use Prim.Native.Nat.{_+_, _≤_};
+ghost use mathlib.Core.Path.{_≡_};
+ghost use mathlib.Core.Bool.{cond};
+ghost use lib.ListN.{length};
+ghost use Rattle.records.specs.Rules.{Counted};
+ghost use Rattle.refusals.specs.declared.Refusal.the-variants.{TextShape};
+ghost use Rattle.labels.specs.Text.{colon, split, shapeRule};
+ghost use Rattle.labels.specs.Parse.{refused, readSets, readParts, readOf};
+ghost use Rattle.labels.specs.Lists.{afterMark, groupsAfter};
+use crate::answers::Parsed;
+use crate::answers::Reason;
+use crate::label::Label;
+use crate::lists::Names;
+use crate::lists::mark_from;
+use crate::lists::read_list;
+use crate::names::Found;
+use crate::names::find;
+use crate::shape::shape_ok;
+use sets::groups::Groups;
+
+// The groups, where the compartments end at `end`.
+fn read_groups(image: &[u8], text: &[u8], level: u8, compartments: u64, end: usize) -> Parsed
+    requires { ⌜ Counted (now image) × (end ≤ length (now text)) ⌝ }
+    ensures { λ r. ⌜ readOf r ≡ groupsAfter (now (image .entry)) level compartments (end + 1) (afterMark colon (now (text .entry)) end) ⌝ }
+{
+    if text.len() <= end {
+        return Parsed::Done(Label {
+            level,
+            compartments,
+            groups: Groups::none(),
+        });
+    }
+    let at = end + 1;
+    let stop = mark_from(text, at, 58);
+    let names = read_list(image, 3, &text[0..stop], at);
+    match names {
+        Names::Read(groups) => Parsed::Done(Label {
+            level,
+            compartments,
+            groups,
+        }),
+        Names::Unknown(offset) => Parsed::Refused(Reason::Unknown(offset)),
+        Names::Repeated(offset) => Parsed::Refused(Reason::Repeated(offset)),
+    }
+}
+
+// Compartments and groups, where the level ends at `end`.
+fn read_sets(image: &[u8], text: &[u8], level: u8, end: usize) -> Parsed
+    requires { ⌜ Counted (now image) × (end ≤ length (now text)) ⌝ }
+    ensures { λ r. ⌜ readOf r ≡ readSets (now (image .entry)) level (end + 1) (afterMark colon (now (text .entry)) end) ⌝ }
+{
+    if text.len() <= end {
+        return Parsed::Done(Label {
+            level,
+            compartments: 0,
+            groups: Groups::none(),
+        });
+    }
+    let at = end + 1;
+    let stop = mark_from(text, at, 58);
+    let names = read_list(image, 2, &text[0..stop], at);
+    match names {
+        Names::Read(compartments) => read_groups(image, text, level, compartments.word(0), stop),
+        Names::Unknown(offset) => Parsed::Refused(Reason::Unknown(offset)),
+        Names::Repeated(offset) => Parsed::Refused(Reason::Repeated(offset)),
+    }
+}
+
+// The level counts as a name, at offset 0.
+fn read_parts(image: &[u8], text: &[u8]) -> Parsed
+    requires { ⌜ Counted (now image) ⌝ }
+    ensures { λ r. ⌜ readOf r ≡ readParts (now (image .entry)) (split colon (now (text .entry))) ⌝ }
+{
+    let end = mark_from(text, 0, 58);
+    let found = find(image, 1, &text[0..end]);
+    let Found::At(level) = found else {
+        return Parsed::Refused(Reason::Unknown(0));
+    };
+    read_sets(image, text, level as u8, end)
+}
+
+// The shape of the whole text comes before any of its names.
+pub fn read_text(image: &[u8], text: &[u8]) -> Parsed
+    requires { ⌜ Counted (now image) ⌝ }
+    ensures { λ r. ⌜ readOf r ≡ cond (shapeRule (now (text .entry))) (readParts (now (image .entry)) (split colon (now (text .entry)))) (refused TextShape) ⌝ }
+{
+    if !shape_ok(text) {
+        return Parsed::Refused(Reason::Shape);
+    }
+    read_parts(image, text)
+}

@@ -1,0 +1,128 @@
+// The shape of label text, read byte by byte.
+ghost use mathlib.Core.Path.{_≡_};
+ghost use Rattle.fields.specs.Names.{nameByte};
+ghost use Rattle.labels.specs.Text.{shapeRule};
+ghost use Rattle.labels.specs.States.{afterNameByte, afterComma, afterColon, afterByte, afterAll, endsWell};
+ghost use Rattle.labels.specs.declared.shape.State.the-variants.{Start};
+
+// How far a reading has come. A name begins at Start, Lists, FirstNext and Second; Level, First and InSecond stand inside one.
+pub enum State {
+    Start,
+    Level,
+    // After the first colon: the first list may be empty here if a second one follows.
+    Lists,
+    First,
+    // After a comma of the first list.
+    FirstNext,
+    // After the second colon, or a comma of the second list.
+    Second,
+    InSecond,
+    // No text that begins so has the shape.
+    Wrong,
+}
+
+fn name_byte(x: u8) -> bool
+    ensures { λ r. ⌜ r ≡ nameByte x ⌝ }
+{
+    (65 <= x) & (x <= 90) | (48 <= x) & (x <= 57) | (x == 95)
+}
+
+fn after_name_byte(state: State) -> State
+    ensures { λ r. ⌜ r ≡ afterNameByte state ⌝ }
+{
+    match state {
+        State::Start => State::Level,
+        State::Level => State::Level,
+        State::Lists => State::First,
+        State::First => State::First,
+        State::FirstNext => State::First,
+        State::Second => State::InSecond,
+        State::InSecond => State::InSecond,
+        State::Wrong => State::Wrong,
+    }
+}
+
+// A comma ends a name of a list, and another has to follow.
+fn after_comma(state: State) -> State
+    ensures { λ r. ⌜ r ≡ afterComma state ⌝ }
+{
+    match state {
+        State::Start => State::Wrong,
+        State::Level => State::Wrong,
+        State::Lists => State::Wrong,
+        State::First => State::FirstNext,
+        State::FirstNext => State::Wrong,
+        State::Second => State::Wrong,
+        State::InSecond => State::Second,
+        State::Wrong => State::Wrong,
+    }
+}
+
+// A colon ends the level, the first list, or an empty first list.
+fn after_colon(state: State) -> State
+    ensures { λ r. ⌜ r ≡ afterColon state ⌝ }
+{
+    match state {
+        State::Start => State::Wrong,
+        State::Level => State::Lists,
+        State::Lists => State::Second,
+        State::First => State::Second,
+        State::FirstNext => State::Wrong,
+        State::Second => State::Wrong,
+        State::InSecond => State::Wrong,
+        State::Wrong => State::Wrong,
+    }
+}
+
+fn after_byte(state: State, x: u8) -> State
+    ensures { λ r. ⌜ r ≡ afterByte state x ⌝ }
+{
+    if name_byte(x) {
+        return after_name_byte(state);
+    }
+    if x == 44 {
+        return after_comma(state);
+    }
+    if x == 58 {
+        return after_colon(state);
+    }
+    State::Wrong
+}
+
+// A text may end inside a name only.
+fn ends_well(state: State) -> bool
+    ensures { λ r. ⌜ r ≡ endsWell state ⌝ }
+{
+    match state {
+        State::Start => false,
+        State::Level => true,
+        State::Lists => false,
+        State::First => true,
+        State::FirstNext => false,
+        State::Second => false,
+        State::InSecond => true,
+        State::Wrong => false,
+    }
+}
+
+fn after_all(text: &[u8]) -> State
+    ensures { λ r. ⌜ r ≡ afterAll Start (now (text .entry)) ⌝ }
+{
+    let mut state = State::Start;
+    let mut i = 0;
+    while i < text.len() {
+        state = after_byte(state, text[i]);
+        i += 1;
+    }
+    state
+}
+
+// Does the text have the shape of a label's text?
+pub fn shape_ok(text: &[u8]) -> bool
+    ensures { λ r. ⌜ r ≡ shapeRule (now (text .entry)) ⌝ }
+{
+    if 4096 < text.len() {
+        return false;
+    }
+    ends_well(after_all(text))
+}

@@ -1,0 +1,261 @@
+//! Label texts and labels for a policy, by seed: right ones, and ones that are wrong in every way that
+//! the rules of label text name.
+
+use crate::builder::{random, Component, Policy, Sizes};
+use crate::rng::Rng;
+
+/// Mostly small, sometimes up to all limits of components. Label text asks nothing of users and
+/// labels, so these are few.
+pub fn policy(rng: &mut Rng) -> Policy {
+    let mut sizes = match rng.index(40) {
+        0 => Sizes::any(rng),
+        1 => Sizes::FULL,
+        2..=7 => Sizes::medium(rng),
+        _ => Sizes::small(rng),
+    };
+    sizes.users = sizes.users.min(4);
+    sizes.labels = sizes.labels.min(30);
+    random(sizes, rng)
+}
+
+/// A policy of all limits whose names all have 30 bytes: its longest text has 3,998.
+pub fn longest_names() -> Policy {
+    let mut policy = random(Sizes::FULL, &mut Rng::new(2));
+    for class in [
+        &mut policy.levels,
+        &mut policy.compartments,
+        &mut policy.groups,
+    ] {
+        for (place, component) in class.iter_mut().enumerate() {
+            component.name = format!("{place:0>30}");
+        }
+    }
+    policy
+}
+
+/// The names of a text by class.
+struct Names {
+    level: String,
+    lists: [Vec<String>; 2],
+}
+
+impl Names {
+    /// Of a label that the policy has, in the order of printing.
+    fn printed(policy: &Policy, rng: &mut Rng) -> Names {
+        let list = |class: &[Component], rng: &mut Rng| {
+            let set = rng.subset(u64::MAX);
+            let chosen = |&(place, _): &(usize, &Component)| set >> place & 1 == 1;
+            let names = class.iter().enumerate().filter(chosen);
+            names.map(|(_, component)| component.name.clone()).collect()
+        };
+        Names {
+            level: rng.pick(&policy.levels).name.clone(),
+            lists: [list(&policy.compartments, rng), list(&policy.groups, rng)],
+        }
+    }
+
+    fn text(&self) -> Vec<u8> {
+        let [compartments, groups] = &self.lists;
+        let text = match (compartments.is_empty(), groups.is_empty()) {
+            (true, true) => self.level.clone(),
+            (false, true) => format!("{}:{}", self.level, compartments.join(",")),
+            _ => format!(
+                "{}:{}:{}",
+                self.level,
+                compartments.join(","),
+                groups.join(",")
+            ),
+        };
+        text.into_bytes()
+    }
+
+    /// One change that leaves the shape as it is.
+    fn change(&mut self, policy: &Policy, rng: &mut Rng) {
+        match rng.index(8) {
+            0..=2 => self.lists.iter_mut().for_each(|list| rng.shuffle(list)),
+            3 => self.repeat(rng),
+            4 => {
+                let name = unknown(policy, rng);
+                self.put(name, rng);
+            }
+            5 => self.put(letters(31, rng), rng),
+            6 => {
+                let classes = [&policy.levels, &policy.compartments, &policy.groups];
+                let all = classes.into_iter().flatten();
+                let names: Vec<&String> = all.map(|component| &component.name).collect();
+                let name = rng.pick(&names).to_string();
+                self.put(name, rng);
+            }
+            _ => self.level = unknown(policy, rng),
+        }
+    }
+
+    /// A name of a list once more in the same list.
+    fn repeat(&mut self, rng: &mut Rng) {
+        let list = &mut self.lists[rng.index(2)];
+        if !list.is_empty() {
+            let name = rng.pick(list).clone();
+            list.insert(rng.range(0, list.len()), name);
+        }
+    }
+
+    /// A name as the level or anywhere in a list, whether or not it belongs there.
+    fn put(&mut self, name: String, rng: &mut Rng) {
+        match rng.index(9) {
+            0 => self.level = name,
+            class => {
+                let list = &mut self.lists[class % 2];
+                list.insert(rng.range(0, list.len()), name);
+            }
+        }
+    }
+}
+
+/// Mostly a name that no class has: random letters, or a name cut short or made longer by one.
+fn unknown(policy: &Policy, rng: &mut Rng) -> String {
+    let classes = [&policy.levels, &policy.compartments, &policy.groups];
+    let class = *rng.pick(&classes);
+    if class.is_empty() || rng.once_in(3) {
+        return letters(rng.range(1, 40), rng);
+    }
+    let name = &rng.pick(class).name;
+    if name.len() > 1 && rng.once_in(2) {
+        return name[..name.len() - 1].to_string();
+    }
+    format!("{name}{}", letters(1, rng))
+}
+
+fn letters(length: usize, rng: &mut Rng) -> String {
+    let alphabet = b"ABCDEFGHIJKLMNOPQRSTUVWXYZ0123456789_";
+    (0..length)
+        .map(|_| char::from(*rng.pick(alphabet)))
+        .collect()
+}
+
+/// A text for the policy. All kinds come often, and several changes may meet in one text.
+pub fn text(policy: &Policy, rng: &mut Rng) -> Vec<u8> {
+    let mut names = Names::printed(policy, rng);
+    match rng.index(20) {
+        0 => noise(rng),
+        1 => long(names, rng),
+        2..=4 => names.text(),
+        5..=12 => {
+            for _ in 0..rng.range(1, 3) {
+                names.change(policy, rng);
+            }
+            names.text()
+        }
+        _ => {
+            if rng.once_in(2) {
+                names.change(policy, rng);
+            }
+            let mut text = names.text();
+            change_bytes(&mut text, rng);
+            text
+        }
+    }
+}
+
+/// Random bytes, or random bytes of the alphabet with many separators; at times none.
+fn noise(rng: &mut Rng) -> Vec<u8> {
+    let length = rng.range(0, 12);
+    if rng.once_in(2) {
+        return (0..length).map(|_| rng.byte()).collect();
+    }
+    (0..length).map(|_| *rng.pick(b"AB0_::,,")).collect()
+}
+
+/// One change that mostly breaks the shape.
+fn change_bytes(text: &mut Vec<u8>, rng: &mut Rng) {
+    let last = text.len() - 1;
+    let at = rng.range(0, text.len());
+    match rng.index(9) {
+        0 => text.insert(at, b' '),
+        1 => small_letter(text, rng),
+        2 => double_separator(text, rng),
+        3 => text.push(*rng.pick(b":,")),
+        4 => text.insert(0, *rng.pick(b":,")),
+        5 => text.extend(b"::A:A".iter().skip(rng.index(3))),
+        6 => drop(text.remove(at.min(last))),
+        7 => text[at.min(last)] = rng.byte(),
+        _ => text.insert(at, *rng.pick(b":,\0\n\x7f\x80/;@[`{-.+")),
+    }
+}
+
+fn small_letter(text: &mut [u8], rng: &mut Rng) {
+    let at = rng.index(text.len());
+    text[at] = text[at].to_ascii_lowercase();
+}
+
+/// A separator once more beside itself, which also makes an empty part.
+fn double_separator(text: &mut Vec<u8>, rng: &mut Rng) {
+    let is_separator = |&at: &usize| matches!(text[at], b':' | b',');
+    let separators: Vec<usize> = (0..text.len()).filter(is_separator).collect();
+    if separators.is_empty() {
+        return text.extend(b"::");
+    }
+    let at = *rng.pick(&separators);
+    text.insert(at, text[at]);
+}
+
+/// A text of 4,095 to 4,098 bytes, at times far longer, filled up with one long name or with repeats
+/// of a name. Mostly of the right shape, at times with a bad last byte.
+fn long(names: Names, rng: &mut Rng) -> Vec<u8> {
+    let mut text = names.text();
+    let length = match rng.index(8) {
+        0 => rng.range(4_099, 10_000),
+        _ => rng.range(4_095, 4_098),
+    };
+    let groups = &names.lists[1];
+    let filler = match groups.is_empty() || rng.once_in(2) {
+        true => "Z".to_string(),
+        false => format!(",{}", rng.pick(groups)),
+    };
+    let missing = length - text.len();
+    text.extend(filler.bytes().cycle().take(missing));
+    if rng.once_in(6) {
+        text[length - 1] = *rng.pick(b" ,:z");
+    }
+    text
+}
+
+/// The bytes of a label that the policy has. Bytes that are not looked at hold anything.
+pub fn label(policy: &Policy, rng: &mut Rng) -> [u8; 48] {
+    let mut bytes = [0; 48];
+    for at in [0, 1, 2, 3, 5, 6, 7] {
+        bytes[at] = rng.byte();
+    }
+    bytes[4] = rng.index(policy.levels.len()) as u8;
+    let compartments = rng.subset(first(policy.compartments.len()));
+    bytes[8..16].copy_from_slice(&compartments.to_le_bytes());
+    let groups = rng.subset(first(policy.groups.len()));
+    bytes[16..24].copy_from_slice(&groups.to_le_bytes());
+    bytes
+}
+
+/// The bytes of a label with one place that the policy lacks, often the lowest such place.
+pub fn label_past(policy: &Policy, rng: &mut Rng) -> [u8; 48] {
+    let mut bytes = label(policy, rng);
+    let counts = [policy.compartments.len(), policy.groups.len()];
+    let past = |count: usize, end: usize, rng: &mut Rng| match rng.index(3) {
+        0 => count,
+        1 => end - 1,
+        _ => rng.range(count, end - 1),
+    };
+    match rng.index(4) {
+        0 => bytes[4] = past(policy.levels.len(), 256, rng) as u8,
+        1 if counts[0] < 64 => add(&mut bytes[8..16], past(counts[0], 64, rng)),
+        2 => add(&mut bytes[16..], past(64, 256, rng)),
+        _ => add(&mut bytes[16..], past(counts[1], 256, rng)),
+    }
+    bytes
+}
+
+fn add(set: &mut [u8], place: usize) {
+    set[place / 8] |= 1 << (place % 8);
+}
+
+/// The set of the first `count` places.
+fn first(count: usize) -> u64 {
+    (0..count).fold(0, |set, place| set | 1 << place)
+}
