@@ -19,3 +19,5 @@ pub mod ListsRead
 pub mod TextShape
 pub mod RoundTrip
 pub mod PrintRead
+pub mod AnyOrder
+pub mod TextOrder

@@ -1,18 +1,20 @@
 -- Texts of the sample co-operative, computed: P15 and P16 of document 01, and others. Assumes nothing.
 use Prim.Native.Nat.{ℕ}
 use mathlib.Core.Path.{_≡_, refl}
-use mathlib.Core.List.{List, [], _∷_}
+use mathlib.Core.List.{[], _∷_}
 use Rattle.fields.specs.Bytes.{all}
 use Rattle.fields.specs.Names.{nameByte, nameIn, sameName}
 use Rattle.fields.specs.Scan.{firstBad}
 use Rattle.sets.specs.Sets.{has, empty}
-use Rattle.refusals.specs.declared.Refusal.the-variants.{TextShape, UnknownName, RepeatedName}
+use Rattle.refusals.specs.declared.Refusal.the-variants.{TextShape}
 use Rattle.records.specs.Layout.{levels, compartments, groups, componentOffset, componentRecord}
 use Rattle.image.specs.Lookup.{componentIndex}
 use Rattle.labels.specs.Label.{Marks}
-use Rattle.labels.specs.Text.{split, isName, isList, shapeRule}
-use Rattle.labels.specs.Parse.{matches, placeOfName, readNames, Read, label, refused, parseOf}
+use Rattle.labels.specs.Text.{colon, split, isName, isList, shapeRule}
+use Rattle.labels.specs.Parse.{matches, placeOfName, readNames, label, refused, parseOf}
 use Rattle.labels.specs.Print.{entryAt, listed, listText, section, textOf}
+use Rattle.labels.proofs.AnyOrder.{swap}
+use Rattle.labels.proofs.TextOrder.{SameNames, compartments as with-compartments}
 use Rattle.sample.specs.Cooperative.{cooperative}
 use Rattle.sample.proofs.Sample.{sample-accepted}
 
@@ -38,3 +40,8 @@ p16 = rw sample-accepted
 pub groups-alone : textOf cooperative (marks 0 0 10) ≡ 79 ∷ 80 ∷ 69 ∷ 78 ∷ 58 ∷ 58 ∷ 78 ∷ 79 ∷ 82 ∷ 84 ∷ 72 ∷ 44 ∷ 83 ∷ 79 ∷ 85 ∷ 84 ∷ 72 ∷ []
 unfolding cooperative nameIn has empty levels compartments groups componentOffset componentRecord componentIndex entryAt listed listText section textOf
 groups-alone = refl
+
+-- the text of P15 has the names of its print in another order
+pub p15-order : SameNames (split colon (86 ∷ 65 ∷ 85 ∷ 76 ∷ 84 ∷ 58 ∷ 75 ∷ 73 ∷ 76 ∷ 78 ∷ 44 ∷ 71 ∷ 76 ∷ 65 ∷ 90 ∷ 69 ∷ [])) (split colon (86 ∷ 65 ∷ 85 ∷ 76 ∷ 84 ∷ 58 ∷ 71 ∷ 76 ∷ 65 ∷ 90 ∷ 69 ∷ 44 ∷ 75 ∷ 73 ∷ 76 ∷ 78 ∷ []))
+unfolding split
+p15-order = with-compartments _ (record { names = swap _ _ []; empty = refl })
