@@ -1,10 +1,10 @@
--- A label in 48 bytes: byte 4 the level place, 8..15 compartments, 16..47 groups, little-endian sets; the other bytes are zero.
+-- A label in 48 bytes: byte 4 the level place, 8..15 compartments, 16..47 groups, little-endian sets. The other bytes are written as zero and not looked at.
 use Prim.Native.Nat.{ℕ, _+_, _*_, _/_, _%_, _^_}
 use mathlib.Core.List.{List, [], _∷_, _++_}
 use lib.ListN.{replicate}
 use Rattle.fields.specs.Bytes.{byteAt, number8}
 use Rattle.labels.specs.Label.{Marks}
-use Rattle.labels.specs.Parse.{Read, label, refused, parseOf}
+use Rattle.labels.specs.Parse.{Read, label, refused, badImage, parseOf}
 use Rattle.labels.specs.Print.{printOf}
 use Rattle.labels.specs.declared.printing.Printed.{Printed}
 use Rattle.labels.specs.declared.printing.Printed.the-variants as printed
@@ -37,6 +37,7 @@ labelIn bytes =
 abbrev pub parsedInto : Read → List ℕ → ℕ × List ℕ
 parsedInto (label m) old = (0, labelBytes m)
 parsedInto (refused r) old = (answerOf r, old)
+parsedInto (badImage r) old = (answerOf r, old)
 
 abbrev pub parseAnswer : List ℕ → List ℕ → List ℕ → ℕ × List ℕ
 parseAnswer im text old = parsedInto (parseOf im text) old

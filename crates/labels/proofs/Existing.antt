@@ -93,4 +93,4 @@ module _ (im : List ℕ) where
       at : (c : Checked) (t : Bool) → unlessRefused c (cond t (readParts im (split colon text)) (refused TextShape)) ≡ label m → Exists im m
       at Accepted true e = parts-exist (split colon text) m e
       at Accepted false e = absurd (never _ m e)
-      at (Refused r) t e = absurd (never r m e)
+      at (Refused r) t e = let z : _≡_ {A = ℕ} 0 1 = cc in absurd (omega arith)

@@ -21,3 +21,4 @@ pub mod RoundTrip
 pub mod PrintRead
 pub mod AnyOrder
 pub mod TextOrder
+pub mod LongNames

@@ -18,7 +18,7 @@ use Rattle.image.specs.declared.faults.Checked.the-variants.{Accepted, Refused}
 use Rattle.image.specs.Check.{checkOf}
 use Rattle.image.proofs.Place.{check-place}
 use Rattle.labels.specs.Text.{comma, colon, split, onto, shapeOfParts, shapeRule}
-use Rattle.labels.specs.Parse.{classCount, placeOfName, Names, read, unknown, repeated, readNames, readList, Read, label, refused, thenRead, readSets, readParts, unlessRefused, parseOf}
+use Rattle.labels.specs.Parse.{classCount, placeOfName, Names, read, unknown, repeated, readNames, readList, Read, label, refused, badImage, thenRead, readSets, readParts, unlessRefused, parseOf}
 
 -- the bytes of the parts and one more for each
 abbrev spans : List (List ℕ) → ℕ
@@ -83,6 +83,7 @@ list-offset im class offset (x ∷ xs) =
 abbrev told : Read → ℕ
 told (label m) = 0
 told (refused r) = placeOf r
+told (badImage r) = placeOf r
 
 then-told : (n : Names) (next : ℕ → Read) (most : ℕ) → offsetIn n ≤ most → ((s : ℕ) → told (next s) ≤ most) → told (thenRead n next) ≤ most
 then-told (read set) next most h all = all set
@@ -120,11 +121,17 @@ text-told im text = at (shapeRule text) refl
     at true e = omega (arith, parts-told im (split colon text), split-spans colon text, short e)
     at false e = omega arith
 
-pub parse-told : (im text : List ℕ) (r : Refusal) → parseOf im text ≡ refused r → placeOf r < 2 ^ 32
+answer-told : (im text : List ℕ) → told (parseOf im text) < 2 ^ 32
 unfolding parseOf
-parse-told im text r e = subst (λ (a : Read). told a < 2 ^ 32) e (at (checkOf im) refl)
+answer-told im text = at (checkOf im) refl
   where
     at : (c : Checked) → checkOf im ≡ c
         → told (unlessRefused c (cond (shapeRule text) (readParts im (split colon text)) (refused TextShape))) < 2 ^ 32
     at Accepted d = text-told im text
     at (Refused q) d = omega (arith, check-place im q d)
+
+pub parse-told : (im text : List ℕ) (r : Refusal) → parseOf im text ≡ refused r → placeOf r < 2 ^ 32
+parse-told im text r e = subst (λ (a : Read). told a < 2 ^ 32) e (answer-told im text)
+
+pub image-told : (im text : List ℕ) (r : Refusal) → parseOf im text ≡ badImage r → placeOf r < 2 ^ 32
+image-told im text r e = subst (λ (a : Read). told a < 2 ^ 32) e (answer-told im text)

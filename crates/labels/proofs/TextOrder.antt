@@ -11,7 +11,7 @@ use Rattle.records.specs.Layout.{levels}
 use Rattle.image.specs.Check.{IsAccepted}
 use Rattle.labels.specs.Label.{Marks}
 use Rattle.labels.specs.Text.{comma, colon, split, isEmpty, shapeRule}
-use Rattle.labels.specs.Parse.{placeOfName, Names, read, unknown, repeated, readList, Read, label, refused, thenRead, readSets, readParts, parseOf}
+use Rattle.labels.specs.Parse.{placeOfName, Names, read, unknown, repeated, readList, Read, label, refused, badImage, thenRead, readSets, readParts, parseOf}
 use Rattle.labels.specs.Print.{labelExists, textOf}
 use Rattle.labels.proofs.AnyOrder.{Reordered, any-order}
 use Rattle.labels.proofs.RoundTrip.{parsed-accepted, parse-of-print}
@@ -37,6 +37,7 @@ list-order im class (x ∷ xs) (y ∷ ys) same offset offset' s e = any-order im
 abbrev isLabel : Read → Bool
 isLabel (label m) = true
 isLabel (refused r) = false
+isLabel (badImage r) = false
 
 -- where reading on gives a label, the names were read
 then-read : (n : Names) (next : ℕ → Read) (m : Marks) → thenRead n next ≡ label m → (s : ℕ) × ((n ≡ read s) × (next s ≡ label m))

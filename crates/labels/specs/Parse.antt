@@ -55,10 +55,11 @@ abbrev pub readList : List ℕ → ℕ → ℕ → List ℕ → Names
 readList im class offset [] = read none
 readList im class offset (x ∷ xs) = readNames im class offset none (split comma (x ∷ xs))
 
--- ---- the answer: a label, or the refusal
+-- ---- the answer: a label, the refusal of the text, or the refusal of the image
 pub data Read : Type 0 where
   label : Marks → Read
   refused : Refusal → Read
+  badImage : Refusal → Read
 
 abbrev pub thenRead : Names → (ℕ → Read) → Read
 thenRead (read set) next = next set
@@ -84,7 +85,7 @@ readParts im (level ∷ rest) =
 -- 1, 2, 3; then 5; then the leftmost name refused by 6 or 7
 abbrev pub unlessRefused : Checked → Read → Read
 unlessRefused Accepted answer = answer
-unlessRefused (Refused r) answer = refused r
+unlessRefused (Refused r) answer = badImage r
 
 unfoldable pub parseOf : List ℕ → List ℕ → Read
 parseOf im text = unlessRefused (checkOf im) (cond (shapeRule text) (readParts im (split colon text)) (refused TextShape))
@@ -95,4 +96,4 @@ readOf (parsed.Done l) = label (marksOf l)
 readOf (parsed.Refused Shape) = refused TextShape
 readOf (parsed.Refused (Unknown offset)) = refused (UnknownName offset)
 readOf (parsed.Refused (Repeated offset)) = refused (RepeatedName offset)
-readOf (parsed.BadImage r) = refused r
+readOf (parsed.BadImage r) = badImage r

@@ -4,7 +4,7 @@ use borrow.Author.Needs.{needs}
 use Rattle.labels.specs.declared.answers.Reason.{Reason}
 use Rattle.labels.specs.declared.answers.Parsed.the-variants as parsed
 use Rattle.labels.specs.Parse.{readOf}
-use Rattle.labels.proofs.Offsets.{parse-told}
+use Rattle.labels.proofs.Offsets.{parse-told, image-told}
 use Rattle.abi.proofs.brawnesk_parse.Statement.{statement}
 use Rattle.abi.proofs.brawnesk_parse.Tie as tie
 
@@ -42,7 +42,7 @@ enum-known-answer-3 : tie.Need-enum-known-answer-3
 enum-known-answer-3 c = search needs
 
 refused-requires-4 : tie.Need-refused-requires-4
-refused-requires-4 c κs = parse-told _ _ _ (sym (c .before .before .before .parse .ensures) ∙ ap readOf (c .before .answer3 .given .1))
+refused-requires-4 c κs = image-told _ _ _ (sym (c .before .before .before .parse .ensures) ∙ ap readOf (c .before .answer3 .given .1))
 
 returns : tie.Need-returns
 returns c = rw (← c .before .before .before .before .parse .ensures, c .before .before .answer .given .1, c .label-bytes .ensures)
