@@ -12,6 +12,7 @@ use Rattle.records.specs.declared.layout.Kind.{Kind}
 use Rattle.records.specs.declared.layout.Kind.the-variants as kind
 use Rattle.hierarchy.specs.Below.{firstRing, firstBadBelow}
 use Rattle.refusals.specs.Refusals.{numberOf, valuesOf}
+use Rattle.refusals.specs.declared.Refusal.{Refusal}
 use Rattle.refusals.specs.declared.Refusal.the-variants.{ImageLength, BlockCheck, ImageRule}
 use Rattle.image.specs.declared.faults.Fault.{Fault}
 use Rattle.image.specs.declared.faults.Fault.the-variants.{Sound, Length, Block, Layout, Component, Label, User, Ring}
@@ -66,6 +67,11 @@ shownAs (Ring g) = Refused ImageRule
 -- the answer of `check`
 unfoldable pub checkOf : List ℕ → Checked
 checkOf im = shownAs (faultOf im)
+
+-- what is given where an answer accepts; else what its refusal gives
+abbrev pub onChecked : {A : Type 0} → Checked → (Refusal → A) → A → A
+onChecked Accepted refuse answer = answer
+onChecked (Refused r) refuse answer = refuse r
 
 -- the numbers that an answer gives back: none, or the refusal's number and its values
 abbrev pub givenBack : Checked → List ℕ

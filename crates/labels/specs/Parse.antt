@@ -15,6 +15,7 @@ use Rattle.image.specs.declared.faults.Checked.{Checked}
 use Rattle.image.specs.declared.faults.Checked.the-variants.{Accepted, Refused}
 use Rattle.image.specs.Check.{checkOf}
 use Rattle.image.specs.Lookup.{componentIndex}
+use Rattle.labels.specs.declared.answers.Reason.{Reason}
 use Rattle.labels.specs.declared.answers.Reason.the-variants.{Shape, Unknown, Repeated}
 use Rattle.labels.specs.declared.answers.Parsed.{Parsed}
 use Rattle.labels.specs.declared.answers.Parsed.the-variants as parsed
@@ -82,18 +83,26 @@ readParts im (level ∷ rest) =
     let p = placeOfName im 1 level in
     cond (ltb p (levels im)) (readSets im p (length level + 1) rest) (refused (UnknownName 0))
 
--- 1, 2, 3; then 5; then the leftmost name refused by 6 or 7
+-- 5; then the leftmost name refused by 6 or 7
+abbrev pub readText : List ℕ → List ℕ → Read
+readText im text = cond (shapeRule text) (readParts im (split colon text)) (refused TextShape)
+
+-- 1, 2, 3 before all others
 abbrev pub unlessRefused : Checked → Read → Read
 unlessRefused Accepted answer = answer
 unlessRefused (Refused r) answer = badImage r
 
 unfoldable pub parseOf : List ℕ → List ℕ → Read
-parseOf im text = unlessRefused (checkOf im) (cond (shapeRule text) (readParts im (split colon text)) (refused TextShape))
+parseOf im text = unlessRefused (checkOf im) (readText im text)
+
+-- a parse refusal carries one of three reasons, two of which carry an offset
+abbrev pub refusalOf : Reason → Refusal
+refusalOf Shape = TextShape
+refusalOf (Unknown offset) = UnknownName offset
+refusalOf (Repeated offset) = RepeatedName offset
 
 -- what an answer of the code stands for
 abbrev pub readOf : Parsed → Read
 readOf (parsed.Done l) = label (marksOf l)
-readOf (parsed.Refused Shape) = refused TextShape
-readOf (parsed.Refused (Unknown offset)) = refused (UnknownName offset)
-readOf (parsed.Refused (Repeated offset)) = refused (RepeatedName offset)
+readOf (parsed.Refused reason) = refused (refusalOf reason)
 readOf (parsed.BadImage r) = badImage r

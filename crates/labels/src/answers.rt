@@ -1,4 +1,6 @@
 // What reading label text gives.
+ghost use mathlib.Core.Path.{_≡_};
+ghost use Rattle.labels.specs.Parse.{refusalOf};
 use crate::label::Label;
 use refusals::Refusal;
 
@@ -15,4 +17,15 @@ pub enum Parsed {
     Refused(Reason),
     // 1, 2, 3: the image is not accepted.
     BadImage(Refusal),
+}
+
+// The refusal that tells the reason.
+pub fn refusal(reason: Reason) -> Refusal
+    ensures { λ r. ⌜ r ≡ refusalOf reason ⌝ }
+{
+    match reason {
+        Reason::Shape => Refusal::TextShape,
+        Reason::Unknown(offset) => Refusal::UnknownName(offset),
+        Reason::Repeated(offset) => Refusal::RepeatedName(offset),
+    }
 }

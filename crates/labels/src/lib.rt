@@ -1,5 +1,6 @@
 // Labels and their text, read and printed under a policy image.
 pub mod answers;
+pub mod given;
 pub mod label;
 mod lists;
 mod names;
@@ -23,7 +24,7 @@ pub fn parse(image: &[u8], text: &[u8]) -> Parsed
 {
     let answer = check(image);
     match answer {
-        Checked::Accepted => parts::read_text(image, text),
+        Checked::Accepted => given::read_text(image, text),
         Checked::Refused(refusal) => Parsed::BadImage(refusal),
     }
 }

@@ -69,7 +69,7 @@ fn read_sets(image: &[u8], text: &[u8], level: u8, end: usize) -> Parsed
 }
 
 // The level counts as a name, at offset 0.
-fn read_parts(image: &[u8], text: &[u8]) -> Parsed
+pub fn read_parts(image: &[u8], text: &[u8]) -> Parsed
     requires { ⌜ Counted (now image) ⌝ }
     ensures { λ r. ⌜ readOf r ≡ readParts (now (image .entry)) (split colon (now (text .entry))) ⌝ }
 {
@@ -79,15 +79,4 @@ fn read_parts(image: &[u8], text: &[u8]) -> Parsed
         return Parsed::Refused(Reason::Unknown(0));
     };
     read_sets(image, text, level as u8, end)
-}
-
-// The shape of the whole text comes before any of its names.
-pub fn read_text(image: &[u8], text: &[u8]) -> Parsed
-    requires { ⌜ Counted (now image) ⌝ }
-    ensures { λ r. ⌜ readOf r ≡ cond (shapeRule (now (text .entry))) (readParts (now (image .entry)) (split colon (now (text .entry)))) (refused TextShape) ⌝ }
-{
-    if !shape_ok(text) {
-        return Parsed::Refused(Reason::Shape);
-    }
-    read_parts(image, text)
 }

@@ -2,6 +2,7 @@
 // through `placesOf`, so that the type can hold more places without a change above it.
 ghost use mathlib.Core.Path.{_≡_};
 ghost use Prim.Native.Nat.{_*_, _/_, _%_, _^_, _<_, _≤_};
+ghost use lib.Dec.{eqb};
 ghost use Rattle.sets.specs.Sets as sets;
 ghost use Rattle.sets.specs.Sets.{one, allBelow, Lowest};
 ghost use Rattle.sets.specs.Groups.{placesOf, width};
@@ -62,6 +63,13 @@ impl Groups {
         ensures { λ r. ⌜ r ≡ sets.empty (placesOf self) ⌝ }
     {
         word::is_empty(self.w0)
+    }
+
+    // Have both sets the same places?
+    pub fn same(self, other: Groups) -> bool
+        ensures { λ r. ⌜ r ≡ eqb (placesOf self) (placesOf other) ⌝ }
+    {
+        self.w0 == other.w0
     }
 
     // Is every place in `other`?

@@ -1,8 +1,8 @@
 use mathlib.Core.Path.{sym, _∙_}
 use borrow.Author.Tests.{not-true, not-false}
 use borrow.Author.Needs.{needs}
-use Rattle.labels.proofs.parts.read_text.Statement.{statement}
-use Rattle.labels.proofs.parts.read_text.Tie as tie
+use Rattle.labels.proofs.given.read_text.Statement.{statement}
+use Rattle.labels.proofs.given.read_text.Tie as tie
 
 shape-ok-requires : tie.Need-shape-ok-requires
 shape-ok-requires c κs = search needs

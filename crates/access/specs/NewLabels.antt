@@ -1,0 +1,63 @@
+-- The rules for a new session label and a new row label, and refusal 19, which asks both of them of a lent session.
+use Prim.Native.Nat.{ℕ}
+use mathlib.Core.Bool.{Bool, true, false, cond, _&&_}
+use mathlib.Core.List.{List}
+use lib.Dec.{leb, ltb}
+use Rattle.refusals.specs.declared.Refusal.{Refusal}
+use Rattle.refusals.specs.declared.Refusal.the-variants.{LevelNotAllowed, CompartmentsNotAllowed, GroupsNotAllowed, RowLabelOutside}
+use Rattle.sets.specs.Sets.{within}
+use Rattle.records.specs.Layout.{users, userRecord}
+use Rattle.records.specs.Fields.{maximumLevel, minimumLevel, readCompartments, readGroups}
+use Rattle.hierarchy.specs.Below.{below}
+use Rattle.image.specs.declared.faults.Checked.{Checked}
+use Rattle.image.specs.declared.faults.Checked.the-variants.{Accepted, Refused}
+use Rattle.labels.specs.Label.{Marks}
+use Rattle.access.specs.Rights.{Rights, between, rightsAt}
+
+-- the refusal unless the rule holds; then the rest
+abbrev pub orRefuse : Bool → Refusal → Checked → Checked
+orRefuse rule refusal rest = cond rule rest (Refused refusal)
+
+-- the answer refuses nothing
+abbrev pub allowed : Checked → Bool
+allowed Accepted = true
+allowed (Refused r) = false
+
+-- ---- a row label beside a session
+-- its groups lie in the session's write groups
+unfoldable pub rowGroupsRule : Rights → ℕ → Bool
+rowGroupsRule rights groups = within groups (rights .writeGroups)
+
+-- the row label has level ≤ the session's, compartments and groups inside the session's write sets
+unfoldable pub rowInside : Rights → Marks → Bool
+rowInside rights row =
+    leb (row .level) (rights .level) && within (row .compartments) (rights .writeCompartments) && rowGroupsRule rights (row .groups)
+
+-- ---- a new session label
+-- its groups lie in below(read)
+unfoldable pub sessionGroupsRule : List ℕ → List ℕ → ℕ → Bool
+sessionGroupsRule im rec groups = within groups (below im (readGroups rec))
+
+-- minimum ≤ level ≤ maximum (8); compartments in read (9); groups in below(read) (10); and the present row label has level ≤ the
+-- new level, compartments and groups inside the new write sets (11)
+unfoldable pub sessionLabelAnswer : List ℕ → ℕ → Marks → Marks → Checked
+sessionLabelAnswer im u new row =
+    let rec = userRecord im u in
+    orRefuse (between (minimumLevel rec) (maximumLevel rec) (new .level)) LevelNotAllowed
+    (orRefuse (within (new .compartments) (readCompartments rec)) CompartmentsNotAllowed
+    (orRefuse (sessionGroupsRule im rec (new .groups)) GroupsNotAllowed
+    (orRefuse (rowInside (rightsAt im u new) row) RowLabelOutside Accepted)))
+
+-- ---- a new row label
+-- minimum ≤ level ≤ session level (8); compartments (9) and groups (10) inside the session's write sets
+unfoldable pub rowLabelAnswer : Rights → Marks → Checked
+rowLabelAnswer rights new =
+    orRefuse (between (rights .minimum) (rights .level) (new .level)) LevelNotAllowed
+    (orRefuse (within (new .compartments) (rights .writeCompartments)) CompartmentsNotAllowed
+    (orRefuse (rowGroupsRule rights (new .groups)) GroupsNotAllowed Accepted))
+
+-- ---- 19
+-- the user's place exists and both labels meet the two lists
+unfoldable pub sessionRule : List ℕ → ℕ → Marks → Marks → Bool
+sessionRule im u label row =
+    ltb u (users im) && allowed (sessionLabelAnswer im u label row) && allowed (rowLabelAnswer (rightsAt im u label) row)

@@ -1,0 +1,66 @@
+-- What a user's record and a session label give together. It is found once for a call and then asked of each row's label.
+use Prim.Native.Nat.{ℕ}
+use mathlib.Core.Bool.{Bool, _&&_}
+use mathlib.Core.List.{List}
+use lib.Dec.{leb}
+use Rattle.sets.specs.Sets.{intersection}
+use Rattle.sets.specs.Groups.{placesOf}
+use Rattle.records.specs.Layout.{userRecord}
+use Rattle.records.specs.Fields.{privileges, maximumLevel, minimumLevel, readCompartments, writeCompartments, readGroups, writeGroups}
+use Rattle.hierarchy.specs.Below.{below}
+use Rattle.labels.specs.Label.{Marks}
+use Rattle.access.specs.declared.rights.View.{View}
+
+-- lowest ≤ level ≤ highest
+abbrev pub between : ℕ → ℕ → ℕ → Bool
+between lowest highest level = leb lowest level && leb level highest
+
+-- the session's level and compartments, what lies below its groups, its write sets; the user's minimum level and privileges
+pub record Rights : Type 0 where
+  pub level : ℕ
+  pub compartments : ℕ
+  pub belowGroups : ℕ
+  pub writeCompartments : ℕ
+  pub writeGroups : ℕ
+  pub minimum : ℕ
+  pub privileges : ℕ
+
+-- the session's write compartments are its compartments that the user may write
+unfoldable pub writeCompartmentsOf : List ℕ → Marks → ℕ
+writeCompartmentsOf rec label = intersection (label .compartments) (writeCompartments rec)
+
+-- its write groups are below(session groups) ∩ below(write groups)
+unfoldable pub writeGroupsOf : List ℕ → List ℕ → Marks → ℕ
+writeGroupsOf im rec label = intersection (below im (label .groups)) (below im (writeGroups rec))
+
+-- what the user at place u has with that session label
+unfoldable pub rightsAt : List ℕ → ℕ → Marks → Rights
+rightsAt im u label =
+    let rec = userRecord im u in
+    record {
+      level = label .level;
+      compartments = label .compartments;
+      belowGroups = below im (label .groups);
+      writeCompartments = writeCompartmentsOf rec label;
+      writeGroups = writeGroupsOf im rec label;
+      minimum = minimumLevel rec;
+      privileges = privileges rec;
+    }
+
+-- the maximum read label: the user's maximum level with the read compartments and read groups
+unfoldable pub maximumReadLabel : List ℕ → ℕ → Marks
+maximumReadLabel im u =
+    let rec = userRecord im u in record { level = maximumLevel rec; compartments = readCompartments rec; groups = readGroups rec }
+
+-- what a view of the code stands for
+abbrev pub rightsOf : View → Rights
+rightsOf v =
+    record {
+      level = v .level;
+      compartments = v .compartments;
+      belowGroups = placesOf (v .«below_groups»);
+      writeCompartments = v .«write_compartments»;
+      writeGroups = placesOf (v .«write_groups»);
+      minimum = v .minimum;
+      privileges = v .privileges;
+    }

@@ -1,0 +1,114 @@
+-- Verdicts on a row's label: first the question on a label, then the tag's look-up.
+use Prim.Native.Nat.{ℕ}
+use mathlib.Core.Bool.{Bool, cond, not, _&&_, _||_}
+use mathlib.Core.List.{List}
+use lib.Dec.{leb, ltb}
+use Rattle.sets.specs.Sets.{has, empty, within, meets}
+use Rattle.records.specs.Layout.{labels, labelRecord}
+use Rattle.records.specs.Fields.{labelLevel, labelCompartments, labelGroups}
+use Rattle.image.specs.Lookup.{labelOfTag}
+use Rattle.labels.specs.Label.{Marks}
+use Rattle.access.specs.Rights.{Rights, between, rightsAt, maximumReadLabel}
+
+-- ---- privileges: bits 1, 2 and 4 of the record's byte are places 0, 1 and 2 of it as a set
+abbrev pub placeOfRead : ℕ
+placeOfRead = 0
+
+abbrev pub placeOfFull : ℕ
+placeOfFull = 1
+
+abbrev pub placeOfCompaccess : ℕ
+placeOfCompaccess = 2
+
+-- READ and FULL see every row
+unfoldable pub readsAll : Rights → Bool
+readsAll rights = has (rights .privileges) placeOfRead || has (rights .privileges) placeOfFull
+
+-- FULL writes every row
+unfoldable pub writesAll : Rights → Bool
+writesAll rights = has (rights .privileges) placeOfFull
+
+unfoldable pub holdsCompaccess : Rights → Bool
+holdsCompaccess rights = has (rights .privileges) placeOfCompaccess
+
+-- ---- reading
+-- row level ≤ session level
+unfoldable pub readLevelRule : Rights → Marks → Bool
+readLevelRule rights row = leb (row .level) (rights .level)
+
+-- row groups empty, or one of them in below(session groups)
+unfoldable pub readGroupsRule : Rights → Marks → Bool
+readGroupsRule rights row = empty (row .groups) || meets (row .groups) (rights .belowGroups)
+
+-- row compartments all in the session's
+unfoldable pub readCompartmentsRule : Rights → Marks → Bool
+readCompartmentsRule rights row = within (row .compartments) (rights .compartments)
+
+-- COMPACCESS: with the level test met, a row with compartments is also readable if the session has them all
+unfoldable pub compaccessReads : Rights → Marks → Bool
+compaccessReads rights row =
+    holdsCompaccess rights && readLevelRule rights row && not (empty (row .compartments)) && readCompartmentsRule rights row
+
+-- by level, groups and compartments, or by COMPACCESS
+unfoldable pub readTests : Rights → Marks → Bool
+readTests rights row =
+    readLevelRule rights row && readGroupsRule rights row && readCompartmentsRule rights row || compaccessReads rights row
+
+-- a row of that label is readable
+unfoldable pub readsLabel : Rights → Marks → Bool
+readsLabel rights row = readsAll rights || readTests rights row
+
+-- ---- writing
+-- minimum ≤ row level ≤ session level
+unfoldable pub writeLevelRule : Rights → Marks → Bool
+writeLevelRule rights row = between (rights .minimum) (rights .level) (row .level)
+
+-- one of the row's groups is in the write groups
+unfoldable pub writeGroupsRule : Rights → Marks → Bool
+writeGroupsRule rights row = meets (row .groups) (rights .writeGroups)
+
+-- row compartments all in the write compartments
+unfoldable pub writeCompartmentsRule : Rights → Marks → Bool
+writeCompartmentsRule rights row = within (row .compartments) (rights .writeCompartments)
+
+-- the row has groups: one is in the write groups, and all its compartments are in the session's. No groups: all its compartments
+-- are in the write compartments
+unfoldable pub writeSetsRule : Rights → Marks → Bool
+writeSetsRule rights row =
+    cond (empty (row .groups)) (writeCompartmentsRule rights row) (writeGroupsRule rights row && readCompartmentsRule rights row)
+
+-- COMPACCESS: with the level test of writing met, minimum included, a row with compartments is also writable if all are write
+-- compartments
+unfoldable pub compaccessWrites : Rights → Marks → Bool
+compaccessWrites rights row =
+    holdsCompaccess rights && writeLevelRule rights row && not (empty (row .compartments)) && writeCompartmentsRule rights row
+
+-- by level and sets, or by COMPACCESS
+unfoldable pub writeTests : Rights → Marks → Bool
+writeTests rights row = writeLevelRule rights row && writeSetsRule rights row || compaccessWrites rights row
+
+-- a row of that label is writable
+unfoldable pub writesLabel : Rights → Marks → Bool
+writesLabel rights row = writesAll rights || writeTests rights row
+
+-- ---- a verdict is asked of a tag
+-- the label of the k-th label record
+unfoldable pub labelAt : List ℕ → ℕ → Marks
+labelAt im k =
+    let rec = labelRecord im k in record { level = labelLevel rec; compartments = labelCompartments rec; groups = labelGroups rec }
+
+-- a label carries the tag
+unfoldable pub knownTag : List ℕ → ℕ → Bool
+knownTag im tag = ltb (labelOfTag im tag) (labels im)
+
+-- READ and FULL see every row, tag 0 and unknown tags too. Otherwise those two tags are denied
+unfoldable pub mayRead : List ℕ → Rights → ℕ → Bool
+mayRead im rights tag = cond (knownTag im tag) (readsLabel rights (labelAt im (labelOfTag im tag))) (readsAll rights)
+
+-- and FULL writes them
+unfoldable pub mayWrite : List ℕ → Rights → ℕ → Bool
+mayWrite im rights tag = cond (knownTag im tag) (writesLabel rights (labelAt im (labelOfTag im tag))) (writesAll rights)
+
+-- what is readable at the maximum read label follows the same rules
+unfoldable pub readableAtMaximum : List ℕ → ℕ → ℕ → Bool
+readableAtMaximum im u tag = mayRead im (rightsAt im u (maximumReadLabel im u)) tag

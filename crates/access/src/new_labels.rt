@@ -1,0 +1,108 @@
+// The rules for a new session label and a new row label.
+ghost use Prim.Native.Nat.{_<_};
+ghost use mathlib.Core.Path.{_≡_};
+ghost use Rattle.sets.specs.Sets.{within};
+ghost use Rattle.sets.specs.Groups.{placesOf};
+ghost use Rattle.records.specs.Layout.{users, userRecord};
+ghost use Rattle.records.specs.Fields.{minimumLevel, maximumLevel, readCompartments};
+ghost use Rattle.records.specs.Rules.{Counted};
+ghost use Rattle.hierarchy.specs.Below.{Tabled};
+ghost use Rattle.labels.specs.Label.{marksOf};
+ghost use Rattle.access.specs.Rights.{rightsOf, rightsAt, between};
+ghost use Rattle.access.specs.NewLabels.{sessionGroupsRule, rowInside, sessionLabelAnswer, rowLabelAnswer};
+use crate::rights::View;
+use hierarchy::table;
+use hierarchy::table::Table;
+use image::faults::Checked;
+use labels::label::Label;
+use records::users;
+use refusals::Refusal;
+use sets::groups::Groups;
+use sets::word;
+
+fn is_between(lowest: u8, highest: u8, level: u8) -> bool
+    ensures { λ r. ⌜ r ≡ between lowest highest level ⌝ }
+{
+    (lowest <= level) & (level <= highest)
+}
+
+// Is the row label no higher than the session's level, with compartments and groups inside the session's write sets?
+fn row_inside(view: View, row: Label) -> bool
+    ensures { λ r. ⌜ r ≡ rowInside (rightsOf view) (marksOf row) ⌝ }
+{
+    let groups = row.groups;
+    (row.level <= view.level)
+        & word::within(row.compartments, view.write_compartments)
+        & groups.within(view.write_groups)
+}
+
+// Is the level between the user's minimum and maximum?
+fn level_ok(image: &[u8], u: usize, level: u8) -> bool
+    requires { ⌜ Counted (now image) × (u < users (now image)) ⌝ }
+    ensures { λ r. ⌜ r ≡ between (minimumLevel (userRecord (now (image .entry)) u)) (maximumLevel (userRecord (now (image .entry)) u)) level ⌝ }
+{
+    let levels = users::user_levels(image, u);
+    is_between(levels.minimum, levels.maximum, level)
+}
+
+// May the user read all these compartments?
+fn compartments_ok(image: &[u8], u: usize, set: u64) -> bool
+    requires { ⌜ Counted (now image) × (u < users (now image)) ⌝ }
+    ensures { λ r. ⌜ r ≡ within set (readCompartments (userRecord (now (image .entry)) u)) ⌝ }
+{
+    let compartments = users::compartment_sets(image, u);
+    word::within(set, compartments.read)
+}
+
+// Do all these groups lie below the user's read groups?
+fn groups_ok(image: &[u8], table: &Table, u: usize, set: Groups) -> bool
+    requires { ⌜ Counted (now image) × (Tabled (now image) (now table) × (u < users (now image))) ⌝ }
+    ensures { λ r. ⌜ r ≡ sessionGroupsRule (now (image .entry)) (userRecord (now (image .entry)) u) (placesOf set) ⌝ }
+{
+    let groups = users::group_sets(image, u);
+    set.within(table::below(image, table, groups.read))
+}
+
+// May the user have the new session label beside that row label? The view is what the new label gives. Refusals: 8, 9, 10, 11.
+pub fn session_label_answer(
+    image: &[u8],
+    table: &Table,
+    u: usize,
+    new: Label,
+    view: View,
+    row: Label,
+) -> Checked
+    requires { ⌜ (Counted (now image) × (Tabled (now image) (now table) × (u < users (now image)))) × (rightsOf view ≡ rightsAt (now image) u (marksOf new)) ⌝ }
+    ensures { λ r. ⌜ r ≡ sessionLabelAnswer (now (image .entry)) u (marksOf new) (marksOf row) ⌝ }
+{
+    if !level_ok(image, u, new.level) {
+        return Checked::Refused(Refusal::LevelNotAllowed);
+    }
+    if !compartments_ok(image, u, new.compartments) {
+        return Checked::Refused(Refusal::CompartmentsNotAllowed);
+    }
+    if !groups_ok(image, table, u, new.groups) {
+        return Checked::Refused(Refusal::GroupsNotAllowed);
+    }
+    if !row_inside(view, row) {
+        return Checked::Refused(Refusal::RowLabelOutside);
+    }
+    Checked::Accepted
+}
+
+// May the session have the new row label? Refusals: 8, 9, 10.
+pub fn row_label_answer(view: View, new: Label) -> Checked
+    ensures { λ r. ⌜ r ≡ rowLabelAnswer (rightsOf view) (marksOf new) ⌝ }
+{
+    let groups = new.groups;
+    if !is_between(view.minimum, view.level, new.level) {
+        return Checked::Refused(Refusal::LevelNotAllowed);
+    }
+    if !word::within(new.compartments, view.write_compartments) {
+        return Checked::Refused(Refusal::CompartmentsNotAllowed);
+    }
+    if !groups.within(view.write_groups) {
+        return Checked::Refused(Refusal::GroupsNotAllowed);
+    }
+    Checked::Accepted
+}

@@ -1,0 +1,19 @@
+// Reading a text, for the crates above, once the image is known to be accepted.
+ghost use mathlib.Core.Path.{_≡_};
+ghost use Rattle.records.specs.Rules.{Counted};
+ghost use Rattle.labels.specs.Parse.{readText, readOf};
+use crate::answers::Parsed;
+use crate::answers::Reason;
+use crate::parts::read_parts;
+use crate::shape::shape_ok;
+
+// The shape of the whole text comes before any of its names.
+pub fn read_text(image: &[u8], text: &[u8]) -> Parsed
+    requires { ⌜ Counted (now image) ⌝ }
+    ensures { λ r. ⌜ readOf r ≡ readText (now (image .entry)) (now (text .entry)) ⌝ }
+{
+    if !shape_ok(text) {
+        return Parsed::Refused(Reason::Shape);
+    }
+    read_parts(image, text)
+}

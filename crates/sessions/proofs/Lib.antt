@@ -1,0 +1,5 @@
+-- What holds of sessions, for the crates above.
+--     Accepting  when a lent session is accepted
+--     Passing    an opened session and a changed session always pass 19
+pub mod Accepting
+pub mod Passing

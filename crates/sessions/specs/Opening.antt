@@ -1,0 +1,45 @@
+-- Opening takes a user name and gives the default label and the default row label.
+use Prim.Native.Nat.{ℕ}
+use mathlib.Core.Bool.{cond}
+use mathlib.Core.List.{List}
+use lib.Dec.{ltb}
+use Rattle.refusals.specs.declared.Refusal.{Refusal}
+use Rattle.refusals.specs.declared.Refusal.the-variants.{NoUser}
+use Rattle.records.specs.Layout.{users, userRecord}
+use Rattle.records.specs.Fields.{defaultLevel, defaultCompartments, defaultGroups, rowLevel, rowCompartments, rowGroups}
+use Rattle.image.specs.Check.{onChecked, checkOf}
+use Rattle.image.specs.Lookup.{userOfName}
+use Rattle.labels.specs.Label.{Marks}
+use Rattle.sessions.specs.Session.{SessionMarks, sessionOf}
+use Rattle.sessions.specs.declared.answers.Opened.{Opened}
+use Rattle.sessions.specs.declared.answers.Opened.the-variants as opened
+
+unfoldable pub defaultLabel : List ℕ → Marks
+defaultLabel rec = record { level = defaultLevel rec; compartments = defaultCompartments rec; groups = defaultGroups rec }
+
+unfoldable pub defaultRowLabel : List ℕ → Marks
+defaultRowLabel rec = record { level = rowLevel rec; compartments = rowCompartments rec; groups = rowGroups rec }
+
+-- the session that opens for the user at place u
+unfoldable pub defaultSession : List ℕ → ℕ → SessionMarks
+defaultSession im u =
+    let rec = userRecord im u in record { user = u; label = defaultLabel rec; row = defaultRowLabel rec }
+
+-- ---- the answer of `open`: a session, or a refusal
+pub data Opening : Type 0 where
+  session : SessionMarks → Opening
+  refused : Refusal → Opening
+
+-- 4 where no user has that name
+unfoldable pub openAccepted : List ℕ → List ℕ → Opening
+openAccepted im name =
+    let u = userOfName im name in cond (ltb u (users im)) (session (defaultSession im u)) (refused NoUser)
+
+-- 1, 2, 3 before it
+unfoldable pub openOf : List ℕ → List ℕ → Opening
+openOf im name = onChecked (checkOf im) refused (openAccepted im name)
+
+-- what an answer of the code stands for
+abbrev pub openingOf : Opened → Opening
+openingOf (opened.Done s) = session (sessionOf s)
+openingOf (opened.Refused r) = refused r

@@ -1,0 +1,59 @@
+// What a lent session gives its user: found once for a call, after the image's check and the session's rules.
+ghost use Prim.Native.Nat.{_<_};
+ghost use mathlib.Core.Path.{_≡_};
+ghost use Rattle.image.specs.Check.{IsAccepted};
+ghost use Rattle.sessions.specs.Session.{sessionOf};
+ghost use Rattle.sessions.specs.Lent.{LentGives};
+use crate::session::Session;
+use access::new_labels::row_label_answer;
+use access::new_labels::session_label_answer;
+use access::rights::View;
+use access::rights::rights_at;
+use hierarchy::table;
+use hierarchy::table::Table;
+use image::check;
+use image::faults::Checked;
+use records::layout;
+use refusals::Refusal;
+
+pub enum Lent {
+    At(View),
+    // 1, 2, 3, 19.
+    Refused(Refusal),
+}
+
+// 19 unless the user's place exists and both labels meet their rules.
+fn lent_accepted(image: &[u8], table: &mut Table, session: Session) -> Lent
+    requires { ⌜ IsAccepted (now image) ⌝ }
+    ensures { λ r. ⌜ LentGives (now (image .entry)) (now (table .exit)) (sessionOf session) r ⌝ }
+{
+    table::fill(image, table);
+    let user = session.user as usize;
+    if user >= layout::users(image) {
+        return Lent::Refused(Refusal::SessionRules);
+    }
+    let label = session.label;
+    let row = session.row;
+    let view = rights_at(image, table, user, label);
+    let label_answer = session_label_answer(image, table, user, label, view, row);
+    let Checked::Accepted = label_answer else {
+        return Lent::Refused(Refusal::SessionRules);
+    };
+    let row_answer = row_label_answer(view, row);
+    let Checked::Accepted = row_answer else {
+        return Lent::Refused(Refusal::SessionRules);
+    };
+    Lent::At(view)
+}
+
+// The session's rights, and the table of ancestors that they were found by; the table is the caller's scratch room. Refusals: 1, 2,
+// 3, 19.
+pub fn lent_rights(image: &[u8], table: &mut Table, session: Session) -> Lent
+    ensures { λ r. ⌜ LentGives (now (image .entry)) (now (table .exit)) (sessionOf session) r ⌝ }
+{
+    let answer = check(image);
+    match answer {
+        Checked::Accepted => lent_accepted(image, table, session),
+        Checked::Refused(refusal) => Lent::Refused(refusal),
+    }
+}
