@@ -6,6 +6,7 @@ use mathlib.Core.List.{List, _++_}
 use native.Mathlib.Nat.{pos-of-ne-zero}
 use native.Mathlib.Omega.{arith}
 use borrow.Author.Tests.{eq-eqb, ne-eqb, eqb-true, eqb-false}
+use mir.Val.{boolByte}
 use lib.Dec.{eqb, leb, ltb}
 use lib.ListN.{length, drop}
 use lib.Pow.{pow-mono}
@@ -14,40 +15,21 @@ use Rattle.sets.specs.Sets.{within, allBelow}
 use Rattle.sets.proofs.Bounds.{within-below}
 use Rattle.refusals.specs.declared.Refusal.{Refusal}
 use Rattle.refusals.specs.declared.Refusal.the-variants.{NoComponent, Room}
-use Rattle.refusals.specs.Refusals.{placeOf}
+use Rattle.refusals.specs.Refusals.{placeOf, answerOf}
 use Rattle.records.specs.Layout.{levels, compartments, groups}
 use Rattle.image.specs.declared.faults.Checked.{Checked}
 use Rattle.image.specs.declared.faults.Checked.the-variants.{Accepted, Refused}
-use Rattle.image.specs.Check.{checkOf, givenBack}
-use Rattle.image.specs.Lookup.{unlessLacking}
+use Rattle.image.specs.Check.{onChecked, checkOf}
 use Rattle.image.proofs.Accepted.{accepted-counted}
 use Rattle.image.proofs.Place.{check-place}
 use Rattle.labels.specs.Label.{Marks}
 use Rattle.labels.specs.declared.printing.Printed.{Printed}
 use Rattle.labels.specs.declared.printing.Printed.the-variants as printed
 use Rattle.labels.specs.Print.{textOf, labelExists, whenRoom, acceptedAnswer, unlessRefused, printOf}
-use Rattle.abi.specs.Answers.{word}
-use Rattle.abi.specs.Labels.{above, high, labelIn, printCode, printAnswer}
-
-above-zero : (w rest : ℕ) → eqb (above w rest) 0 ≡ (eqb w 0 && eqb rest 0)
-unfolding above
-above-zero w rest = at (eqb w 0) refl (eqb rest 0) refl
-  where
-    at : (s : Bool) → eqb w 0 ≡ s → (t : Bool) → eqb rest 0 ≡ t → eqb (w + 2 ^ 64 * rest) 0 ≡ (s && t)
-    at true e true d = eq-eqb (w + 2 ^ 64 * rest) 0 (omega (arith, eqb-true w 0 e, eqb-true rest 0 d))
-    at true e false d = ne-eqb (w + 2 ^ 64 * rest) 0 (λ (z : w + 2 ^ 64 * rest ≡ 0). eqb-false rest 0 d (omega arith))
-    at false e t d = ne-eqb (w + 2 ^ 64 * rest) 0 (λ (z : w + 2 ^ 64 * rest ≡ 0). eqb-false w 0 e (omega arith))
-
-pub three-zero : (a b c : ℕ) → (eqb a 0 && eqb b 0 && eqb c 0) ≡ eqb (above a (above b c)) 0
-three-zero a b c = and-assoc (eqb a 0) (eqb b 0) (eqb c 0) ∙ ap (λ (t : Bool). eqb a 0 && t) (sym (above-zero b c)) ∙ sym (above-zero a (above b c))
-
-pub above-none : (w rest : ℕ) → rest ≡ 0 → w ≡ above w rest
-unfolding above
-above-none w rest e = omega arith
-
-above-large : (w rest : ℕ) → (rest ≡ 0 → ⊥) → 2 ^ 64 ≤ above w rest
-unfolding above
-above-large w rest n = omega (arith, pos-of-ne-zero n)
+use Rattle.abi.specs.Answers.{afterCheck}
+use Rattle.encoding.specs.Labels.{high, labelIn}
+use Rattle.encoding.proofs.Wide.{above-large}
+use Rattle.abi.specs.Labels.{printCode, printAnswer}
 
 -- a label that names a group past the 64th is not one of an accepted image
 wide-lacks : (im bytes : List ℕ) → checkOf im ≡ Accepted → (high bytes ≡ 0 → ⊥) → labelExists im (labelIn bytes) ≡ false
@@ -76,14 +58,14 @@ unfolding acceptedAnswer
 wide-answer im bytes buffer acc wide = rw (wide-lacks im bytes acc wide)
 
 pub wide-print : (im bytes buffer : List ℕ) → (high bytes ≡ 0 → ⊥)
-    → _≡_ {A = ℕ × List ℕ} (printAnswer im bytes buffer) (word (givenBack (unlessLacking (checkOf im) false)) 0, buffer)
+    → _≡_ {A = ℕ × List ℕ} (printAnswer im bytes buffer) (afterCheck im NoComponent, buffer)
 unfolding printOf
 wide-print im bytes buffer wide = at (checkOf im) refl
   where
     at : (c : Checked) → checkOf im ≡ c
         → _≡_ {A = ℕ × List ℕ}
         (printCode (unlessRefused c (acceptedAnswer im (labelIn bytes) buffer) buffer .0), unlessRefused c (acceptedAnswer im (labelIn bytes) buffer) buffer .1)
-        (word (givenBack (unlessLacking c false)) 0, buffer)
+        (onChecked c answerOf (answerOf NoComponent), buffer)
     at Accepted e = rw (wide-answer im bytes buffer e wide)
     at (Refused r) e = refl
 
@@ -110,3 +92,8 @@ print-told im m buffer r e = subst (λ (a : Printed). told a < 2 ^ 32) e (at (ch
     at : (c : Checked) → checkOf im ≡ c → told (unlessRefused c (acceptedAnswer im m buffer) buffer .0) < 2 ^ 32
     at Accepted d = accepted-told im m buffer
     at (Refused q) d = omega (arith, check-place im q d)
+
+-- a truth value as a number
+pub byte-cond : (t : Bool) → boolByte t ≡ cond t 1 0
+byte-cond true = refl
+byte-cond false = refl

@@ -1,20 +1,22 @@
 // The C functions. Each takes the bytes apart, makes the call and lays its answer down in one number.
-mod answers;
-mod bytes48;
-
+ghost use Prim.Native.Nat.{_^_, _<_};
 ghost use mathlib.Core.Path.{_≡_};
-ghost use mathlib.Core.Bool.{false};
-ghost use Rattle.image.specs.Check.{checkOf, givenBack};
-ghost use Rattle.image.specs.Lookup.{unlessLacking};
-ghost use Rattle.abi.specs.Answers.{word, checkAnswer, nameSpan};
+ghost use Rattle.refusals.specs.Refusals.{placeOf};
+ghost use Rattle.abi.specs.Answers.{afterCheck, checkAnswer, nameSpan};
 ghost use Rattle.abi.specs.Labels.{parseAnswer, printAnswer};
-use answers::refused;
+ghost use Rattle.abi.specs.Sessions.{openAnswer, setLabelAnswer, setRowLabelAnswer, mayReadAnswer, mayWriteAnswer};
+ghost use Rattle.abi.specs.TwoLabels.{dominatesAnswer, strictlyDominatesAnswer, mergeAnswer};
+use access::merging::Merged;
+use encoding::answers::refused;
+use encoding::answers::verdict_code;
+use encoding::bytes48;
+use encoding::bytes104;
 use image::faults::Checked;
 use image::lookup;
 use labels::answers::Parsed;
-use labels::answers::Reason;
 use labels::printing::Printed;
 use refusals::Refusal;
+use sessions::answers::Opened;
 
 // Is the image accepted? Done: 0.
 #[no_mangle]
@@ -44,13 +46,14 @@ pub extern "C" fn brawnesk_name(image: &[u8], class: u8, place: u8) -> u64
     }
 }
 
-// What a label is answered that names groups that no image has.
-fn unprinted(image: &[u8]) -> u64
-    ensures { λ r. ⌜ r ≡ word (givenBack (unlessLacking (checkOf (now (image .entry))) false)) 0 ⌝ }
+// The refusal of the image, and of an accepted one that refusal.
+fn after_check(image: &[u8], refusal: Refusal) -> u64
+    requires { ⌜ placeOf refusal < 2 ^ 32 ⌝ }
+    ensures { λ r. ⌜ r ≡ afterCheck (now (image .entry)) refusal ⌝ }
 {
     let answer = image::check(image);
     match answer {
-        Checked::Accepted => refused(Refusal::NoComponent),
+        Checked::Accepted => refused(refusal),
         Checked::Refused(r) => refused(r),
     }
 }
@@ -66,11 +69,7 @@ pub extern "C" fn brawnesk_parse(image: &[u8], text: &[u8], label: &mut [u8; 48]
             *label = bytes48::label_bytes(read);
             0
         }
-        Parsed::Refused(reason) => match reason {
-            Reason::Shape => refused(Refusal::TextShape),
-            Reason::Unknown(offset) => refused(Refusal::UnknownName(offset)),
-            Reason::Repeated(offset) => refused(Refusal::RepeatedName(offset)),
-        },
+        Parsed::Refused(reason) => refused(labels::answers::refusal(reason)),
         Parsed::BadImage(r) => refused(r),
     }
 }
@@ -81,11 +80,131 @@ pub extern "C" fn brawnesk_print(image: &[u8], label: &[u8; 48], text: &mut [u8]
     ensures { λ r. ⌜ (r, now (text .exit)) ≡ printAnswer (now (image .entry)) (now (label .entry)) (now (text .entry)) ⌝ }
 {
     if !bytes48::few_groups(label) {
-        return unprinted(image);
+        return after_check(image, Refusal::NoComponent);
     }
     let answer = labels::print(image, bytes48::label_in(label), text);
     match answer {
         Printed::Done(n) => n as u64,
         Printed::Refused(r) => refused(r),
+    }
+}
+
+// Opens a session for the user of that name. Done: 0.
+#[no_mangle]
+pub extern "C" fn brawnesk_open(image: &[u8], name: &[u8], session: &mut [u8; 104]) -> u64
+    ensures { λ r. ⌜ (r, now (session .exit)) ≡ openAnswer (now (image .entry)) (now (name .entry)) (now (session .entry)) ⌝ }
+{
+    let answer = sessions::open(image, name);
+    match answer {
+        Opened::Done(opened) => {
+            *session = bytes104::session_bytes(opened);
+            0
+        }
+        Opened::Refused(r) => refused(r),
+    }
+}
+
+// Gives the session the label that the text names. Done: 0.
+#[no_mangle]
+pub extern "C" fn brawnesk_set_label(image: &[u8], session: &mut [u8; 104], text: &[u8]) -> u64
+    ensures { λ r. ⌜ (r, now (session .exit)) ≡ setLabelAnswer (now (image .entry)) (now (session .entry)) (now (text .entry)) ⌝ }
+{
+    if !bytes104::session_fits(session) {
+        return after_check(image, Refusal::SessionRules);
+    }
+    let change = bytes104::session_in(session).set_label(image, text);
+    let answer = change.answer;
+    match answer {
+        Checked::Accepted => {
+            *session = bytes104::session_bytes(change.session);
+            0
+        }
+        Checked::Refused(r) => refused(r),
+    }
+}
+
+// Gives the session the row label that the text names. Done: 0.
+#[no_mangle]
+pub extern "C" fn brawnesk_set_row_label(image: &[u8], session: &mut [u8; 104], text: &[u8]) -> u64
+    ensures { λ r. ⌜ (r, now (session .exit)) ≡ setRowLabelAnswer (now (image .entry)) (now (session .entry)) (now (text .entry)) ⌝ }
+{
+    if !bytes104::session_fits(session) {
+        return after_check(image, Refusal::SessionRules);
+    }
+    let change = bytes104::session_in(session).set_row_label(image, text);
+    let answer = change.answer;
+    match answer {
+        Checked::Accepted => {
+            *session = bytes104::session_bytes(change.session);
+            0
+        }
+        Checked::Refused(r) => refused(r),
+    }
+}
+
+// May the session read a row of that tag? Done: 1 yes, 0 no.
+#[no_mangle]
+pub extern "C" fn brawnesk_may_read(image: &[u8], session: &[u8; 104], tag: u32) -> u64
+    ensures { λ r. ⌜ r ≡ mayReadAnswer (now (image .entry)) (now (session .entry)) tag ⌝ }
+{
+    if !bytes104::session_fits(session) {
+        return after_check(image, Refusal::SessionRules);
+    }
+    verdict_code(bytes104::session_in(session).may_read(image, tag))
+}
+
+// May the session write a row of that tag? Done: 1 yes, 0 no.
+#[no_mangle]
+pub extern "C" fn brawnesk_may_write(image: &[u8], session: &[u8; 104], tag: u32) -> u64
+    ensures { λ r. ⌜ r ≡ mayWriteAnswer (now (image .entry)) (now (session .entry)) tag ⌝ }
+{
+    if !bytes104::session_fits(session) {
+        return after_check(image, Refusal::SessionRules);
+    }
+    verdict_code(bytes104::session_in(session).may_write(image, tag))
+}
+
+// Does label 1 dominate label 2? 1 yes, 0 no.
+#[no_mangle]
+pub extern "C" fn brawnesk_dominates(label1: &[u8; 48], label2: &[u8; 48]) -> u64
+    ensures { λ r. ⌜ r ≡ dominatesAnswer (now (label1 .entry)) (now (label2 .entry)) ⌝ }
+{
+    let yes = access::dominates(bytes48::low_label_in(label1), bytes48::low_label_in(label2));
+    yes as u64
+}
+
+// And the labels differ. 1 yes, 0 no.
+#[no_mangle]
+pub extern "C" fn brawnesk_strictly_dominates(label1: &[u8; 48], label2: &[u8; 48]) -> u64
+    ensures { λ r. ⌜ r ≡ strictlyDominatesAnswer (now (label1 .entry)) (now (label2 .entry)) ⌝ }
+{
+    let yes = access::strictly_dominates(
+        bytes48::low_label_in(label1),
+        bytes48::low_label_in(label2),
+    );
+    yes as u64
+}
+
+// One label of two, by three letters. Done: 0.
+#[no_mangle]
+pub extern "C" fn brawnesk_merge(
+    label1: &[u8; 48],
+    label2: &[u8; 48],
+    letters: &[u8],
+    merged: &mut [u8; 48],
+) -> u64
+    ensures { λ r. ⌜ (r, now (merged .exit)) ≡ mergeAnswer (now (label1 .entry)) (now (label2 .entry)) (now (letters .entry)) (now (merged .entry)) ⌝ }
+{
+    let answer = access::merge(
+        bytes48::low_label_in(label1),
+        bytes48::low_label_in(label2),
+        letters,
+    );
+    match answer {
+        Merged::Done(label) => {
+            *merged = bytes48::label_bytes(label);
+            0
+        }
+        Merged::Refused(r) => refused(r),
     }
 }

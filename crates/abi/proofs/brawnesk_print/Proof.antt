@@ -8,11 +8,11 @@ use Rattle.abi.proofs.brawnesk_print.Tie as tie
 few-groups-requires : tie.Need-few-groups-requires
 few-groups-requires c κs = search needs
 
-unprinted-requires : tie.Need-unprinted-requires
-unprinted-requires c κs = search needs
+after-check-requires : tie.Need-after-check-requires
+after-check-requires c κs = search needs
 
 returns : tie.Need-returns
-returns c = rw (c .unprinted .ensures) (sym (wide-print _ _ _ (eqb-false _ _ (sym (c .before .before .few-groups .ensures) ∙ not-true _ (c .before .if1 .taken)))))
+returns c = rw (c .after-check .ensures) (sym (wide-print _ _ _ (eqb-false _ _ (sym (c .before .before .few-groups .ensures) ∙ not-true _ (c .before .if1 .taken)))))
 
 label-in-requires : tie.Need-label-in-requires
 label-in-requires c κs = (search needs, eqb-true _ _ (sym (c .before .before .few-groups .ensures) ∙ not-false _ (c .before .if1 .left)))
@@ -46,7 +46,7 @@ brawnesk-print-spec =
     tie.close
     (tie.spec
     few-groups-requires
-    unprinted-requires
+    after-check-requires
     returns
     label-in-requires
     print-requires

@@ -2,8 +2,8 @@ use mathlib.Core.Path.{_≡_, sym, _∙_}
 use native.Mathlib.Omega.{arith}
 use borrow.Author.Needs.{needs}
 use Rattle.image.proofs.Place.{check-place}
-use Rattle.abi.proofs.unprinted.Statement.{statement}
-use Rattle.abi.proofs.unprinted.Tie as tie
+use Rattle.abi.proofs.after_check.Statement.{statement}
+use Rattle.abi.proofs.after_check.Tie as tie
 
 check-requires : tie.Need-check-requires
 check-requires c κs = search needs
@@ -26,8 +26,8 @@ returns c = rw (← c .before .before .before .check .ensures, c .before .enum-t
 returns-2 : tie.Need-returns-2
 returns-2 c = rw (← c .before .before .before .before .check .ensures, c .before .before .answer .given .1) (c .refused2 .ensures)
 
-pub unprinted-spec : {M : Type 1} → statement M
-unprinted-spec =
+pub after-check-spec : {M : Type 1} → statement M
+after-check-spec =
     tie.close
     (tie.spec
     check-requires

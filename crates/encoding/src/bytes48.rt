@@ -6,7 +6,7 @@ ghost use lib.Dec.{eqb};
 ghost use lib.ListN.{length};
 ghost use Rattle.fields.specs.Bytes.{number8};
 ghost use Rattle.labels.specs.Label.{marksOf};
-ghost use Rattle.abi.specs.Labels.{labelBytes, labelIn, high};
+ghost use Rattle.encoding.specs.Labels.{labelBytes, labelIn, lowLabelIn, high};
 use fields::numbers::number8;
 use labels::label::Label;
 use sets::groups::Groups;
@@ -51,6 +51,14 @@ pub fn few_groups(bytes: &[u8]) -> bool
 pub fn label_in(bytes: &[u8]) -> Label
     requires { ⌜ (length (now bytes) ≡ 48) × (high (now bytes) ≡ 0) ⌝ }
     ensures { λ r. ⌜ marksOf r ≡ labelIn (now (bytes .entry)) ⌝ }
+{
+    low_label_in(bytes)
+}
+
+// The label that the bytes hold, but for the groups past the 64th.
+pub fn low_label_in(bytes: &[u8]) -> Label
+    requires { ⌜ length (now bytes) ≡ 48 ⌝ }
+    ensures { λ r. ⌜ marksOf r ≡ lowLabelIn (now (bytes .entry)) ⌝ }
 {
     Label {
         level: bytes[4],

@@ -2,7 +2,9 @@
 ghost use Prim.Native.Nat.{_^_, _<_};
 ghost use mathlib.Core.Path.{_≡_};
 ghost use Rattle.refusals.specs.Refusals.{placeOf, answerOf};
+ghost use Rattle.encoding.specs.Verdicts.{verdictPlace, verdictCode};
 use refusals::Refusal;
+use sessions::answers::Verdict;
 
 // 2^63 + number × 2^32 + place.
 pub fn refused(r: Refusal) -> u64
@@ -12,4 +14,16 @@ pub fn refused(r: Refusal) -> u64
     let number = refusals::number(r) as u64;
     let place = refusals::place(r) as u64;
     9223372036854775808 + number * 4294967296 + place
+}
+
+// 1 yes, 0 no.
+pub fn verdict_code(verdict: Verdict) -> u64
+    requires { ⌜ verdictPlace verdict < 2 ^ 32 ⌝ }
+    ensures { λ n. ⌜ n ≡ verdictCode verdict ⌝ }
+{
+    match verdict {
+        Verdict::Yes => 1,
+        Verdict::No => 0,
+        Verdict::Refused(r) => refused(r),
+    }
 }

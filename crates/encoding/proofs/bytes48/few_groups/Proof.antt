@@ -1,7 +1,7 @@
 use borrow.Author.Needs.{needs}
-use Rattle.abi.proofs.Lending.{three-zero}
-use Rattle.abi.proofs.bytes48.few_groups.Statement.{statement}
-use Rattle.abi.proofs.bytes48.few_groups.Tie as tie
+use Rattle.encoding.proofs.Wide.{three-zero}
+use Rattle.encoding.proofs.bytes48.few_groups.Statement.{statement}
+use Rattle.encoding.proofs.bytes48.few_groups.Tie as tie
 
 number8-requires : tie.Need-number8-requires
 number8-requires c κs = search needs

@@ -2,9 +2,9 @@ use mathlib.Core.Path.{_≡_, refl}
 use borrow.Author.Needs.{needs}
 use Rattle.sets.specs.Groups.{placesOf}
 use Rattle.hierarchy.proofs.Steps.{word-whole}
-use Rattle.abi.specs.Labels.{labelBytes}
-use Rattle.abi.proofs.bytes48.label_bytes.Statement.{statement}
-use Rattle.abi.proofs.bytes48.label_bytes.Tie as tie
+use Rattle.encoding.specs.Labels.{labelBytes}
+use Rattle.encoding.proofs.bytes48.label_bytes.Statement.{statement}
+use Rattle.encoding.proofs.bytes48.label_bytes.Tie as tie
 
 word-requires : tie.Need-word-requires
 word-requires c κs = search needs

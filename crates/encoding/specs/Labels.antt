@@ -1,0 +1,33 @@
+-- A label in 48 bytes: byte 4 the level place, 8..15 compartments, 16..47 groups, little-endian sets. The other bytes are written as zero and not looked at.
+use Prim.Native.Nat.{ℕ, _+_, _*_, _/_, _%_, _^_}
+use mathlib.Core.List.{List, [], _∷_, _++_}
+use lib.ListN.{replicate}
+use Rattle.fields.specs.Bytes.{byteAt, number8}
+use Rattle.labels.specs.Label.{Marks}
+
+-- the eight bytes of a word, the lowest first
+abbrev pub bytes8 : ℕ → List ℕ
+bytes8 w =
+    w % 256 ∷ w / 256 % 256 ∷ w / 65536 % 256 ∷ w / 16777216 % 256 ∷ w / 4294967296 % 256 ∷ w / 1099511627776 % 256
+    ∷ w / 281474976710656 % 256 ∷ w / 72057594037927936 % 256 ∷ []
+
+unfoldable pub labelBytes : Marks → List ℕ
+labelBytes m =
+    0 ∷ 0 ∷ 0 ∷ 0 ∷ m .level ∷ 0 ∷ 0 ∷ 0 ∷ bytes8 (m .compartments) ++ bytes8 (m .groups) ++ replicate 24 0
+
+-- the places of a word, and those of a set past the 64th
+unfoldable pub above : ℕ → ℕ → ℕ
+above word rest = word + 2 ^ 64 * rest
+
+-- the groups past the 64th
+abbrev pub high : List ℕ → ℕ
+high bytes = above (number8 bytes 24) (above (number8 bytes 32) (number8 bytes 40))
+
+-- the label that 48 bytes hold; the bytes that no field has are not looked at
+unfoldable pub labelIn : List ℕ → Marks
+labelIn bytes =
+    record { level = byteAt bytes 4; compartments = number8 bytes 8; groups = above (number8 bytes 16) (high bytes) }
+
+-- the label that 48 bytes hold, but for the groups past the 64th, for calls that are lent no image
+unfoldable pub lowLabelIn : List ℕ → Marks
+lowLabelIn bytes = record { level = byteAt bytes 4; compartments = number8 bytes 8; groups = number8 bytes 16 }

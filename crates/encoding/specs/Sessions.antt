@@ -1,0 +1,24 @@
+-- A session in 104 bytes: byte 0 the user's place, byte 1 the signed-on user's place, which equals it; 2..7 are written as zero and
+-- not looked at; 8..55 session label; 56..103 row label.
+use Prim.Native.Nat.{ℕ}
+use mathlib.Core.Bool.{Bool, _&&_}
+use mathlib.Core.List.{List, _∷_, _++_}
+use lib.Dec.{eqb}
+use Rattle.fields.specs.Bytes.{byteAt, part}
+use Rattle.sessions.specs.Session.{SessionMarks}
+use Rattle.encoding.specs.Labels.{labelBytes, labelIn, high}
+
+unfoldable pub sessionBytes : SessionMarks → List ℕ
+sessionBytes s = s .user ∷ s .user ∷ 0 ∷ 0 ∷ 0 ∷ 0 ∷ 0 ∷ 0 ∷ labelBytes (s .label) ++ labelBytes (s .row)
+
+-- the session that 104 bytes hold
+unfoldable pub sessionIn : List ℕ → SessionMarks
+sessionIn bytes = record { user = byteAt bytes 0; label = labelIn (part bytes 8 48); row = labelIn (part bytes 56 48) }
+
+-- the signed-on user is the user
+abbrev pub oneUser : List ℕ → Bool
+oneUser bytes = eqb (byteAt bytes 1) (byteAt bytes 0)
+
+-- one user, and no group past the 64th in either label: such groups no image has
+unfoldable pub sessionFits : List ℕ → Bool
+sessionFits bytes = oneUser bytes && eqb (high (part bytes 8 48)) 0 && eqb (high (part bytes 56 48)) 0

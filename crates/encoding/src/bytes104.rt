@@ -1,0 +1,44 @@
+// A session in 104 bytes.
+ghost use mathlib.Core.Path.{_≡_};
+ghost use mathlib.Core.Bool.{true};
+ghost use lib.ListN.{length};
+ghost use Rattle.sessions.specs.Session.{sessionOf};
+ghost use Rattle.encoding.specs.Sessions.{sessionBytes, sessionIn, sessionFits};
+use crate::bytes48::few_groups;
+use crate::bytes48::label_bytes;
+use crate::bytes48::label_in;
+use sessions::session::Session;
+
+// Each byte of the session; the unused ones are zero.
+pub fn session_bytes(session: Session) -> [u8; 104]
+    ensures { λ r. ⌜ r ≡ sessionBytes (sessionOf session) ⌝ }
+{
+    let mut b = [0u8; 104];
+    b[0] = session.user;
+    b[1] = session.user;
+    let label = label_bytes(session.label);
+    let row = label_bytes(session.row);
+    bytes::copy(&label, &mut b[8..56]);
+    bytes::copy(&row, &mut b[56..104]);
+    b
+}
+
+// Has the session one user, and do its labels name only groups that an image of edition 1 can have?
+pub fn session_fits(bytes: &[u8]) -> bool
+    requires { ⌜ length (now bytes) ≡ 104 ⌝ }
+    ensures { λ r. ⌜ r ≡ sessionFits (now (bytes .entry)) ⌝ }
+{
+    (bytes[1] == bytes[0]) & few_groups(&bytes[8..56]) & few_groups(&bytes[56..104])
+}
+
+// The session that the bytes hold, where they name no other groups.
+pub fn session_in(bytes: &[u8]) -> Session
+    requires { ⌜ (length (now bytes) ≡ 104) × (sessionFits (now bytes) ≡ true) ⌝ }
+    ensures { λ r. ⌜ sessionOf r ≡ sessionIn (now (bytes .entry)) ⌝ }
+{
+    Session {
+        user: bytes[0],
+        label: label_in(&bytes[8..56]),
+        row: label_in(&bytes[56..104]),
+    }
+}
