@@ -1,8 +1,21 @@
-//! What two programs are compared by: the model's result as an answer, and how often each came.
+//! What two programs are compared by: the model's result as an answer, the seeds, and how often each
+//! answer came.
 
 use crate::ffi::Answer;
 use crate::model::Refusal;
 use std::collections::BTreeMap;
+use std::ops::Range;
+
+/// The one seed that is asked for by `BRAWNESK_SEED`.
+pub fn one_seed() -> Option<u64> {
+    let seed = std::env::var("BRAWNESK_SEED").ok()?;
+    Some(seed.parse().expect("a seed is a number"))
+}
+
+/// All seeds, or the one that is asked for.
+pub fn seeds(all: Range<u64>) -> Range<u64> {
+    one_seed().map_or(all, |seed| seed..seed + 1)
+}
 
 /// The answer that the library has to give where the model gives a result.
 pub fn expected(result: Result<u64, Refusal>) -> Answer {
@@ -34,5 +47,41 @@ impl Tally {
             let times = self.0.get(&number).copied().unwrap_or(0);
             assert!(times >= least, "answer {number} came {times} times");
         }
+    }
+}
+
+/// How often each answer came to each call: "done", or "yes" and "no", or the refusal's number.
+#[derive(Debug, Default)]
+pub struct CallTally(BTreeMap<(&'static str, String), usize>);
+
+impl CallTally {
+    pub fn add(&mut self, call: &'static str, is_verdict: bool, answer: Answer) {
+        let outcome = match answer {
+            Answer::Refused { number, .. } => number.to_string(),
+            Answer::Done(_) if !is_verdict => "done".to_string(),
+            Answer::Done(0) => "no".to_string(),
+            Answer::Done(_) => "yes".to_string(),
+        };
+        *self.0.entry((call, outcome)).or_default() += 1;
+    }
+
+    pub fn times(&self, call: &'static str, outcome: &str) -> usize {
+        let key = (call, outcome.to_string());
+        self.0.get(&key).copied().unwrap_or(0)
+    }
+
+    /// Asks that each of the outcomes came at least so often to the call.
+    pub fn assert_least(&self, call: &'static str, outcomes: &[&str], least: usize) {
+        for outcome in outcomes {
+            let times = self.times(call, outcome);
+            assert!(times >= least, "{call}: {outcome} came {times} times");
+        }
+    }
+
+    /// Asks that yes and no are each at least 15 % of a verdict's answers that are not refused.
+    pub fn assert_both(&self, call: &'static str) {
+        let [yes, no] = ["yes", "no"].map(|outcome| self.times(call, outcome));
+        let least = (yes + no) * 15 / 100;
+        assert!(yes.min(no) >= least, "{call}: {yes} yes, {no} no");
     }
 }

@@ -22,108 +22,173 @@ impl Answer {
     }
 }
 
-/// `brawnesk_check`.
-pub fn check(image: &[u8]) -> Answer {
-    Answer::decode(library::check(image))
-}
-
-/// `brawnesk_name`: when done, the name's offset in the image + 65,536 * its length.
-pub fn name(image: &[u8], class: u8, place: u8) -> Answer {
-    Answer::decode(library::name(image, class, place))
-}
-
-/// `brawnesk_parse`: when done, the label is written.
-pub fn parse(image: &[u8], text: &[u8], label: &mut [u8; LABEL]) -> Answer {
-    Answer::decode(library::parse(image, text, label))
-}
-
-/// `brawnesk_print`: when done, the length of the text at the front of `out`.
-pub fn print(image: &[u8], label: &[u8; LABEL], out: &mut [u8]) -> Answer {
-    Answer::decode(library::print(image, label, out))
-}
-
 /// The bytes of a label.
 pub const LABEL: usize = 48;
+
+/// The bytes of a session.
+pub const SESSION: usize = 104;
 
 /// False where the archive was absent when this package was built.
 pub const LINKED: bool = cfg!(not(no_library));
 
-#[cfg(not(no_library))]
-mod library {
-    extern "C" {
-        fn brawnesk_check(image: *const u8, len: usize) -> u64;
-        fn brawnesk_name(image: *const u8, len: usize, class: u8, place: u8) -> u64;
-    }
+#[cfg(no_library)]
+const ABSENT: &str = "libabi.a is absent: build it (rt staticlib abi), or set BRAWNESK_LIB_DIR";
 
-    extern "C" {
-        fn brawnesk_parse(
-            image: *const u8,
-            len: usize,
-            text: *const u8,
-            text_len: usize,
-            label: *mut u8,
-        ) -> u64;
-        fn brawnesk_print(
-            image: *const u8,
-            len: usize,
-            label: *const u8,
-            out: *mut u8,
-            out_len: usize,
-        ) -> u64;
-    }
-
-    // A slice's pointer is never null in Rust, not even an empty one's; the library asks for that.
-
-    pub fn check(image: &[u8]) -> u64 {
-        // SAFETY: the pointer and the length are those of a borrowed slice, which the call only reads.
-        unsafe { brawnesk_check(image.as_ptr(), image.len()) }
-    }
-
-    pub fn name(image: &[u8], class: u8, place: u8) -> u64 {
-        // SAFETY: as in `check`.
-        unsafe { brawnesk_name(image.as_ptr(), image.len(), class, place) }
-    }
-
-    pub fn parse(image: &[u8], text: &[u8], label: &mut [u8; super::LABEL]) -> u64 {
-        let (text, text_len) = (text.as_ptr(), text.len());
-        // SAFETY: as in `check`; the label is borrowed alone, and the call writes its 48 bytes only.
-        unsafe {
-            brawnesk_parse(
-                image.as_ptr(),
-                image.len(),
-                text,
-                text_len,
-                label.as_mut_ptr(),
-            )
+/// Declares the C functions, each of which gives a `u64`. Without the archive each call panics.
+macro_rules! functions {
+    ($(fn $name:ident($($argument:ident: $type:ty),* $(,)?);)*) => {
+        #[cfg(not(no_library))]
+        extern "C" {
+            $(fn $name($($argument: $type),*) -> u64;)*
         }
-    }
 
-    pub fn print(image: &[u8], label: &[u8; super::LABEL], out: &mut [u8]) -> u64 {
-        let (out, out_len) = (out.as_mut_ptr(), out.len());
-        // SAFETY: as in `check`; `out` is borrowed alone, and the call writes inside it only.
-        unsafe { brawnesk_print(image.as_ptr(), image.len(), label.as_ptr(), out, out_len) }
-    }
+        $(
+            #[cfg(no_library)]
+            unsafe fn $name($(_: $type),*) -> u64 {
+                panic!("{ABSENT}")
+            }
+        )*
+    };
 }
 
-#[cfg(no_library)]
-mod library {
-    const ABSENT: &str = "libabi.a is absent: build it (rt staticlib abi), or set BRAWNESK_LIB_DIR";
+functions! {
+    fn brawnesk_check(image: *const u8, length: usize);
+    fn brawnesk_name(image: *const u8, length: usize, class: u8, place: u8);
+    fn brawnesk_parse(
+        image: *const u8,
+        length: usize,
+        text: *const u8,
+        text_length: usize,
+        label: *mut u8,
+    );
+    fn brawnesk_print(
+        image: *const u8,
+        length: usize,
+        label: *const u8,
+        out: *mut u8,
+        out_length: usize,
+    );
+    fn brawnesk_open(
+        image: *const u8,
+        length: usize,
+        name: *const u8,
+        name_length: usize,
+        session: *mut u8,
+    );
+    fn brawnesk_set_label(
+        image: *const u8,
+        length: usize,
+        session: *mut u8,
+        text: *const u8,
+        text_length: usize,
+    );
+    fn brawnesk_set_row_label(
+        image: *const u8,
+        length: usize,
+        session: *mut u8,
+        text: *const u8,
+        text_length: usize,
+    );
+    fn brawnesk_may_read(image: *const u8, length: usize, session: *const u8, tag: u32);
+    fn brawnesk_may_write(image: *const u8, length: usize, session: *const u8, tag: u32);
+    fn brawnesk_dominates(first: *const u8, second: *const u8);
+    fn brawnesk_strictly_dominates(first: *const u8, second: *const u8);
+    fn brawnesk_merge(
+        first: *const u8,
+        second: *const u8,
+        letters: *const u8,
+        letters_length: usize,
+        label: *mut u8,
+    );
+}
 
-    pub fn check(_: &[u8]) -> u64 {
-        panic!("{ABSENT}")
-    }
+// SAFETY, of every call below: a pointer and a length are those of a borrowed slice, and a label or a
+// session is a borrowed array of all its bytes. What the call only reads is shared; what it writes is
+// borrowed alone, and it writes inside it only. A slice's pointer is never null in Rust, not even an
+// empty one's; the library asks for that.
 
-    pub fn name(_: &[u8], _: u8, _: u8) -> u64 {
-        panic!("{ABSENT}")
-    }
+/// `brawnesk_check`.
+pub fn check(image: &[u8]) -> Answer {
+    Answer::decode(unsafe { brawnesk_check(image.as_ptr(), image.len()) })
+}
 
-    pub fn parse(_: &[u8], _: &[u8], _: &mut [u8; super::LABEL]) -> u64 {
-        panic!("{ABSENT}")
-    }
+/// `brawnesk_name`: when done, the name's offset in the image + 65,536 * its length.
+pub fn name(image: &[u8], class: u8, place: u8) -> Answer {
+    let (image, length) = (image.as_ptr(), image.len());
+    Answer::decode(unsafe { brawnesk_name(image, length, class, place) })
+}
 
-    pub fn print(_: &[u8], _: &[u8; super::LABEL], _: &mut [u8]) -> u64 {
-        panic!("{ABSENT}")
-    }
+/// `brawnesk_parse`: when done, the label is written.
+pub fn parse(image: &[u8], text: &[u8], label: &mut [u8; LABEL]) -> Answer {
+    let (image, length) = (image.as_ptr(), image.len());
+    let (text, text_length) = (text.as_ptr(), text.len());
+    let label = label.as_mut_ptr();
+    Answer::decode(unsafe { brawnesk_parse(image, length, text, text_length, label) })
+}
+
+/// `brawnesk_print`: when done, the length of the text at the front of `out`.
+pub fn print(image: &[u8], label: &[u8; LABEL], out: &mut [u8]) -> Answer {
+    let (image, length) = (image.as_ptr(), image.len());
+    let (out, out_length) = (out.as_mut_ptr(), out.len());
+    Answer::decode(unsafe { brawnesk_print(image, length, label.as_ptr(), out, out_length) })
+}
+
+/// `brawnesk_open`: when done, the session is written.
+pub fn open(image: &[u8], name: &[u8], session: &mut [u8; SESSION]) -> Answer {
+    let (image, length) = (image.as_ptr(), image.len());
+    let (name, name_length) = (name.as_ptr(), name.len());
+    let session = session.as_mut_ptr();
+    Answer::decode(unsafe { brawnesk_open(image, length, name, name_length, session) })
+}
+
+/// `brawnesk_set_label`: when done, the session has the new label.
+pub fn set_label(image: &[u8], session: &mut [u8; SESSION], text: &[u8]) -> Answer {
+    let (image, length) = (image.as_ptr(), image.len());
+    let (text, text_length) = (text.as_ptr(), text.len());
+    let session = session.as_mut_ptr();
+    Answer::decode(unsafe { brawnesk_set_label(image, length, session, text, text_length) })
+}
+
+/// `brawnesk_set_row_label`: when done, the session has the new row label.
+pub fn set_row_label(image: &[u8], session: &mut [u8; SESSION], text: &[u8]) -> Answer {
+    let (image, length) = (image.as_ptr(), image.len());
+    let (text, text_length) = (text.as_ptr(), text.len());
+    let session = session.as_mut_ptr();
+    Answer::decode(unsafe { brawnesk_set_row_label(image, length, session, text, text_length) })
+}
+
+/// `brawnesk_may_read`: when done, 1 for yes and 0 for no.
+pub fn may_read(image: &[u8], session: &[u8; SESSION], tag: u32) -> Answer {
+    let (image, length) = (image.as_ptr(), image.len());
+    Answer::decode(unsafe { brawnesk_may_read(image, length, session.as_ptr(), tag) })
+}
+
+/// `brawnesk_may_write`: when done, 1 for yes and 0 for no.
+pub fn may_write(image: &[u8], session: &[u8; SESSION], tag: u32) -> Answer {
+    let (image, length) = (image.as_ptr(), image.len());
+    Answer::decode(unsafe { brawnesk_may_write(image, length, session.as_ptr(), tag) })
+}
+
+/// `brawnesk_dominates`: 1 for yes and 0 for no.
+pub fn dominates(first: &[u8; LABEL], second: &[u8; LABEL]) -> Answer {
+    Answer::decode(unsafe { brawnesk_dominates(first.as_ptr(), second.as_ptr()) })
+}
+
+/// `brawnesk_strictly_dominates`: 1 for yes and 0 for no.
+pub fn strictly_dominates(first: &[u8; LABEL], second: &[u8; LABEL]) -> Answer {
+    Answer::decode(unsafe { brawnesk_strictly_dominates(first.as_ptr(), second.as_ptr()) })
+}
+
+/// `brawnesk_merge`: when done, the label is written.
+pub fn merge(
+    first: &[u8; LABEL],
+    second: &[u8; LABEL],
+    letters: &[u8],
+    label: &mut [u8; LABEL],
+) -> Answer {
+    let (first, second) = (first.as_ptr(), second.as_ptr());
+    let (letters, length) = (letters.as_ptr(), letters.len());
+    Answer::decode(unsafe { brawnesk_merge(first, second, letters, length, label.as_mut_ptr()) })
 }
 
 #[cfg(test)]

@@ -1,21 +1,28 @@
 //! Tests of the compiled library against a second implementation, the model, which follows
 //! document 01 and shares no code with the library.
 //!
-//! - `model`: the rules of an image and of label text, as the document states them.
+//! - `model`: the rules of an image, of label text, of sessions, of verdicts and of two labels, as the
+//!   document states them.
 //! - `builder`: well-formed policies and their images.
 //! - `damage`: for each rule of an image, a change that breaks it.
 //! - `cases`: images by seed, for comparing.
 //! - `texts`: label texts and labels by seed, for comparing.
-//! - `vectors`: label texts with outside answers.
+//! - `walk`: calls on sessions by seed, for comparing.
+//! - `pairs`: two labels and merge letters by seed, for comparing.
+//! - `vectors`: cases with outside answers.
 //! - `ffi`: the compiled library.
-//! - `compare`: its answers beside the model's.
+//! - `calls`: calls as values, for the library and for the model.
+//! - `compare`: the answers of both.
 
 pub mod builder;
+pub mod calls;
 pub mod cases;
 pub mod compare;
 pub mod damage;
 pub mod ffi;
 pub mod model;
+pub mod pairs;
 pub mod rng;
 pub mod texts;
 pub mod vectors;
+pub mod walk;

@@ -25,6 +25,17 @@ impl Rng {
         low + self.index(high - low + 1)
     }
 
+    /// A number from `low` on and below `count`, if there is one.
+    pub fn place(&mut self, low: usize, count: usize) -> Option<usize> {
+        (count > low).then(|| self.range(low, count - 1))
+    }
+
+    /// A place in `set`, if it has one.
+    pub fn place_in(&mut self, set: u64) -> Option<usize> {
+        let skipped = self.place(0, set.count_ones() as usize)?;
+        (0..64).filter(|place| set >> place & 1 == 1).nth(skipped)
+    }
+
     /// A number from `low` to `high`, often one of these two.
     pub fn with_ends(&mut self, low: usize, high: usize) -> usize {
         match self.index(4) {

@@ -1,7 +1,7 @@
 //! Label texts and labels for a policy, by seed: right ones, and ones that are wrong in every way that
 //! the rules of label text name.
 
-use crate::builder::{random, Component, Policy, Sizes};
+use crate::builder::{first, letters, random, Component, Label, Policy, Sizes};
 use crate::rng::Rng;
 
 /// Mostly small, sometimes up to all limits of components. Label text asks nothing of users and
@@ -40,17 +40,30 @@ struct Names {
 }
 
 impl Names {
-    /// Of a label that the policy has, in the order of printing.
-    fn printed(policy: &Policy, rng: &mut Rng) -> Names {
-        let list = |class: &[Component], rng: &mut Rng| {
-            let set = rng.subset(u64::MAX);
+    /// Of any label that the policy has.
+    fn any(policy: &Policy, rng: &mut Rng) -> Names {
+        let label = Label {
+            tag: 0,
+            level: rng.index(policy.levels.len()) as u8,
+            compartments: rng.subset(u64::MAX),
+            groups: rng.subset(u64::MAX),
+        };
+        Names::printed(policy, &label)
+    }
+
+    /// Of a label, as far as the policy has it, in the order of printing.
+    fn printed(policy: &Policy, label: &Label) -> Names {
+        let list = |class: &[Component], set: u64| {
             let chosen = |&(place, _): &(usize, &Component)| set >> place & 1 == 1;
             let names = class.iter().enumerate().filter(chosen);
             names.map(|(_, component)| component.name.clone()).collect()
         };
         Names {
-            level: rng.pick(&policy.levels).name.clone(),
-            lists: [list(&policy.compartments, rng), list(&policy.groups, rng)],
+            level: policy.levels[usize::from(label.level)].name.clone(),
+            lists: [
+                list(&policy.compartments, label.compartments),
+                list(&policy.groups, label.groups),
+            ],
         }
     }
 
@@ -125,16 +138,9 @@ fn unknown(policy: &Policy, rng: &mut Rng) -> String {
     format!("{name}{}", letters(1, rng))
 }
 
-fn letters(length: usize, rng: &mut Rng) -> String {
-    let alphabet = b"ABCDEFGHIJKLMNOPQRSTUVWXYZ0123456789_";
-    (0..length)
-        .map(|_| char::from(*rng.pick(alphabet)))
-        .collect()
-}
-
 /// A text for the policy. All kinds come often, and several changes may meet in one text.
 pub fn text(policy: &Policy, rng: &mut Rng) -> Vec<u8> {
-    let mut names = Names::printed(policy, rng);
+    let mut names = Names::any(policy, rng);
     match rng.index(20) {
         0 => noise(rng),
         1 => long(names, rng),
@@ -154,6 +160,20 @@ pub fn text(policy: &Policy, rng: &mut Rng) -> Vec<u8> {
             text
         }
     }
+}
+
+/// The text of a label with its names in any order; at times with one change, as in `text`.
+pub fn text_of(policy: &Policy, label: &Label, rng: &mut Rng) -> Vec<u8> {
+    let mut names = Names::printed(policy, label);
+    names.lists.iter_mut().for_each(|list| rng.shuffle(list));
+    if rng.once_in(8) {
+        names.change(policy, rng);
+    }
+    let mut text = names.text();
+    if rng.once_in(16) {
+        change_bytes(&mut text, rng);
+    }
+    text
 }
 
 /// Random bytes, or random bytes of the alphabet with many separators; at times none.
@@ -253,9 +273,4 @@ pub fn label_past(policy: &Policy, rng: &mut Rng) -> [u8; 48] {
 
 fn add(set: &mut [u8], place: usize) {
     set[place / 8] |= 1 << (place % 8);
-}
-
-/// The set of the first `count` places.
-fn first(count: usize) -> u64 {
-    (0..count).fold(0, |set, place| set | 1 << place)
 }

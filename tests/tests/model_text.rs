@@ -26,10 +26,8 @@ fn vectors_of_label_text() {
                 let printed = label.and_then(|label| print(&image, &label));
                 assert_eq!(printed, Ok(text.as_bytes().to_vec()), "{}", vector.line);
             }
-            Expected::Refused { number, offset } => {
-                let refusal = label.expect_err(vector.line);
-                let found = (refusal.number(), refusal.place());
-                assert_eq!(found, (number, offset), "{}", vector.line);
+            Expected::Refused(refused) => {
+                assert_eq!(expected(label.map(|_| 0)), refused, "{}", vector.line);
             }
         }
     }

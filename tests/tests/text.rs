@@ -2,9 +2,9 @@
 //!
 //! A wrong answer names its seed; `BRAWNESK_SEED=<seed> cargo test --release` compares that seed alone.
 
-use brawnesk_tests::builder::{sample, to_image};
+use brawnesk_tests::builder::{sample, to_image, Policy};
 use brawnesk_tests::cases::Case;
-use brawnesk_tests::compare::{expected, Tally};
+use brawnesk_tests::compare::{expected, one_seed, seeds, Tally};
 use brawnesk_tests::ffi::{self, Answer, LABEL};
 use brawnesk_tests::model::{self, Label, Refusal};
 use brawnesk_tests::rng::Rng;
@@ -15,14 +15,14 @@ use std::ops::Range;
 const POLICIES: u64 = 2_500;
 const TEXTS_EACH: usize = 20;
 
-/// The one seed that is asked for.
-fn one_seed() -> Option<u64> {
-    let seed = std::env::var("BRAWNESK_SEED").ok()?;
-    Some(seed.parse().expect("a seed is a number"))
-}
-
-fn seeds(all: Range<u64>) -> Range<u64> {
-    one_seed().map_or(all, |seed| seed..seed + 1)
+/// Shows the policy of each seed with its image, what else is random, and the seed by name.
+fn each_policy(all: Range<u64>, mut see: impl FnMut(&Policy, &[u8], &mut Rng, &str)) {
+    for seed in seeds(all) {
+        let mut rng = Rng::new(seed);
+        let policy = texts::policy(&mut rng);
+        let (image, case) = (to_image(&policy), format!("seed {seed}"));
+        see(&policy, &image, &mut rng, &case);
+    }
 }
 
 /// Asks that answers came at least so often, where all seeds were compared.
@@ -67,16 +67,12 @@ fn compare_print(image: &[u8], label: &[u8; LABEL], room: usize, case: &str) -> 
 #[test]
 fn texts_are_read_alike() {
     let mut tally = Tally::default();
-    for seed in seeds(0..POLICIES) {
-        let case = format!("seed {seed}");
-        let mut rng = Rng::new(seed);
-        let policy = texts::policy(&mut rng);
-        let image = to_image(&policy);
+    each_policy(0..POLICIES, |policy, image, rng, case| {
         for _ in 0..TEXTS_EACH {
-            let text = texts::text(&policy, &mut rng);
-            tally.add(compare_parse(&image, &text, rng.byte(), &case));
+            let text = texts::text(policy, rng);
+            tally.add(compare_parse(image, &text, rng.byte(), case));
         }
-    }
+    });
     assert_least(&tally, &[(0, 10_000), (5, 10_000), (6, 6_000), (7, 1_500)]);
 }
 
@@ -84,25 +80,21 @@ fn texts_are_read_alike() {
 #[test]
 fn labels_are_printed_alike() {
     let mut tally = Tally::default();
-    for seed in seeds(0..POLICIES) {
-        let case = format!("seed {seed}");
-        let mut rng = Rng::new(seed);
-        let policy = texts::policy(&mut rng);
-        let image = to_image(&policy);
+    each_policy(0..POLICIES, |policy, image, rng, case| {
         for _ in 0..6 {
             let past = rng.once_in(3);
             let label = match past {
-                true => texts::label_past(&policy, &mut rng),
-                false => texts::label(&policy, &mut rng),
+                true => texts::label_past(policy, rng),
+                false => texts::label(policy, rng),
             };
             let room = match rng.index(4) {
                 0 => rng.range(0, 60),
                 1 => rng.range(0, 4_096),
                 _ => 4_096,
             };
-            tally.add(compare_print(&image, &label, room, &case));
+            tally.add(compare_print(image, &label, room, case));
         }
-    }
+    });
     assert_least(&tally, &[(0, 5_000), (13, 1_000), (18, 4_000)]);
 }
 
@@ -111,36 +103,28 @@ fn labels_are_printed_alike() {
 #[test]
 fn every_length_of_a_buffer() {
     let mut tally = Tally::default();
-    for seed in seeds(0..300) {
-        let case = format!("seed {seed}");
-        let mut rng = Rng::new(seed);
-        let policy = texts::policy(&mut rng);
-        let image = to_image(&policy);
-        let label = texts::label(&policy, &mut rng);
-        let needed = model::print(&image, &Label::read(&label)).unwrap().len();
+    each_policy(0..300, |policy, image, rng, case| {
+        let label = texts::label(policy, rng);
+        let needed = model::print(image, &Label::read(&label)).unwrap().len();
         if needed > 400 {
-            continue;
+            return;
         }
         for room in 0..=needed + 2 {
-            tally.add(compare_print(&image, &label, room, &case));
+            tally.add(compare_print(image, &label, room, case));
         }
-        let past = texts::label_past(&policy, &mut rng);
-        tally.add(compare_print(&image, &past, 0, &case));
-    }
+        let past = texts::label_past(policy, rng);
+        tally.add(compare_print(image, &past, 0, case));
+    });
     assert_least(&tally, &[(0, 500), (13, 4_000), (18, 150)]);
 }
 
 /// What the library prints it reads as the same label.
 #[test]
 fn parse_of_print() {
-    for seed in seeds(0..POLICIES) {
-        let case = format!("seed {seed}");
-        let mut rng = Rng::new(seed);
-        let policy = texts::policy(&mut rng);
-        let image = to_image(&policy);
-        let label = texts::label(&policy, &mut rng);
-        assert_reads_back(&image, &Label::read(&label).to_bytes(), &case);
-    }
+    each_policy(0..POLICIES, |policy, image, rng, case| {
+        let label = texts::label(policy, rng);
+        assert_reads_back(image, &Label::read(&label).to_bytes(), case);
+    });
     let mut whole = [255; LABEL];
     whole[..8].copy_from_slice(&[0, 0, 0, 0, 31, 0, 0, 0]);
     whole[24..].fill(0);
@@ -203,11 +187,7 @@ fn vectors_of_label_text() {
                 assert_eq!(printed, Answer::Done(text.len() as u64), "{}", vector.line);
                 assert_eq!(out, text.as_bytes(), "{}", vector.line);
             }
-            Expected::Refused { number, offset } => {
-                let place = offset as u32;
-                let refused = Answer::Refused { number, place };
-                assert_eq!(answer, refused, "{}", vector.line);
-            }
+            Expected::Refused(refused) => assert_eq!(answer, refused, "{}", vector.line),
         }
     }
 }

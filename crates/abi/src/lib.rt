@@ -26,7 +26,7 @@ pub extern "C" fn brawnesk_check(image: &[u8]) -> u64
     let answer = image::check(image);
     match answer {
         Checked::Accepted => 0,
-        Checked::Refused(r) => refused(r),
+        Checked::Refused(refusal) => refused(refusal),
     }
 }
 
@@ -169,7 +169,9 @@ pub extern "C" fn brawnesk_may_write(image: &[u8], session: &[u8; 104], tag: u32
 pub extern "C" fn brawnesk_dominates(label1: &[u8; 48], label2: &[u8; 48]) -> u64
     ensures { λ r. ⌜ r ≡ dominatesAnswer (now (label1 .entry)) (now (label2 .entry)) ⌝ }
 {
-    let yes = access::dominates(bytes48::low_label_in(label1), bytes48::low_label_in(label2));
+    let first = bytes48::low_label_in(label1);
+    let second = bytes48::low_label_in(label2);
+    let yes = access::dominates(first, second);
     yes as u64
 }
 
@@ -178,10 +180,9 @@ pub extern "C" fn brawnesk_dominates(label1: &[u8; 48], label2: &[u8; 48]) -> u6
 pub extern "C" fn brawnesk_strictly_dominates(label1: &[u8; 48], label2: &[u8; 48]) -> u64
     ensures { λ r. ⌜ r ≡ strictlyDominatesAnswer (now (label1 .entry)) (now (label2 .entry)) ⌝ }
 {
-    let yes = access::strictly_dominates(
-        bytes48::low_label_in(label1),
-        bytes48::low_label_in(label2),
-    );
+    let first = bytes48::low_label_in(label1);
+    let second = bytes48::low_label_in(label2);
+    let yes = access::strictly_dominates(first, second);
     yes as u64
 }
 
@@ -195,11 +196,9 @@ pub extern "C" fn brawnesk_merge(
 ) -> u64
     ensures { λ r. ⌜ (r, now (merged .exit)) ≡ mergeAnswer (now (label1 .entry)) (now (label2 .entry)) (now (letters .entry)) (now (merged .entry)) ⌝ }
 {
-    let answer = access::merge(
-        bytes48::low_label_in(label1),
-        bytes48::low_label_in(label2),
-        letters,
-    );
+    let first = bytes48::low_label_in(label1);
+    let second = bytes48::low_label_in(label2);
+    let answer = access::merge(first, second, letters);
     match answer {
         Merged::Done(label) => {
             *merged = bytes48::label_bytes(label);

@@ -39,9 +39,10 @@ pub fn read_tests(view: View, row: Label) -> bool
     ensures { λ r. ⌜ r ≡ readTests (rightsOf view) (marksOf row) ⌝ }
 {
     let groups = row.groups;
+    let below = view.below_groups;
     let compaccess = holds_compaccess(view);
     let level = row.level <= view.level;
-    let group = groups.is_empty() | groups.meets(view.below_groups);
+    let group = groups.is_empty() | groups.meets(below);
     let compartment = word::within(row.compartments, view.compartments);
     (level & group & compartment)
         | (compaccess & level & !word::is_empty(row.compartments) & compartment)

@@ -47,6 +47,7 @@ impl Run {
         let block = self.first + place / self.shape.in_block;
         let record = place % self.shape.in_block;
         RecordAt {
+            kind: self.shape.kind,
             block,
             record,
             offset: block * BLOCK + 4 + record * self.shape.size,
@@ -54,9 +55,11 @@ impl Run {
     }
 }
 
-/// Where a record stands: its block, its place in the block and its first byte in the image.
+/// Where a record stands: its block and the block's kind, its place in the block and its first byte in
+/// the image.
 #[derive(Clone, Copy, Debug)]
 pub struct RecordAt {
+    pub kind: u8,
     pub block: usize,
     pub record: usize,
     pub offset: usize,

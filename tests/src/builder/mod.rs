@@ -4,7 +4,7 @@ pub mod layout;
 mod random;
 mod sample;
 
-pub use random::{full, random, Sizes};
+pub use random::{first, full, letters, random, Sizes};
 pub use sample::sample;
 
 use layout::{seal, Shape, BLOCK, COMPONENTS, LABELS, USERS};
@@ -24,6 +24,16 @@ pub struct Label {
     pub level: u8,
     pub compartments: u64,
     pub groups: u64,
+}
+
+impl Label {
+    /// The 48 bytes of the label in the C functions, which are those of its record without the tag.
+    pub fn to_bytes(&self) -> [u8; 48] {
+        let mut bytes = [0; 48];
+        bytes[..LABELS.size].copy_from_slice(&label_record(self));
+        bytes[..4].fill(0);
+        bytes
+    }
 }
 
 #[derive(Clone, Debug)]

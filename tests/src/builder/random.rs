@@ -128,7 +128,8 @@ fn names(count: usize, other: &[Component], rng: &mut Rng) -> Vec<String> {
     names
 }
 
-fn letters(length: usize, rng: &mut Rng) -> String {
+/// A name of that length.
+pub fn letters(length: usize, rng: &mut Rng) -> String {
     let alphabet = b"ABCDEFGHIJKLMNOPQRSTUVWXYZ0123456789_";
     (0..length)
         .map(|_| char::from(*rng.pick(alphabet)))
@@ -217,6 +218,6 @@ fn rights(count: usize, reach: impl Fn(u64) -> u64, rng: &mut Rng) -> Rights {
 }
 
 /// The set of the first `count` places.
-fn first(count: usize) -> u64 {
+pub fn first(count: usize) -> u64 {
     (0..count).fold(0, |set, place| set | 1 << place)
 }

@@ -5,12 +5,9 @@ use crate::builder::layout::RecordAt;
 use crate::builder::Policy;
 use crate::rng::Rng;
 
-/// The bytes of a name's alphabet have these beside them.
-pub const BAD_BYTES: &[u8] = b"az@[/:`^ ,-.\0\xff\xc1";
-
-fn any(draft: &Draft, rng: &mut Rng) -> Option<RecordAt> {
-    let count = draft.policy.components();
-    (count > 0).then(|| draft.policy.component_at(rng.index(count)))
+pub fn any(draft: &Draft, rng: &mut Rng) -> Option<RecordAt> {
+    let place = rng.place(0, draft.policy.components())?;
+    Some(draft.policy.component_at(place))
 }
 
 /// A component and an earlier one of its class, the one before it or any.
@@ -30,11 +27,6 @@ fn pair(policy: &Policy, rng: &mut Rng, next: bool) -> Option<(RecordAt, RecordA
     Some((at(earlier), at(later)))
 }
 
-fn write(draft: &mut Draft, at: RecordAt, byte: usize, bytes: &[u8]) -> Option<Expected> {
-    draft.write(at.offset + byte, bytes);
-    Expected::component(at)
-}
-
 pub fn class(draft: &mut Draft, rng: &mut Rng) -> Option<Expected> {
     let at = any(draft, rng)?;
     let old = draft.get(at.offset);
@@ -44,7 +36,7 @@ pub fn class(draft: &mut Draft, rng: &mut Rng) -> Option<Expected> {
     } else {
         value
     };
-    write(draft, at, 0, &[value])
+    draft.break_record(at, 0, &[value])
 }
 
 /// Two components of different classes change places.
@@ -59,7 +51,7 @@ pub fn class_order(draft: &mut Draft, rng: &mut Rng) -> Option<Expected> {
         return None;
     }
     draft.write(high.offset, &first);
-    write(draft, low, 0, &second)
+    draft.break_record(low, 0, &second)
 }
 
 /// The header counts one level or compartment less and one of the next class more: the record
@@ -80,38 +72,7 @@ pub fn class_by_header(draft: &mut Draft, rng: &mut Rng) -> Option<Expected> {
     let at = policy.component_at(place - 1);
     draft.put(5 + class, &[counts[class] as u8 - 1]);
     draft.write(6 + class, &[counts[class + 1] as u8 + 1]);
-    Expected::component(at)
-}
-
-pub fn name_empty(draft: &mut Draft, rng: &mut Rng) -> Option<Expected> {
-    let at = any(draft, rng)?;
-    draft.put(at.offset + 2, &[0; 30]);
-    write(draft, at, 1, &[0])
-}
-
-pub fn name_long(draft: &mut Draft, rng: &mut Rng) -> Option<Expected> {
-    let at = any(draft, rng)?;
-    let length = *rng.pick(&[31, 31, 32, 38, 128, 255]);
-    draft.put(at.offset + 2, &[b'N'; 30]);
-    write(draft, at, 1, &[length])
-}
-
-pub fn name_byte(draft: &mut Draft, rng: &mut Rng) -> Option<Expected> {
-    let at = any(draft, rng)?;
-    let length = draft.get(at.offset + 1).max(1);
-    let byte = 2 + rng.index(usize::from(length));
-    write(draft, at, byte, &[*rng.pick(BAD_BYTES)])
-}
-
-pub fn name_rest(draft: &mut Draft, rng: &mut Rng) -> Option<Expected> {
-    let at = any(draft, rng)?;
-    let length = usize::from(draft.get(at.offset + 1));
-    if length >= 30 {
-        return None;
-    }
-    let byte = rng.with_ends(2 + length, 31);
-    let value = if rng.once_in(2) { b'A' } else { rng.nonzero() };
-    write(draft, at, byte, &[value])
+    Expected::record(at)
 }
 
 pub fn name_repeated(draft: &mut Draft, rng: &mut Rng) -> Option<Expected> {
@@ -120,57 +81,55 @@ pub fn name_repeated(draft: &mut Draft, rng: &mut Rng) -> Option<Expected> {
         .image
         .get(earlier.offset + 1..earlier.offset + 32)?
         .to_vec();
-    write(draft, later, 1, &name)
+    draft.break_record(later, 1, &name)
 }
 
 pub fn number_over(draft: &mut Draft, rng: &mut Rng) -> Option<Expected> {
     let at = any(draft, rng)?;
     let number = rng.with_ends(10_000, 65_535);
-    write(draft, at, 32, &(number as u16).to_le_bytes())
+    draft.break_record(at, 32, &(number as u16).to_le_bytes())
 }
 
 pub fn number_equal(draft: &mut Draft, rng: &mut Rng) -> Option<Expected> {
     let (earlier, later) = pair(&draft.policy, rng, true)?;
     let number = [32, 33].map(|byte| draft.get(earlier.offset + byte));
-    write(draft, later, 32, &number)
+    draft.break_record(later, 32, &number)
 }
 
 pub fn number_lower(draft: &mut Draft, rng: &mut Rng) -> Option<Expected> {
     let (earlier, later) = pair(&draft.policy, rng, true)?;
     let number = u16::from_le_bytes([32, 33].map(|byte| draft.get(earlier.offset + byte)));
-    let lower = (number > 0).then(|| rng.index(usize::from(number)))?;
-    write(draft, later, 32, &(lower as u16).to_le_bytes())
+    let lower = rng.place(0, usize::from(number))?;
+    draft.break_record(later, 32, &(lower as u16).to_le_bytes())
 }
 
 pub fn level_parent(draft: &mut Draft, rng: &mut Rng) -> Option<Expected> {
-    let count = draft.policy.levels.len();
-    let place = (count > 0).then(|| rng.index(count))?;
+    let place = rng.place(0, draft.policy.levels.len())?;
     some_parent(draft, rng, place)
 }
 
 pub fn compartment_parent(draft: &mut Draft, rng: &mut Rng) -> Option<Expected> {
-    let count = draft.policy.compartments.len();
-    let place = (count > 0).then(|| rng.index(count))?;
+    let place = rng.place(0, draft.policy.compartments.len())?;
     some_parent(draft, rng, draft.policy.levels.len() + place)
 }
 
 fn some_parent(draft: &mut Draft, rng: &mut Rng, place: usize) -> Option<Expected> {
     let parent = rng.with_ends(0, 254) as u8;
-    write(draft, draft.policy.component_at(place), 34, &[parent])
+    draft.break_record(draft.policy.component_at(place), 34, &[parent])
 }
 
 pub fn group_parent_missing(draft: &mut Draft, rng: &mut Rng) -> Option<Expected> {
     let count = draft.policy.groups.len();
-    let group = (count > 0).then(|| rng.index(count))?;
+    let group = rng.place(0, count)?;
     let parent = rng.with_ends(count, 254);
-    write(draft, draft.policy.group_at(group), 34, &[parent as u8])
+    draft.break_record(draft.policy.group_at(group), 34, &[parent as u8])
 }
 
 pub fn unused(draft: &mut Draft, rng: &mut Rng) -> Option<Expected> {
     let at = any(draft, rng)?;
     let byte = rng.with_ends(35, 39);
     let value = rng.nonzero();
-    write(draft, at, byte, &[value])
+    draft.break_record(at, byte, &[value])
 }
 
 pub fn ring_of_one(draft: &mut Draft, rng: &mut Rng) -> Option<Expected> {

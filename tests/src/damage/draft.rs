@@ -31,19 +31,13 @@ impl Expected {
         Some(Expected::Fault(Fault::Block { block }))
     }
 
-    pub fn component(at: RecordAt) -> Option<Expected> {
+    pub fn record(at: RecordAt) -> Option<Expected> {
         let RecordAt { block, record, .. } = at;
-        Some(Expected::Fault(Fault::Component { block, record }))
-    }
-
-    pub fn label(at: RecordAt) -> Option<Expected> {
-        let RecordAt { block, record, .. } = at;
-        Some(Expected::Fault(Fault::Label { block, record }))
-    }
-
-    pub fn user(at: RecordAt) -> Option<Expected> {
-        let RecordAt { block, record, .. } = at;
-        Some(Expected::Fault(Fault::User { block, record }))
+        Some(Expected::Fault(match at.kind {
+            67 => Fault::Component { block, record },
+            76 => Fault::Label { block, record },
+            _ => Fault::User { block, record },
+        }))
     }
 
     pub fn ring(group: usize) -> Option<Expected> {
@@ -89,6 +83,12 @@ impl Draft {
     pub fn write(&mut self, at: usize, bytes: &[u8]) {
         self.put(at, bytes);
         seal(&mut self.image, at / BLOCK);
+    }
+
+    /// Writes bytes of a record, from its byte `byte` on, by which it breaks a rule of its kind.
+    pub fn break_record(&mut self, at: RecordAt, byte: usize, bytes: &[u8]) -> Option<Expected> {
+        self.write(at.offset + byte, bytes);
+        Expected::record(at)
     }
 
     /// Adds a block of the given kind without records, with the place and check that it needs.

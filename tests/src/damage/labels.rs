@@ -4,50 +4,40 @@ use super::{Draft, Expected};
 use crate::builder::layout::RecordAt;
 use crate::rng::Rng;
 
-/// Any label from a place on.
-fn from(draft: &Draft, rng: &mut Rng, lowest: usize) -> Option<usize> {
-    let count = draft.policy.labels.len();
-    (count > lowest).then(|| rng.range(lowest, count - 1))
-}
-
 fn any(draft: &Draft, rng: &mut Rng) -> Option<RecordAt> {
-    Some(draft.policy.label_at(from(draft, rng, 0)?))
-}
-
-fn write(draft: &mut Draft, at: RecordAt, byte: usize, bytes: &[u8]) -> Option<Expected> {
-    draft.write(at.offset + byte, bytes);
-    Expected::label(at)
+    let place = rng.place(0, draft.policy.labels.len())?;
+    Some(draft.policy.label_at(place))
 }
 
 pub fn tag_zero(draft: &mut Draft, rng: &mut Rng) -> Option<Expected> {
     let at = any(draft, rng)?;
-    write(draft, at, 0, &[0; 4])
+    draft.break_record(at, 0, &[0; 4])
 }
 
 pub fn tag_over(draft: &mut Draft, rng: &mut Rng) -> Option<Expected> {
     let at = any(draft, rng)?;
     let tag = rng.with_ends(100_000_000, u32::MAX as usize) as u32;
-    write(draft, at, 0, &tag.to_le_bytes())
+    draft.break_record(at, 0, &tag.to_le_bytes())
 }
 
 pub fn tag_equal(draft: &mut Draft, rng: &mut Rng) -> Option<Expected> {
-    let place = from(draft, rng, 1)?;
+    let place = rng.place(1, draft.policy.labels.len())?;
     let tag = draft.policy.labels[place - 1].tag;
-    write(draft, draft.policy.label_at(place), 0, &tag.to_le_bytes())
+    draft.break_record(draft.policy.label_at(place), 0, &tag.to_le_bytes())
 }
 
 pub fn tag_lower(draft: &mut Draft, rng: &mut Rng) -> Option<Expected> {
-    let place = from(draft, rng, 1)?;
+    let place = rng.place(1, draft.policy.labels.len())?;
     let before = draft.policy.labels[place - 1].tag as usize;
     let tag = (before > 1).then(|| rng.range(1, before - 1))? as u32;
-    write(draft, draft.policy.label_at(place), 0, &tag.to_le_bytes())
+    draft.break_record(draft.policy.label_at(place), 0, &tag.to_le_bytes())
 }
 
 pub fn level_missing(draft: &mut Draft, rng: &mut Rng) -> Option<Expected> {
     let at = any(draft, rng)?;
     let count = draft.policy.levels.len();
     let level = rng.with_ends(count, 255);
-    write(draft, at, 4, &[level as u8])
+    draft.break_record(at, 4, &[level as u8])
 }
 
 pub fn compartment_missing(draft: &mut Draft, rng: &mut Rng) -> Option<Expected> {
@@ -67,12 +57,12 @@ fn place_missing(draft: &mut Draft, rng: &mut Rng, byte: usize, count: usize) ->
     let place = rng.with_ends(count, 63);
     let byte = byte + place / 8;
     let value = draft.get(at.offset + byte) | 1 << (place % 8);
-    write(draft, at, byte, &[value])
+    draft.break_record(at, byte, &[value])
 }
 
 pub fn unused(draft: &mut Draft, rng: &mut Rng) -> Option<Expected> {
     let at = any(draft, rng)?;
     let byte = rng.with_ends(5, 7);
     let value = rng.nonzero();
-    write(draft, at, byte, &[value])
+    draft.break_record(at, byte, &[value])
 }

@@ -7,17 +7,19 @@ mod draft;
 mod header;
 mod labels;
 mod lengths;
+mod names;
 mod users;
 
 pub use draft::{Draft, Expected};
 
 use crate::rng::Rng;
+use users::Inclusion;
 
-/// The kinds of damage: for each file, the kind and the function that does it. The function gives
-/// what a well-formed image is then refused with, or nothing, and changes nothing, where the image
-/// lacks what it needs.
+/// The kinds of damage: for each file, the kind and the function that does it, with what else the
+/// function is told. The function gives what a well-formed image is then refused with, or nothing,
+/// and changes nothing, where the image lacks what it needs.
 macro_rules! damages {
-    ($($file:ident { $($kind:ident => $function:ident,)* })*) => {
+    ($($file:ident { $($kind:ident => $function:ident $(($told:expr))?,)* })*) => {
         #[derive(Clone, Copy, Debug, PartialEq, Eq, PartialOrd, Ord)]
         pub enum Damage { $($($kind,)*)* }
 
@@ -26,7 +28,7 @@ macro_rules! damages {
 
             pub fn apply(self, draft: &mut Draft, rng: &mut Rng) -> Option<Expected> {
                 match self {
-                    $($(Damage::$kind => $file::$function(draft, rng),)*)*
+                    $($(Damage::$kind => $file::$function(draft, rng $(, $told)?),)*)*
                 }
             }
         }
@@ -74,10 +76,18 @@ damages! {
         Class => class,
         ClassOrder => class_order,
         ClassByHeader => class_by_header,
-        NameEmpty => name_empty,
-        NameLong => name_long,
-        NameByte => name_byte,
-        NameRest => name_rest,
+    }
+    names {
+        NameEmpty => empty(names::component),
+        NameLong => long(names::component),
+        NameByte => bad_byte(names::component),
+        NameRest => rest(names::component),
+        UserNameEmpty => empty(names::user),
+        UserNameLong => long(names::user),
+        UserNameByte => bad_byte(names::user),
+        UserNameRest => rest(names::user),
+    }
+    components {
         NameRepeated => name_repeated,
         NumberOver => number_over,
         NumberEqual => number_equal,
@@ -101,10 +111,6 @@ damages! {
         LabelUnused => unused,
     }
     users {
-        UserNameEmpty => name_empty,
-        UserNameLong => name_long,
-        UserNameByte => name_byte,
-        UserNameRest => name_rest,
         UserNameEqual => name_equal,
         UserNameLower => name_lower,
         UserNameBegins => name_begins,
@@ -118,14 +124,14 @@ damages! {
         RowLevelMissing => row_missing,
         UserCompartmentMissing => compartment_missing,
         UserGroupMissing => group_missing,
-        WriteCompartment => write_compartment,
-        DefaultCompartment => default_compartment,
-        RowCompartmentByDefault => row_compartment_by_default,
-        RowCompartmentByWrite => row_compartment_by_write,
-        WriteGroup => write_group,
-        DefaultGroup => default_group,
-        RowGroupByDefault => row_group_by_default,
-        RowGroupByWrite => row_group_by_write,
+        WriteCompartment => compartment(Inclusion::WriteInRead),
+        DefaultCompartment => compartment(Inclusion::DefaultInRead),
+        RowCompartmentByDefault => compartment(Inclusion::RowInDefault),
+        RowCompartmentByWrite => compartment(Inclusion::RowInWrite),
+        WriteGroup => group(Inclusion::WriteInRead),
+        DefaultGroup => group(Inclusion::DefaultInRead),
+        RowGroupByDefault => group(Inclusion::RowInDefault),
+        RowGroupByWrite => group(Inclusion::RowInWrite),
         UserUnused => unused,
     }
 }

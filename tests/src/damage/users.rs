@@ -1,70 +1,29 @@
 //! Damage to a user's rules (34 at its record).
 
-use super::components::BAD_BYTES;
 use super::{Draft, Expected};
 use crate::builder::layout::RecordAt;
 use crate::builder::{user_record, Policy, Rights, User};
 use crate::rng::Rng;
 
-/// Any user from a place on.
-fn from(draft: &Draft, rng: &mut Rng, lowest: usize) -> Option<usize> {
-    let count = draft.policy.users.len();
-    (count > lowest).then(|| rng.range(lowest, count - 1))
-}
-
-fn any(draft: &Draft, rng: &mut Rng) -> Option<RecordAt> {
-    Some(draft.policy.user_at(from(draft, rng, 0)?))
-}
-
-fn write(draft: &mut Draft, at: RecordAt, byte: usize, bytes: &[u8]) -> Option<Expected> {
-    draft.write(at.offset + byte, bytes);
-    Expected::user(at)
+pub fn any(draft: &Draft, rng: &mut Rng) -> Option<RecordAt> {
+    let place = rng.place(0, draft.policy.users.len())?;
+    Some(draft.policy.user_at(place))
 }
 
 /// Writes the record of a user as the policy now has it.
 fn rewrite(draft: &mut Draft, place: usize) -> Option<Expected> {
     let record = user_record(&draft.policy.users[place]);
-    write(draft, draft.policy.user_at(place), 0, &record)
-}
-
-pub fn name_empty(draft: &mut Draft, rng: &mut Rng) -> Option<Expected> {
-    let at = any(draft, rng)?;
-    write(draft, at, 0, &[0; 31])
-}
-
-pub fn name_long(draft: &mut Draft, rng: &mut Rng) -> Option<Expected> {
-    let at = any(draft, rng)?;
-    let length = *rng.pick(&[31, 31, 32, 127, 255]);
-    draft.put(at.offset + 1, &[b'Z'; 30]);
-    write(draft, at, 0, &[length])
-}
-
-pub fn name_byte(draft: &mut Draft, rng: &mut Rng) -> Option<Expected> {
-    let at = any(draft, rng)?;
-    let length = draft.get(at.offset).max(1);
-    let byte = 1 + rng.index(usize::from(length));
-    write(draft, at, byte, &[*rng.pick(BAD_BYTES)])
-}
-
-pub fn name_rest(draft: &mut Draft, rng: &mut Rng) -> Option<Expected> {
-    let at = any(draft, rng)?;
-    let length = usize::from(draft.get(at.offset));
-    if length >= 30 {
-        return None;
-    }
-    let byte = rng.with_ends(1 + length, 30);
-    let value = if rng.once_in(2) { b'A' } else { rng.nonzero() };
-    write(draft, at, byte, &[value])
+    draft.break_record(draft.policy.user_at(place), 0, &record)
 }
 
 pub fn name_equal(draft: &mut Draft, rng: &mut Rng) -> Option<Expected> {
-    let place = from(draft, rng, 1)?;
+    let place = rng.place(1, draft.policy.users.len())?;
     rename(draft, place, draft.policy.users[place - 1].name.clone())
 }
 
 /// A name with one byte lower than the name before it has there.
 pub fn name_lower(draft: &mut Draft, rng: &mut Rng) -> Option<Expected> {
-    let place = from(draft, rng, 1)?;
+    let place = rng.place(1, draft.policy.users.len())?;
     let before = draft.policy.users[place - 1].name.as_bytes();
     let at = rng.index(before.len());
     let mut name = before.to_vec();
@@ -79,7 +38,7 @@ pub fn name_lower(draft: &mut Draft, rng: &mut Rng) -> Option<Expected> {
 
 /// A name that begins the name before it.
 pub fn name_begins(draft: &mut Draft, rng: &mut Rng) -> Option<Expected> {
-    let place = from(draft, rng, 1)?;
+    let place = rng.place(1, draft.policy.users.len())?;
     let before = &draft.policy.users[place - 1].name;
     let length = (before.len() > 1).then(|| rng.range(1, before.len() - 1))?;
     rename(draft, place, before[..length].to_string())
@@ -93,7 +52,7 @@ fn rename(draft: &mut Draft, place: usize, name: String) -> Option<Expected> {
 pub fn privilege_128(draft: &mut Draft, rng: &mut Rng) -> Option<Expected> {
     let at = any(draft, rng)?;
     let value = draft.get(at.offset + 31) | 128;
-    write(draft, at, 31, &[value])
+    draft.break_record(at, 31, &[value])
 }
 
 pub fn minimum_over_row(draft: &mut Draft, rng: &mut Rng) -> Option<Expected> {
@@ -112,8 +71,8 @@ pub fn default_over_maximum(draft: &mut Draft, rng: &mut Rng) -> Option<Expected
 fn levels(draft: &mut Draft, rng: &mut Rng, choose: fn(u8, u8) -> [u8; 4]) -> Option<Expected> {
     let at = any(draft, rng)?;
     let top = draft.policy.levels.len().checked_sub(1)?;
-    let low = (top > 0).then(|| rng.index(top))?;
-    write(draft, at, 32, &choose(low as u8, top as u8))
+    let low = rng.place(0, top)?;
+    draft.break_record(at, 32, &choose(low as u8, top as u8))
 }
 
 pub fn maximum_missing(draft: &mut Draft, rng: &mut Rng) -> Option<Expected> {
@@ -140,7 +99,7 @@ fn level_missing(draft: &mut Draft, rng: &mut Rng, bytes: &[usize]) -> Option<Ex
     for byte in bytes {
         draft.put(at.offset + byte, &[level as u8]);
     }
-    write(draft, at, bytes[0], &[level as u8])
+    draft.break_record(at, bytes[0], &[level as u8])
 }
 
 pub fn compartment_missing(draft: &mut Draft, rng: &mut Rng) -> Option<Expected> {
@@ -160,7 +119,7 @@ fn place_missing(
     count: usize,
     rights: fn(&mut User) -> &mut Rights,
 ) -> Option<Expected> {
-    let user = from(draft, rng, 0)?;
+    let user = rng.place(0, draft.policy.users.len())?;
     if count >= 64 {
         return None;
     }
@@ -174,28 +133,33 @@ fn place_missing(
     rewrite(draft, user)
 }
 
-pub fn write_compartment(draft: &mut Draft, rng: &mut Rng) -> Option<Expected> {
-    compartment(draft, rng, |bit| [0, bit, 0, 0])
+/// The rules among a user's read, write, default and row sets.
+#[derive(Clone, Copy)]
+pub enum Inclusion {
+    WriteInRead,
+    DefaultInRead,
+    RowInDefault,
+    RowInWrite,
 }
 
-pub fn default_compartment(draft: &mut Draft, rng: &mut Rng) -> Option<Expected> {
-    compartment(draft, rng, |bit| [0, 0, bit, 0])
-}
-
-pub fn row_compartment_by_default(draft: &mut Draft, rng: &mut Rng) -> Option<Expected> {
-    compartment(draft, rng, |bit| [bit, bit, 0, bit])
-}
-
-pub fn row_compartment_by_write(draft: &mut Draft, rng: &mut Rng) -> Option<Expected> {
-    compartment(draft, rng, |bit| [bit, 0, bit, bit])
+impl Inclusion {
+    /// Which of read, write, default and row have a place, where only this rule is broken.
+    fn broken(self, bit: u64) -> [u64; 4] {
+        match self {
+            Inclusion::WriteInRead => [0, bit, 0, 0],
+            Inclusion::DefaultInRead => [0, 0, bit, 0],
+            Inclusion::RowInDefault => [bit, bit, 0, bit],
+            Inclusion::RowInWrite => [bit, 0, bit, bit],
+        }
+    }
 }
 
 /// Puts one compartment into some of read, write, default and row, and takes it from the others.
-fn compartment(draft: &mut Draft, rng: &mut Rng, chosen: fn(u64) -> [u64; 4]) -> Option<Expected> {
-    let user = from(draft, rng, 0)?;
+pub fn compartment(draft: &mut Draft, rng: &mut Rng, rule: Inclusion) -> Option<Expected> {
+    let user = rng.place(0, draft.policy.users.len())?;
     let count = draft.policy.compartments.len().min(64);
-    let bit = (count > 0).then(|| 1 << rng.index(count))?;
-    let [read, write, default, row] = chosen(bit);
+    let bit = 1 << rng.place(0, count)?;
+    let [read, write, default, row] = rule.broken(bit);
     let rights = &mut draft.policy.users[user].compartments;
     rights.read = rights.read & !bit | read;
     rights.write = rights.write & !bit | write;
@@ -204,33 +168,17 @@ fn compartment(draft: &mut Draft, rng: &mut Rng, chosen: fn(u64) -> [u64; 4]) ->
     rewrite(draft, user)
 }
 
-pub fn write_group(draft: &mut Draft, rng: &mut Rng) -> Option<Expected> {
-    group(draft, rng, |bit| [0, bit, 0, 0])
-}
-
-pub fn default_group(draft: &mut Draft, rng: &mut Rng) -> Option<Expected> {
-    group(draft, rng, |bit| [0, 0, bit, 0])
-}
-
-pub fn row_group_by_default(draft: &mut Draft, rng: &mut Rng) -> Option<Expected> {
-    group(draft, rng, |bit| [bit, bit, 0, bit])
-}
-
-pub fn row_group_by_write(draft: &mut Draft, rng: &mut Rng) -> Option<Expected> {
-    group(draft, rng, |bit| [bit, 0, bit, bit])
-}
-
 /// Puts one group into some of the sets. From the others it goes with its ancestors, and what they
 /// then no longer reach goes too, so that no other rule is broken.
-fn group(draft: &mut Draft, rng: &mut Rng, chosen: fn(u64) -> [u64; 4]) -> Option<Expected> {
-    let place = from(draft, rng, 0)?;
+pub fn group(draft: &mut Draft, rng: &mut Rng, rule: Inclusion) -> Option<Expected> {
+    let place = rng.place(0, draft.policy.users.len())?;
     let count = draft.policy.groups.len().min(64);
-    let group = (count > 0).then(|| rng.index(count))?;
+    let group = rng.place(0, count)?;
     let policy: &Policy = &draft.policy;
     let old = &policy.users[place].groups;
     let ancestors = policy.with_ancestors(group);
     let keep = |set: u64, added: u64| if added == 0 { set & !ancestors } else { set };
-    let [read, write, default, row] = chosen(1 << group);
+    let [read, write, default, row] = rule.broken(1 << group);
     let new_read = keep(old.read, read) | read;
     let reach = policy.below(new_read);
     let new_write = keep(old.write, write) & reach | write;
@@ -253,5 +201,5 @@ pub fn unused(draft: &mut Draft, rng: &mut Rng) -> Option<Expected> {
         rng.with_ends(104, 127)
     };
     let value = rng.nonzero();
-    write(draft, at, byte, &[value])
+    draft.break_record(at, byte, &[value])
 }

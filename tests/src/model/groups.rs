@@ -1,6 +1,7 @@
 //! Parents of groups, and the set below(S).
 
 use super::layout::Image;
+use std::collections::BTreeSet;
 use std::iter;
 
 fn parent(image: &Image, group: usize) -> Option<usize> {
@@ -28,4 +29,10 @@ pub fn below(image: &Image, set: &[usize]) -> Vec<usize> {
         walk.any(|ancestor| set.contains(&ancestor))
     };
     (0..image.counts.groups).filter(is_below).collect()
+}
+
+/// The same of a label's or a user's groups.
+pub fn set_below(image: &Image, set: &BTreeSet<usize>) -> BTreeSet<usize> {
+    let places: Vec<usize> = set.iter().copied().collect();
+    below(image, &places).into_iter().collect()
 }

@@ -4,7 +4,7 @@ use super::layout::set_at;
 use std::collections::BTreeSet;
 
 /// The bytes of a label.
-const LABEL: usize = 48;
+pub const LABEL: usize = 48;
 
 /// A level's place and two sets of places, which may be past what a policy has.
 #[derive(Clone, Debug, PartialEq, Eq)]

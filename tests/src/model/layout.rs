@@ -124,7 +124,7 @@ pub struct Image<'a> {
 }
 
 impl Image<'_> {
-    pub fn read(bytes: &[u8]) -> Option<Image<'_>> {
+    pub(super) fn read(bytes: &[u8]) -> Option<Image<'_>> {
         let counts = Counts::read(bytes.get(..BLOCK)?)?;
         let fits = bytes.len() == counts.users().end() * BLOCK;
         fits.then_some(Image { bytes, counts })

@@ -1,18 +1,27 @@
-//! The rules of a policy image and of label text, written from document 01 section by section,
-//! without a thought for speed. Nothing here is shared with the library or with the builder of images.
+//! The rules of a policy image, of label text, of sessions, of verdicts and of two labels, written
+//! from document 01 section by section, without a thought for speed. Nothing here is shared with the
+//! library or with the builder of images.
 
 mod groups;
 mod label;
 mod layout;
 mod records;
+mod session;
 mod text;
+mod two_labels;
+mod user;
+mod verdict;
 
 pub use label::Label;
+pub use layout::Image;
+pub use session::{open, set_label, set_row_label, Session};
 pub use text::{parse, print, print_within};
+pub use two_labels::{dominates, merge, strictly_dominates};
+pub use verdict::{may_read, may_write};
 
-use layout::{Image, Kind, Run, BLOCK};
+use layout::{Kind, Run, BLOCK};
 
-/// What the calls on an image refuse, with the values that belong to the number.
+/// What the calls refuse, with the values that belong to the number.
 #[derive(Clone, Copy, Debug, PartialEq, Eq)]
 pub enum Refusal {
     /// 1: length 0, not a multiple of 512, over 65,536.
@@ -21,16 +30,30 @@ pub enum Refusal {
     Block(usize),
     /// 3: any other rule of the image is broken.
     Image,
+    /// 4: no user of that name.
+    User,
     /// 5: a text isn't of the shape of label text.
     Text,
     /// 6: a name isn't in its class; its offset.
     NameUnknown(usize),
     /// 7: a name came before in its list; its offset.
     NameRepeated(usize),
+    /// 8: a new label's level is not allowed.
+    Level,
+    /// 9: its compartments are not.
+    Compartments,
+    /// 10: its groups are not.
+    Groups,
+    /// 11: the row label would stand outside the new write sets or above the new level.
+    RowLabel,
     /// 13: the result is longer than its buffer.
     Room,
+    /// 17: merge letters aren't three of those allowed.
+    Letters,
     /// 18: a lent label, or a class and place, names a component that the policy lacks.
     Component,
+    /// 19: a lent session breaks its rules for that image.
+    Session,
 }
 
 impl Refusal {
@@ -39,11 +62,18 @@ impl Refusal {
             Refusal::Length => 1,
             Refusal::Block(_) => 2,
             Refusal::Image => 3,
+            Refusal::User => 4,
             Refusal::Text => 5,
             Refusal::NameUnknown(_) => 6,
             Refusal::NameRepeated(_) => 7,
+            Refusal::Level => 8,
+            Refusal::Compartments => 9,
+            Refusal::Groups => 10,
+            Refusal::RowLabel => 11,
             Refusal::Room => 13,
+            Refusal::Letters => 17,
             Refusal::Component => 18,
+            Refusal::Session => 19,
         }
     }
 
@@ -87,8 +117,9 @@ pub fn check(image: &[u8]) -> Result<(), Refusal> {
     }
 }
 
-/// The image taken apart, if it is accepted.
-fn accepted(image: &[u8]) -> Result<Image<'_>, Refusal> {
+/// The image taken apart, if it is accepted. Calls on sessions are lent what this gives, so that one
+/// check serves many calls.
+pub fn accepted(image: &[u8]) -> Result<Image<'_>, Refusal> {
     check(image)?;
     Image::read(image).ok_or(Refusal::Image)
 }

@@ -115,7 +115,7 @@ pub fn user_holds_by_below(image: &Image, place: usize) -> bool {
 }
 
 /// Four sets in a row: read, write, default, row.
-fn sets_at(record: &[u8], at: usize) -> [Vec<usize>; 4] {
+pub fn sets_at(record: &[u8], at: usize) -> [Vec<usize>; 4] {
     [0, 8, 16, 24].map(|step| set_at(record, at + step))
 }
 

@@ -15,13 +15,17 @@ struct Part<'a> {
 
 /// The label that a text stands for.
 pub fn parse(image: &[u8], text: &[u8]) -> Result<Label, Refusal> {
-    let image = accepted(image)?;
+    label_of(&accepted(image)?, text)
+}
+
+/// The same for an image that is accepted.
+pub fn label_of(image: &Image, text: &[u8]) -> Result<Label, Refusal> {
     let [level, compartments, groups] = names(text).ok_or(Refusal::Text)?;
-    let level = places(&image, 1, &level)?;
+    let level = places(image, 1, &level)?;
     Ok(Label {
         level: level[0],
-        compartments: places(&image, 2, &compartments)?.into_iter().collect(),
-        groups: places(&image, 3, &groups)?.into_iter().collect(),
+        compartments: places(image, 2, &compartments)?.into_iter().collect(),
+        groups: places(image, 3, &groups)?.into_iter().collect(),
     })
 }
 

@@ -1,0 +1,96 @@
+//! What a user's record gives to sessions and verdicts.
+
+use super::groups::set_below;
+use super::label::Label;
+use super::layout::Image;
+use super::records::{name_of, sets_at};
+use std::collections::BTreeSet;
+
+/// The privileges that have an effect.
+#[derive(Clone, Copy, Debug, PartialEq, Eq)]
+pub enum Privilege {
+    Read,
+    Full,
+    CompAccess,
+}
+
+const BITS: [(u8, Privilege); 3] = [
+    (1, Privilege::Read),
+    (2, Privilege::Full),
+    (4, Privilege::CompAccess),
+];
+
+/// Compartments and groups that a user, or a session, may read or write.
+pub struct Rights {
+    pub compartments: BTreeSet<usize>,
+    pub groups: BTreeSet<usize>,
+}
+
+pub struct User {
+    privileges: Vec<Privilege>,
+    pub maximum: usize,
+    pub minimum: usize,
+    pub read: Rights,
+    pub write: Rights,
+    /// The label and the row label at which a session opens.
+    pub default: Label,
+    pub row: Label,
+}
+
+impl User {
+    /// The user at a place, if there is one.
+    pub fn at(image: &Image, place: usize) -> Option<User> {
+        if place >= image.counts.users().count {
+            return None;
+        }
+        let record = image.user(place);
+        let level = |at: usize| usize::from(record[at]);
+        let compartments = sets_at(record, 40).map(BTreeSet::from_iter);
+        let groups = sets_at(record, 72).map(BTreeSet::from_iter);
+        let [read, write, default, row] = pairs(compartments, groups);
+        let label = |level, rights: Rights| Label {
+            level,
+            compartments: rights.compartments,
+            groups: rights.groups,
+        };
+        let held = |&(bit, _): &(u8, Privilege)| record[31] / bit % 2 == 1;
+        Some(User {
+            privileges: BITS.into_iter().filter(held).map(|(_, it)| it).collect(),
+            maximum: level(32),
+            minimum: level(33),
+            read,
+            write,
+            default: label(level(34), default),
+            row: label(level(35), row),
+        })
+    }
+
+    pub fn has(&self, privilege: Privilege) -> bool {
+        self.privileges.contains(&privilege)
+    }
+
+    /// "The session's write compartments are its compartments that the user may write. Its write
+    /// groups are below(session groups) ∩ below(write groups)."
+    pub fn write_sets(&self, image: &Image, session: &Label) -> Rights {
+        let below_session = set_below(image, &session.groups);
+        let below_write = set_below(image, &self.write.groups);
+        Rights {
+            compartments: &session.compartments & &self.write.compartments,
+            groups: &below_session & &below_write,
+        }
+    }
+}
+
+/// Read, write, default and row, each with its compartments and its groups.
+fn pairs(compartments: [BTreeSet<usize>; 4], groups: [BTreeSet<usize>; 4]) -> [Rights; 4] {
+    let mut groups = groups.into_iter();
+    compartments.map(|compartments| Rights {
+        compartments,
+        groups: groups.next().unwrap_or_default(),
+    })
+}
+
+/// The place of the user of a name, byte for byte.
+pub fn place_of(image: &Image, name: &[u8]) -> Option<usize> {
+    (0..image.counts.users().count).find(|&place| name_of(image.user(place), 0) == name)
+}

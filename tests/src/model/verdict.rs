@@ -1,0 +1,93 @@
+//! Verdicts on a row's label, which are asked of a tag.
+
+use super::groups::set_below;
+use super::label::Label;
+use super::layout::{set_at, u32_at, Image};
+use super::session::{user_of, Session};
+use super::user::{Privilege, User};
+use super::Refusal;
+
+/// Whether the session may read a row with the tag. "READ (reading only) and FULL (both) see every
+/// row, tag 0 and unknown tags too. Otherwise those two tags are denied."
+pub fn may_read(image: &Image, session: &Session, tag: u32) -> Result<bool, Refusal> {
+    let user = user_of(image, session)?;
+    if user.has(Privilege::Read) || user.has(Privilege::Full) {
+        return Ok(true);
+    }
+    let Some(row) = label_with(image, tag) else {
+        return Ok(false);
+    };
+    let by_compartments =
+        user.has(Privilege::CompAccess) && is_readable_by_compartments(&session.label, &row);
+    Ok(by_compartments || is_readable(image, &session.label, &row))
+}
+
+/// Whether the session may write a row with the tag.
+pub fn may_write(image: &Image, session: &Session, tag: u32) -> Result<bool, Refusal> {
+    let user = user_of(image, session)?;
+    if user.has(Privilege::Full) {
+        return Ok(true);
+    }
+    let Some(row) = label_with(image, tag) else {
+        return Ok(false);
+    };
+    let by_compartments = user.has(Privilege::CompAccess)
+        && is_writable_by_compartments(image, &user, &session.label, &row);
+    Ok(by_compartments || is_writable(image, &user, &session.label, &row))
+}
+
+/// The label that stands under a tag.
+fn label_with(image: &Image, tag: u32) -> Option<Label> {
+    let records = (0..image.counts.labels().count).map(|place| image.label(place));
+    let mut found = records.filter(|record| u32_at(record, 0) == tag as usize);
+    found.next().map(|record| Label {
+        level: usize::from(record[4]),
+        compartments: set_at(record, 8).into_iter().collect(),
+        groups: set_at(record, 16).into_iter().collect(),
+    })
+}
+
+/// "**Read**: row level ≤ session level; row groups empty, or one of them in below(session groups);
+/// row compartments all in the session's."
+fn is_readable(image: &Image, session: &Label, row: &Label) -> bool {
+    let below = set_below(image, &session.groups);
+    let shares_group = row.groups.iter().any(|group| below.contains(group));
+    row.level <= session.level
+        && (row.groups.is_empty() || shares_group)
+        && row.compartments.is_subset(&session.compartments)
+}
+
+/// "**COMPACCESS** only adds. With the level test met: a row with compartments is also readable if
+/// the session has them all .."
+fn is_readable_by_compartments(session: &Label, row: &Label) -> bool {
+    row.level <= session.level
+        && !row.compartments.is_empty()
+        && row.compartments.is_subset(&session.compartments)
+}
+
+/// The level test of writing: "minimum ≤ row level ≤ session level".
+fn level_is_writable(user: &User, session: &Label, row: &Label) -> bool {
+    user.minimum <= row.level && row.level <= session.level
+}
+
+/// "**Write**: .. Row has groups: one is in the write groups, and all its compartments are in the
+/// session's. No groups: all its compartments are in the write compartments."
+fn is_writable(image: &Image, user: &User, session: &Label, row: &Label) -> bool {
+    if !level_is_writable(user, session, row) {
+        return false;
+    }
+    let write = user.write_sets(image, session);
+    if row.groups.is_empty() {
+        return row.compartments.is_subset(&write.compartments);
+    }
+    let shares_group = row.groups.iter().any(|group| write.groups.contains(group));
+    shares_group && row.compartments.is_subset(&session.compartments)
+}
+
+/// ".. and also writable if all are write compartments."
+fn is_writable_by_compartments(image: &Image, user: &User, session: &Label, row: &Label) -> bool {
+    let write = user.write_sets(image, session);
+    level_is_writable(user, session, row)
+        && !row.compartments.is_empty()
+        && row.compartments.is_subset(&write.compartments)
+}

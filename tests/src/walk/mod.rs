@@ -1,0 +1,266 @@
+//! Calls on sessions by seed. A seed names a policy and a walk through its users' sessions: they are
+//! opened, changed and asked, whole and broken, with the policy's image and with damaged ones.
+
+mod breaks;
+mod policy;
+mod tally;
+mod wishes;
+
+pub use breaks::Break;
+pub use policy::policy;
+pub use tally::WalkTally;
+
+use crate::builder::{letters, to_image, Label, Policy};
+use crate::calls::Call;
+use crate::damage::{Damage, Draft};
+use crate::ffi::{Answer, SESSION};
+use crate::model;
+use crate::rng::Rng;
+use crate::texts;
+use wishes::View;
+
+/// Where the session label and the row label begin in a session.
+pub const LABEL_AT: usize = 8;
+pub const ROW_AT: usize = 56;
+
+/// How many sessions a walk remembers.
+const REMEMBERED: usize = 8;
+
+/// A call of a walk: what it is lent, and what the model gives.
+pub struct Step<'a> {
+    pub image: &'a [u8],
+    pub lent: [u8; SESSION],
+    pub call: Call,
+    pub answer: Answer,
+    pub session: [u8; SESSION],
+    /// The privileges of the session's user, if there is such a user.
+    pub privileges: Option<u8>,
+    /// Whether a verdict goes by labels: a known tag, and neither READ nor FULL.
+    pub is_ruled: bool,
+}
+
+/// Shows the first calls of a seed's walk. Sessions that the model hands out are lent again later.
+pub fn each_call(seed: u64, count: usize, mut see: impl FnMut(&Step)) {
+    let mut walk = Walk::new(seed);
+    let images = walk.images();
+    let checked: Vec<_> = images.iter().map(|image| model::accepted(image)).collect();
+    for _ in 0..count {
+        let image = walk.image();
+        let lent = walk.session();
+        let call = walk.call(&lent);
+        let mut session = lent;
+        let answer = call.by_model(&checked[image], &mut session);
+        if !call.is_verdict() && answer == Answer::Done(0) {
+            walk.keep(session);
+        }
+        see(&Step {
+            image: &images[image],
+            lent,
+            answer,
+            session,
+            privileges: walk.privileges(&lent),
+            is_ruled: walk.is_ruled(&call, &lent),
+            call,
+        });
+    }
+}
+
+struct Walk {
+    policy: Policy,
+    rng: Rng,
+    /// Sessions that calls handed out.
+    sessions: Vec<[u8; SESSION]>,
+}
+
+impl Walk {
+    fn new(seed: u64) -> Walk {
+        let mut rng = Rng::new(seed);
+        Walk {
+            policy: policy(&mut rng),
+            rng,
+            sessions: Vec::new(),
+        }
+    }
+
+    /// The policy's image, and damaged ones that are refused by 1, by 2 and by 3.
+    fn images(&mut self) -> Vec<Vec<u8>> {
+        let mut images = vec![to_image(&self.policy)];
+        for number in 1..=3 {
+            images.push(damaged(&self.policy, number, &mut self.rng));
+        }
+        images
+    }
+
+    fn image(&mut self) -> usize {
+        match self.rng.index(16) {
+            0 => self.rng.range(1, 3),
+            _ => 0,
+        }
+    }
+
+    /// Mostly one that was handed out; some are broken then, or given to another user. Bytes that are
+    /// not looked at often hold anything.
+    fn session(&mut self) -> [u8; SESSION] {
+        let rng = &mut self.rng;
+        if self.sessions.is_empty() || rng.once_in(40) {
+            return noise(self.policy.users.len(), rng);
+        }
+        let mut session = *rng.pick(&self.sessions);
+        if rng.once_in(8) {
+            // Without what the break takes the session stays whole.
+            let _ = rng.pick(Break::ALL).apply(&self.policy, &mut session, rng);
+        }
+        if rng.once_in(16) {
+            session[..2].fill(rng.index(self.policy.users.len()) as u8);
+        }
+        if rng.once_in(2) {
+            spoil_unused(&mut session, rng);
+        }
+        session
+    }
+
+    fn call(&mut self, session: &[u8; SESSION]) -> Call {
+        match self.rng.index(20) {
+            _ if self.sessions.is_empty() && !self.policy.users.is_empty() => {
+                Call::Open(self.name())
+            }
+            0..=2 => Call::Open(self.name()),
+            3..=7 => Call::SetLabel(self.text(session, wishes::session_label)),
+            8..=11 => Call::SetRowLabel(self.text(session, wishes::row_label)),
+            12..=15 => Call::MayRead(self.tag()),
+            _ => Call::MayWrite(self.tag()),
+        }
+    }
+
+    /// Mostly a user's name, else one near it or one that can be no user's.
+    fn name(&mut self) -> Vec<u8> {
+        let rng = &mut self.rng;
+        let Some(user) = rng.place(0, self.policy.users.len()) else {
+            return letters(rng.range(0, 40), rng).into_bytes();
+        };
+        let mut name = self.policy.users[user].name.clone().into_bytes();
+        let length = name.len();
+        match rng.index(24) {
+            0 => name.clear(),
+            1 => name.make_ascii_lowercase(),
+            2 => name.truncate(rng.index(length)),
+            3 => name.extend(letters(rng.range(1, 3), rng).bytes()),
+            4 => name.extend(letters(rng.range(31, 60), rng).bytes()),
+            // As the record has it, with the zeros after it.
+            5 => name.resize(rng.range(length, 31), 0),
+            // A length that is the same mod 256.
+            6 => name.resize(length + 256, b'A'),
+            7 => name[length - 1] = rng.byte(),
+            8 => name = letters(rng.range(1, 30), rng).into_bytes(),
+            _ => {}
+        }
+        name
+    }
+
+    /// Mostly around what is allowed to the session's user, else any text.
+    fn text(&mut self, session: &[u8; SESSION], wish: fn(&View, &mut Rng) -> Label) -> Vec<u8> {
+        let Walk { policy, rng, .. } = self;
+        let Some(user) = policy.users.get(usize::from(session[0])) else {
+            return texts::text(policy, rng);
+        };
+        if rng.once_in(8) {
+            return texts::text(policy, rng);
+        }
+        let view = View {
+            policy,
+            user,
+            session,
+        };
+        let mut label = wish(&view, rng);
+        for _ in 0..*rng.pick(&[0, 0, 0, 1, 1, 1, 2]) {
+            wishes::disturb(&mut label, policy, rng);
+        }
+        texts::text_of(policy, &label, rng)
+    }
+
+    /// Mostly a known tag; else 0, one over all tags, any, or one bit from a known one.
+    fn tag(&mut self) -> u32 {
+        let rng = &mut self.rng;
+        let known = match rng.place(0, self.policy.labels.len()) {
+            Some(place) => self.policy.labels[place].tag,
+            None => 1,
+        };
+        match rng.index(16) {
+            0 => 0,
+            1 => rng.with_ends(100_000_000, u32::MAX as usize) as u32,
+            2 => rng.with_ends(1, 99_999_999) as u32,
+            3 => known ^ 1 << rng.index(32),
+            _ => known,
+        }
+    }
+
+    fn keep(&mut self, session: [u8; SESSION]) {
+        if self.sessions.len() < REMEMBERED {
+            return self.sessions.push(session);
+        }
+        self.sessions[self.rng.index(REMEMBERED)] = session;
+    }
+
+    fn privileges(&self, session: &[u8; SESSION]) -> Option<u8> {
+        let user = self.policy.users.get(usize::from(session[0]))?;
+        Some(user.privileges)
+    }
+
+    fn is_ruled(&self, call: &Call, session: &[u8; SESSION]) -> bool {
+        let (Call::MayRead(tag) | Call::MayWrite(tag)) = call else {
+            return false;
+        };
+        let user = self.policy.users.get(usize::from(session[0]));
+        user.is_some_and(policy::is_ruled) && self.policy.labels.iter().any(|it| it.tag == *tag)
+    }
+}
+
+/// Kinds of damage are tried until one is refused with the number.
+fn damaged(policy: &Policy, number: u32, rng: &mut Rng) -> Vec<u8> {
+    loop {
+        let mut draft = Draft::new(policy.clone());
+        let expected = rng.pick(Damage::ALL).apply(&mut draft, rng);
+        if expected.is_some_and(|expected| expected.refusal().number() == number) {
+            return draft.image;
+        }
+    }
+}
+
+/// Zeros or random bytes, often with the place of a user.
+fn noise(users: usize, rng: &mut Rng) -> [u8; SESSION] {
+    let mut session = [0; SESSION];
+    if rng.once_in(2) {
+        session = session.map(|_| rng.byte());
+    }
+    if rng.once_in(2) {
+        session[..2].fill(rng.index(users.max(1)) as u8);
+    }
+    session
+}
+
+/// Any bytes where none is looked at.
+pub fn spoil_unused(session: &mut [u8; SESSION], rng: &mut Rng) {
+    session[2..LABEL_AT].fill_with(|| rng.byte());
+    for label in [LABEL_AT, ROW_AT] {
+        session[label..label + 4].fill_with(|| rng.byte());
+        session[label + 5..label + 8].fill_with(|| rng.byte());
+    }
+}
+
+/// The label at an offset of a session, with groups up to 64.
+pub fn label_at(session: &[u8; SESSION], at: usize) -> Label {
+    let set = |at: usize| {
+        let bytes = session[at..at + 8].iter().rev();
+        bytes.fold(0, |set, &byte| set << 8 | u64::from(byte))
+    };
+    Label {
+        tag: 0,
+        level: session[at + 4],
+        compartments: set(at + 8),
+        groups: set(at + 16),
+    }
+}
+
+fn set_bit(session: &mut [u8; SESSION], at: usize, place: usize) {
+    session[at + place / 8] |= 1 << (place % 8);
+}

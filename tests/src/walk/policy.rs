@@ -1,0 +1,96 @@
+//! Policies for walks: users with and without privileges, and rows' labels around their rights.
+
+use crate::builder::{first, random, Label, Policy, Rights, Sizes, User};
+use crate::rng::Rng;
+
+const READ: u8 = 1;
+const FULL: u8 = 2;
+
+/// Mostly small, so that sets meet often; now and then up to all limits.
+pub fn policy(rng: &mut Rng) -> Policy {
+    let mut sizes = match rng.index(100) {
+        0 => Sizes::any(rng),
+        1..=8 => Sizes::medium(rng),
+        _ => Sizes::small(rng),
+    };
+    sizes.labels += rng.range(0, 12).min(Sizes::FULL.labels - sizes.labels);
+    if sizes.users == 0 && !rng.once_in(6) {
+        sizes.users = rng.range(1, 3);
+    }
+    let mut policy = random(sizes, rng);
+    let all = first(policy.compartments.len());
+    for user in &mut policy.users {
+        if rng.once_in(2) {
+            user.privileges &= !(READ | FULL);
+        }
+        if rng.once_in(2) {
+            widen(&mut user.compartments, all, rng);
+        }
+    }
+    for place in 0..policy.labels.len() {
+        if let Some(user) = rng.place(0, policy.users.len()) {
+            let tag = policy.labels[place].tag;
+            policy.labels[place] = row(tag, &policy, &policy.users[user], rng);
+        }
+    }
+    policy
+}
+
+/// All compartments to read, all in the default label, and more of them to write.
+fn widen(rights: &mut Rights, all: u64, rng: &mut Rng) {
+    rights.read = all;
+    rights.default = all;
+    rights.write |= rng.subset(all);
+}
+
+/// Whether verdicts on all rows go by labels for this user.
+pub fn is_ruled(user: &User) -> bool {
+    user.privileges & (READ | FULL) == 0
+}
+
+/// A row's label that is often inside a user's rights, and often outside in one place.
+fn row(tag: u32, policy: &Policy, user: &User, rng: &mut Rng) -> Label {
+    let level = match rng.index(4) {
+        0 => rng.index(policy.levels.len()),
+        1 => rng.range(0, user.levels.minimum.into()),
+        _ => rng.range(user.levels.minimum.into(), user.levels.default.into()),
+    };
+    let own = &user.compartments;
+    let mut compartments = match rng.index(6) {
+        0 => 0,
+        1 => rng.subset(own.read),
+        2 => one_of(own.default & !own.write, rng),
+        3 => rng.subset(own.default),
+        4 => one_of(own.default & own.write, rng),
+        _ => rng.subset(own.default & own.write),
+    };
+    if rng.once_in(6) {
+        compartments |= one_of(first(policy.compartments.len()), rng);
+    }
+    Label {
+        tag,
+        level: level as u8,
+        compartments,
+        groups: row_groups(policy, user, rng),
+    }
+}
+
+/// None, some that the user reaches, or one group and few others: one reached group is enough.
+fn row_groups(policy: &Policy, user: &User, rng: &mut Rng) -> u64 {
+    let own = &user.groups;
+    let (default, write) = (policy.below(own.default), policy.below(own.write));
+    match rng.index(8) {
+        0 | 1 => 0,
+        2 => rng.subset(first(policy.groups.len())),
+        3 => one_of(policy.below(own.read), rng),
+        4 => one_of(default & !write, rng),
+        5 => one_of(default, rng),
+        6 => one_of(default & write, rng) | one_of(first(policy.groups.len()), rng),
+        _ => one_of(default & write, rng),
+    }
+}
+
+/// The set of one place of a set, or none.
+fn one_of(set: u64, rng: &mut Rng) -> u64 {
+    rng.place_in(set).map_or(0, |place| 1 << place)
+}

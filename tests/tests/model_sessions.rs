@@ -1,0 +1,135 @@
+//! The model of sessions, verdicts and two labels by itself, and what it is compared on.
+
+use brawnesk_tests::builder::{sample, to_image};
+use brawnesk_tests::calls::{Call, PairCall};
+use brawnesk_tests::compare::CallTally;
+use brawnesk_tests::ffi::{Answer, SESSION};
+use brawnesk_tests::model::{accepted, check, Label, Session};
+use brawnesk_tests::pairs;
+use brawnesk_tests::rng::Rng;
+use brawnesk_tests::vectors;
+use brawnesk_tests::walk::{each_call, policy, Break, WalkTally};
+
+#[test]
+fn vectors_of_sessions() {
+    let mut cases = 0;
+    for section in vectors::sessions() {
+        assert_eq!(check(&section.image), Ok(()), "{}", section.cases[0].line);
+        let checked = accepted(&section.image);
+        for case in &section.cases {
+            case.run(|call, session| call.by_model(&checked, session));
+            cases += 1;
+        }
+    }
+    assert!(cases >= 200, "{cases} cases");
+}
+
+/// The last file's policy is the sample's.
+#[test]
+fn vectors_are_of_the_sample() {
+    let mut last = vectors::sessions().pop().expect("the files have sections");
+    last.policy.labels = sample().labels;
+    assert_eq!(to_image(&last.policy), to_image(&sample()));
+}
+
+#[test]
+fn vectors_of_two_labels() {
+    let cases = vectors::two_labels();
+    assert!(cases.len() >= 40, "{} cases", cases.len());
+    for case in cases {
+        case.run(PairCall::by_model);
+    }
+}
+
+/// The walks for comparing go everywhere.
+#[test]
+fn walks_are_varied() {
+    let mut tally = WalkTally::default();
+    for seed in 0..2_000 {
+        each_call(seed, 200, |step| tally.add(step));
+    }
+    println!("{tally:?}");
+    tally.assert_varied(50);
+}
+
+/// Each way to break a session applies often, and the session is then refused.
+#[test]
+fn each_break_is_refused() {
+    let refused = Answer::Refused {
+        number: 19,
+        place: 0,
+    };
+    let mut applied = vec![0; Break::ALL.len()];
+    for seed in 0..400 {
+        let mut rng = Rng::new(seed);
+        let policy = policy(&mut rng);
+        let image = to_image(&policy);
+        let checked = accepted(&image);
+        for user in policy.users.iter().take(4) {
+            let mut opened = [0; SESSION];
+            let call = Call::Open(user.name.clone().into_bytes());
+            assert_eq!(call.by_model(&checked, &mut opened), Answer::Done(0));
+            for (way, applied) in Break::ALL.iter().zip(&mut applied) {
+                let mut lent = opened;
+                if way.apply(&policy, &mut lent, &mut rng).is_some() {
+                    let answer = Call::MayRead(0).by_model(&checked, &mut lent);
+                    assert_eq!(answer, refused, "seed {seed}: {way:?}");
+                    *applied += 1;
+                }
+            }
+        }
+    }
+    println!("{:?}", Break::ALL.iter().zip(&applied).collect::<Vec<_>>());
+    assert!(applied.iter().all(|&times| times >= 50), "{applied:?}");
+}
+
+#[test]
+fn pairs_are_varied() {
+    let mut tally = CallTally::default();
+    for seed in 0..2_000 {
+        let mut rng = Rng::new(seed);
+        let pair = pairs::pair(&mut rng);
+        for call in pairs::calls(&mut rng) {
+            let answer = call.by_model(&pair, &mut [0; 48]);
+            tally.add(call.name(), call.is_verdict(), answer);
+        }
+    }
+    println!("{tally:?}");
+    tally.assert_both("dominates");
+    tally.assert_both("strictly_dominates");
+    tally.assert_least("merge", &["done", "17"], 20_000);
+}
+
+#[test]
+fn bytes_of_a_session() {
+    let label = |level: usize, group: usize| Label {
+        level,
+        compartments: [9].into(),
+        groups: [group].into(),
+    };
+    let session = Session {
+        user: 95,
+        signed_on: 3,
+        label: label(7, 64),
+        row: label(5, 255),
+    };
+    let mut bytes = session.to_bytes();
+    let set = [
+        (0, 95),
+        (1, 3),
+        (12, 7),
+        (17, 2),
+        (32, 1),
+        (60, 5),
+        (65, 2),
+        (103, 128),
+    ];
+    for (at, byte) in set {
+        assert_eq!(bytes[at], byte, "byte {at}");
+    }
+    assert_eq!(bytes.iter().filter(|&&byte| byte != 0).count(), set.len());
+    for unused in [2..12, 13..16, 56..60, 61..64] {
+        bytes[unused].fill(255);
+    }
+    assert_eq!(Session::read(&bytes), session);
+}
