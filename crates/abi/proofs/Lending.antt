@@ -16,16 +16,16 @@ use Rattle.sets.proofs.Bounds.{within-below}
 use Rattle.refusals.specs.declared.Refusal.{Refusal}
 use Rattle.refusals.specs.declared.Refusal.the-variants.{NoComponent, Room}
 use Rattle.refusals.specs.Refusals.{placeOf, answerOf}
-use Rattle.records.specs.Layout.{levels, compartments, groups}
+use Rattle.header.specs.Layout.{levels, compartments, groups}
 use Rattle.image.specs.declared.faults.Checked.{Checked}
 use Rattle.image.specs.declared.faults.Checked.the-variants.{Accepted, Refused}
 use Rattle.image.specs.Check.{onChecked, checkOf}
 use Rattle.image.proofs.Accepted.{accepted-counted}
 use Rattle.image.proofs.Place.{check-place}
 use Rattle.labels.specs.Label.{Marks}
-use Rattle.labels.specs.declared.printing.Printed.{Printed}
-use Rattle.labels.specs.declared.printing.Printed.the-variants as printed
-use Rattle.labels.specs.Print.{textOf, labelExists, whenRoom, acceptedAnswer, unlessRefused, printOf}
+use Rattle.printing.specs.declared.printing.Printed.{Printed}
+use Rattle.printing.specs.declared.printing.Printed.the-variants as printed
+use Rattle.printing.specs.Print.{textOf, labelExists, whenRoom, acceptedAnswer, unlessRefused, printOf}
 use Rattle.abi.specs.Answers.{afterCheck}
 use Rattle.encoding.specs.Labels.{high, labelIn}
 use Rattle.encoding.proofs.Wide.{above-large}

@@ -9,7 +9,7 @@ use Rattle.refusals.specs.declared.Refusal.{Refusal}
 use Rattle.refusals.specs.declared.Refusal.the-variants.{NoUser, MergeLetters, SessionRules, LevelNotAllowed, CompartmentsNotAllowed, GroupsNotAllowed, RowLabelOutside}
 use Rattle.refusals.specs.Refusals.{placeOf}
 use Rattle.sets.specs.Sets.{within}
-use Rattle.records.specs.Layout.{users, userRecord}
+use Rattle.header.specs.Layout.{users, userRecord}
 use Rattle.records.specs.Fields.{minimumLevel, maximumLevel, readCompartments}
 use Rattle.image.specs.declared.faults.Checked.{Checked}
 use Rattle.image.specs.declared.faults.Checked.the-variants.{Accepted, Refused}
@@ -23,8 +23,8 @@ use Rattle.labels.proofs.Offsets.{parse-told, image-told}
 use Rattle.access.specs.Rights.{Rights, between, rightsAt}
 use Rattle.access.specs.NewLabels.{orRefuse, sessionGroupsRule, rowGroupsRule, rowInside, sessionLabelAnswer, rowLabelAnswer, sessionRule}
 use Rattle.access.specs.Verdicts.{mayRead, mayWrite}
-use Rattle.access.specs.TwoLabels as two
-use Rattle.access.specs.TwoLabels.{Merging, lettersRule, mergedLabel, mergeOf}
+use Rattle.dominance.specs.TwoLabels as two
+use Rattle.dominance.specs.TwoLabels.{Merging, lettersRule, mergedLabel, mergeOf}
 use Rattle.sessions.specs.Session.{SessionMarks, lentAnswer, sessionRights}
 use Rattle.sessions.specs.Opening.{Opening, session, refused, defaultSession, openAccepted, openOf}
 use Rattle.sessions.specs.Changes.{changeIf, changeTo, afterLent, withLabel, withRowLabel, labelChange, rowLabelChange, setLabelOf, setRowLabelOf}

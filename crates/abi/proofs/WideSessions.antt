@@ -14,7 +14,7 @@ use Rattle.sets.proofs.Bounds.{part-below, intersection-below}
 use Rattle.refusals.specs.Refusals.{answerOf}
 use Rattle.refusals.specs.declared.Refusal.{Refusal}
 use Rattle.refusals.specs.declared.Refusal.the-variants.{SessionRules}
-use Rattle.records.specs.Layout.{groups, userRecord}
+use Rattle.header.specs.Layout.{groups, userRecord}
 use Rattle.records.specs.Fields.{readGroups, writeGroups}
 use Rattle.hierarchy.specs.Below.{below}
 use Rattle.hierarchy.proofs.Under.{below-limit}

@@ -3,7 +3,7 @@ use Prim.Native.Nat.{ℕ}
 use mathlib.Core.Bool.{cond}
 use mathlib.Core.List.{List}
 use Rattle.refusals.specs.Refusals.{answerOf}
-use Rattle.access.specs.TwoLabels.{dominates, strictlyDominates, Merging, label, refused, mergeOf}
+use Rattle.dominance.specs.TwoLabels.{dominates, strictlyDominates, Merging, label, refused, mergeOf}
 use Rattle.encoding.specs.Labels.{labelBytes, lowLabelIn}
 
 -- `brawnesk_dominates`, `brawnesk_strictly_dominates`: 1 yes, 0 no

@@ -6,7 +6,7 @@ ghost use Rattle.abi.specs.Answers.{afterCheck, checkAnswer, nameSpan};
 ghost use Rattle.abi.specs.Labels.{parseAnswer, printAnswer};
 ghost use Rattle.abi.specs.Sessions.{openAnswer, setLabelAnswer, setRowLabelAnswer, mayReadAnswer, mayWriteAnswer};
 ghost use Rattle.abi.specs.TwoLabels.{dominatesAnswer, strictlyDominatesAnswer, mergeAnswer};
-use access::merging::Merged;
+use dominance::merging::Merged;
 use encoding::answers::refused;
 use encoding::answers::verdict_code;
 use encoding::bytes48;
@@ -14,7 +14,7 @@ use encoding::bytes104;
 use image::faults::Checked;
 use image::lookup;
 use labels::answers::Parsed;
-use labels::printing::Printed;
+use printing::printing::Printed;
 use refusals::Refusal;
 use sessions::answers::Opened;
 
@@ -82,7 +82,7 @@ pub extern "C" fn brawnesk_print(image: &[u8], label: &[u8; 48], text: &mut [u8]
     if !bytes48::few_groups(label) {
         return after_check(image, Refusal::NoComponent);
     }
-    let answer = labels::print(image, bytes48::label_in(label), text);
+    let answer = printing::print(image, bytes48::label_in(label), text);
     match answer {
         Printed::Done(n) => n as u64,
         Printed::Refused(r) => refused(r),
@@ -171,7 +171,7 @@ pub extern "C" fn brawnesk_dominates(label1: &[u8; 48], label2: &[u8; 48]) -> u6
 {
     let first = bytes48::low_label_in(label1);
     let second = bytes48::low_label_in(label2);
-    let yes = access::dominates(first, second);
+    let yes = dominance::dominates(first, second);
     yes as u64
 }
 
@@ -182,7 +182,7 @@ pub extern "C" fn brawnesk_strictly_dominates(label1: &[u8; 48], label2: &[u8; 4
 {
     let first = bytes48::low_label_in(label1);
     let second = bytes48::low_label_in(label2);
-    let yes = access::strictly_dominates(first, second);
+    let yes = dominance::strictly_dominates(first, second);
     yes as u64
 }
 
@@ -198,7 +198,7 @@ pub extern "C" fn brawnesk_merge(
 {
     let first = bytes48::low_label_in(label1);
     let second = bytes48::low_label_in(label2);
-    let answer = access::merge(first, second, letters);
+    let answer = dominance::merge(first, second, letters);
     match answer {
         Merged::Done(label) => {
             *merged = bytes48::label_bytes(label);

@@ -9,7 +9,7 @@ use Rattle.fields.proofs.Both.{both, parts}
 use Rattle.refusals.specs.declared.Refusal.{Refusal}
 use Rattle.refusals.specs.declared.Refusal.the-variants.{LevelNotAllowed, CompartmentsNotAllowed, GroupsNotAllowed, RowLabelOutside}
 use Rattle.sets.specs.Sets.{within}
-use Rattle.records.specs.Layout.{users, userRecord}
+use Rattle.header.specs.Layout.{users, userRecord}
 use Rattle.records.specs.Fields.{maximumLevel, minimumLevel, readCompartments, readGroups}
 use Rattle.hierarchy.specs.Below.{below}
 use Rattle.image.specs.declared.faults.Checked.{Checked}

@@ -3,11 +3,7 @@
 --     Answers   what an accepted answer of the rules for new labels means, and the other way
 --     More      more rights never hide a row
 --     Maximum   what a session reads lies inside what the maximum read label reads
---     Dominance strict dominance, and that dominance isn't transitive
---     Merges    merges beside dominance
 pub mod Tests
 pub mod Answers
 pub mod More
 pub mod Maximum
-pub mod Dominance
-pub mod Merges

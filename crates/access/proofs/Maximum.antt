@@ -4,7 +4,7 @@ use mathlib.Core.Path.{_≡_}
 use mathlib.Core.Bool.{true}
 use mathlib.Core.List.{List}
 use Rattle.sets.proofs.Within.{within-refl}
-use Rattle.records.specs.Layout.{userRecord}
+use Rattle.header.specs.Layout.{userRecord}
 use Rattle.records.specs.Fields.{privileges, readGroups}
 use Rattle.image.specs.Check.{IsAccepted}
 use Rattle.image.proofs.Policy.{below-within}

@@ -5,7 +5,7 @@ use mathlib.Core.List.{List}
 use lib.Dec.{leb}
 use Rattle.sets.specs.Sets.{intersection}
 use Rattle.sets.specs.Groups.{placesOf}
-use Rattle.records.specs.Layout.{userRecord}
+use Rattle.header.specs.Layout.{userRecord}
 use Rattle.records.specs.Fields.{privileges, maximumLevel, minimumLevel, readCompartments, writeCompartments, readGroups, writeGroups}
 use Rattle.hierarchy.specs.Below.{below}
 use Rattle.labels.specs.Label.{Marks}

@@ -4,7 +4,7 @@ use mathlib.Core.Bool.{Bool, cond, not, _&&_, _||_}
 use mathlib.Core.List.{List}
 use lib.Dec.{leb, ltb}
 use Rattle.sets.specs.Sets.{has, empty, within, meets}
-use Rattle.records.specs.Layout.{labels, labelRecord}
+use Rattle.header.specs.Layout.{labels, labelRecord}
 use Rattle.records.specs.Fields.{labelLevel, labelCompartments, labelGroups}
 use Rattle.image.specs.Lookup.{labelOfTag}
 use Rattle.labels.specs.Label.{Marks}

@@ -1,43 +1,4 @@
-// What a user may do with a label, once the image is known to be accepted; and two labels beside each other.
-pub mod merging;
+// What a user may do with a label, once the image is known to be accepted: rights, verdicts, the rules for new labels.
 pub mod new_labels;
 pub mod rights;
 pub mod verdicts;
-
-ghost use mathlib.Core.Path.{_≡_};
-ghost use Rattle.labels.specs.Label.{marksOf};
-ghost use Rattle.access.specs.TwoLabels as two;
-ghost use Rattle.access.specs.TwoLabels.{strictlyDominates, mergingOf, mergeOf};
-use labels::label::Label;
-use merging::Merged;
-use refusals::Refusal;
-use sets::word;
-
-// Does label 1 dominate label 2? Its level is at least as high, it has all compartments of label 2, and label 2 has no
-// groups or shares one.
-pub fn dominates(label1: Label, label2: Label) -> bool
-    ensures { λ r. ⌜ r ≡ two.dominates (marksOf label1) (marksOf label2) ⌝ }
-{
-    let groups1 = label1.groups;
-    let groups2 = label2.groups;
-    (label2.level <= label1.level)
-        & word::within(label2.compartments, label1.compartments)
-        & (groups2.is_empty() | groups2.meets(groups1))
-}
-
-// And the labels differ.
-pub fn strictly_dominates(label1: Label, label2: Label) -> bool
-    ensures { λ r. ⌜ r ≡ strictlyDominates (marksOf label1) (marksOf label2) ⌝ }
-{
-    dominates(label1, label2) & !merging::same_label(label1, label2)
-}
-
-// One label of two, by three letters: H or L for the level; U, I, M or N for compartments and for groups. Refusal: 17.
-pub fn merge(label1: Label, label2: Label, letters: &[u8]) -> Merged
-    ensures { λ r. ⌜ mergingOf r ≡ mergeOf (marksOf label1) (marksOf label2) (now (letters .entry)) ⌝ }
-{
-    if !merging::letters_ok(letters) {
-        return Merged::Refused(Refusal::MergeLetters);
-    }
-    Merged::Done(merging::merged_label(label1, label2, letters))
-}

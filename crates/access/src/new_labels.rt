@@ -3,7 +3,7 @@ ghost use Prim.Native.Nat.{_<_};
 ghost use mathlib.Core.Path.{_≡_};
 ghost use Rattle.sets.specs.Sets.{within};
 ghost use Rattle.sets.specs.Groups.{placesOf};
-ghost use Rattle.records.specs.Layout.{users, userRecord};
+ghost use Rattle.header.specs.Layout.{users, userRecord};
 ghost use Rattle.records.specs.Fields.{minimumLevel, maximumLevel, readCompartments};
 ghost use Rattle.records.specs.Rules.{Counted};
 ghost use Rattle.hierarchy.specs.Below.{Tabled};

@@ -1,7 +1,7 @@
 // What a user's record and a session label give together: found once for a call.
 ghost use Prim.Native.Nat.{_<_};
 ghost use mathlib.Core.Path.{_≡_};
-ghost use Rattle.records.specs.Layout.{users};
+ghost use Rattle.header.specs.Layout.{users};
 ghost use Rattle.records.specs.Rules.{Counted};
 ghost use Rattle.hierarchy.specs.Below.{Tabled};
 ghost use Rattle.labels.specs.Label.{marksOf};

@@ -1,16 +1,16 @@
 // Verdicts: the question on a label, and the look-up of a tag before it.
 ghost use Prim.Native.Nat.{_<_};
 ghost use mathlib.Core.Path.{_≡_};
-ghost use Rattle.records.specs.Layout.{labels};
+ghost use Rattle.header.specs.Layout.{labels};
 ghost use Rattle.records.specs.Rules.{Counted};
 ghost use Rattle.labels.specs.Label.{marksOf};
 ghost use Rattle.access.specs.Rights.{rightsOf};
 ghost use Rattle.access.specs.Verdicts.{readsAll, writesAll, holdsCompaccess, readTests, writeSetsRule, writeTests, labelAt, mayRead, mayWrite};
 use crate::rights::View;
+use header::layout;
 use image::given::label_of_tag;
 use labels::label::Label;
 use records::labels as label_records;
-use records::layout;
 use sets::word;
 
 // Is READ or FULL held?

@@ -11,7 +11,7 @@ use lib.Dec.{eqb}
 use Rattle.sets.specs.Sets.{has, none, one, union, within}
 use Rattle.sets.proofs.Has.{none-has, one-has, union-has}
 use Rattle.sets.proofs.Within.{has-within}
-use Rattle.records.specs.Layout.{groups}
+use Rattle.header.specs.Layout.{groups}
 use Rattle.hierarchy.specs.Below.{parent, hasParent, Above, here, up, endsWithin, lineageWithin}
 
 module _ (im : List ℕ) where

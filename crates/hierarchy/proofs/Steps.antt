@@ -21,7 +21,7 @@ use Rattle.sets.proofs.Within.{within-none, less-within-same, lacks-within}
 use Rattle.sets.proofs.Meets.{empty-none, place-meets}
 use Rattle.sets.proofs.Bounds.{below-has, below-within, within-below, part-below, less-below}
 use Rattle.sets.proofs.Places.{places-below}
-use Rattle.records.specs.Layout.{groups, userRecord}
+use Rattle.header.specs.Layout.{groups, userRecord}
 use Rattle.records.specs.Fields.{readGroups, writeGroups, defaultGroups, rowGroups}
 use Rattle.hierarchy.specs.Below.{parent, hasParent, Above, here, up, endsWithin, lineageWithin, lineage, below, belowRule}
 use Rattle.hierarchy.proofs.Lineage.{ends-step, ends-here, ends-none, lineage-step, lineage-here, lineage-none}

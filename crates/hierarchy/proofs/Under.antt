@@ -11,7 +11,7 @@ use Rattle.sets.proofs.Has.{collect-has, collect-below, collect-true, true-coll
 use Rattle.sets.proofs.Within.{within-has, has-within, within-refl}
 use Rattle.sets.proofs.Meets.{meets-place, place-meets, meets-mono}
 use Rattle.sets.proofs.Bounds as bounds
-use Rattle.records.specs.Layout.{groups}
+use Rattle.header.specs.Layout.{groups}
 use Rattle.hierarchy.specs.Below.{Above, endsRule, lineageWithin, lineage, below}
 use Rattle.hierarchy.proofs.Lineage.{lineage-self, lineage-above, above-lineage, above-trans}
 

@@ -9,7 +9,7 @@ use native.Mathlib.Omega.{arith}
 use borrow.Author.Tests.{eqb-true, eqb-false, ltb-true, ltb-false}
 use lib.Arith.{lt-of-le-ne}
 use lib.Dec.{eqb, ltb}
-use Rattle.records.specs.Layout.{groups}
+use Rattle.header.specs.Layout.{groups}
 use Rattle.hierarchy.specs.Below.{parent, hasParent, Above, here, up, endsWithin, endsRule}
 use Rattle.hierarchy.proofs.Lineage.{parent-below, ends-step, ends-here, ends-none, ends-mono, ends-top, above-trans}
 

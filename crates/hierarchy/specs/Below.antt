@@ -8,7 +8,7 @@ use lib.Dec.{ltb}
 use lib.ListN.{getD}
 use Rattle.fields.specs.Scan.{firstBad}
 use Rattle.sets.specs.Sets.{none, one, union, meets, within, collect}
-use Rattle.records.specs.Layout.{levels, compartments, groups, users, componentRecord, userRecord}
+use Rattle.header.specs.Layout.{levels, compartments, groups, users, componentRecord, userRecord}
 use Rattle.records.specs.Fields.{parentOf, readGroups, writeGroups, defaultGroups, rowGroups}
 
 -- the parent's place of group g, and whether it has one

@@ -2,12 +2,12 @@
 ghost use Prim.Native.Nat.{_<_};
 ghost use mathlib.Core.Path.{_≡_};
 ghost use Rattle.sets.specs.Groups.{placesOf};
-ghost use Rattle.records.specs.Layout.{groups};
+ghost use Rattle.header.specs.Layout.{groups};
 ghost use Rattle.records.specs.Rules.{Counted};
 ghost use Rattle.hierarchy.specs.Below as below;
 ghost use Rattle.hierarchy.specs.Below.{endsRule, EndBefore, firstRing};
+use header::layout;
 use records::components;
-use records::layout;
 use sets::groups::Groups;
 
 // The parent's place; a place that is no group's where g has no parent.

@@ -4,12 +4,12 @@ ghost use mathlib.Core.Path.{_≡_};
 ghost use lib.ListN.{length, getD};
 ghost use Rattle.sets.specs.Groups.{placesOf};
 ghost use Rattle.sets.specs.Sets.{within};
-ghost use Rattle.records.specs.Layout.{groups, users};
+ghost use Rattle.header.specs.Layout.{groups, users};
 ghost use Rattle.records.specs.Rules.{Counted};
 ghost use Rattle.hierarchy.specs.Below as hierarchy;
 ghost use Rattle.hierarchy.specs.Below.{belowRule, firstBadBelow, Tabled};
 use crate::parents::lineage;
-use records::layout;
+use header::layout;
 use records::users::group_sets;
 use sets::groups::Groups;
 

@@ -12,10 +12,11 @@ use Rattle.fields.specs.Scan.{firstBad}
 use Rattle.fields.proofs.Both.{both-left, both-right}
 use Rattle.fields.proofs.Scan.{good-before, all-good}
 use Rattle.blocks.specs.Blocks.{lengthRule, blockRule, blockCount, firstBadBlock}
-use Rattle.records.specs.declared.layout.Kind.{Kind}
-use Rattle.records.specs.declared.layout.Kind.the-variants as kind
-use Rattle.records.specs.Layout.{groups, users, firstLabelBlock, firstUserBlock, blocksNeeded, userBlock, userSlot, contentsOf}
-use Rattle.records.specs.Rules.{headerRule, fitRule, layoutRule, firstBadRecord, contentRule, Counted}
+use Rattle.header.specs.declared.layout.Kind.{Kind}
+use Rattle.header.specs.declared.layout.Kind.the-variants as kind
+use Rattle.header.specs.Layout.{groups, users, firstLabelBlock, firstUserBlock, blocksNeeded, userBlock, userSlot, contentsOf}
+use Rattle.header.specs.Header.{headerRule, fitRule}
+use Rattle.records.specs.Rules.{layoutRule, firstBadRecord, contentRule, Counted}
 use Rattle.records.proofs.MeaningHeader.{counted}
 use Rattle.refusals.specs.declared.Refusal.{Refusal}
 use Rattle.refusals.specs.Refusals.{numberOf, valuesOf}

@@ -8,10 +8,11 @@ use borrow.Author.Tests.{ltb-true}
 use lib.Dec.{ltb}
 use Rattle.blocks.specs.Blocks.{lengthRule, blockCount, firstBadBlock}
 use Rattle.blocks.proofs.Meaning.{length-means}
-use Rattle.records.specs.declared.layout.Kind.{Kind}
-use Rattle.records.specs.declared.layout.Kind.the-variants as kind
-use Rattle.records.specs.Layout.{groups, users, blocksNeeded, userBlock, userSlot, contentsOf}
-use Rattle.records.specs.Rules.{headerRule, fitRule, layoutRule, firstBadRecord}
+use Rattle.header.specs.declared.layout.Kind.{Kind}
+use Rattle.header.specs.declared.layout.Kind.the-variants as kind
+use Rattle.header.specs.Layout.{groups, users, blocksNeeded, userBlock, userSlot, contentsOf}
+use Rattle.header.specs.Header.{headerRule, fitRule}
+use Rattle.records.specs.Rules.{layoutRule, firstBadRecord}
 use Rattle.refusals.specs.declared.Refusal.{Refusal}
 use Rattle.refusals.specs.Refusals.{placeOf}
 use Rattle.hierarchy.specs.Below.{firstRing, firstBadBelow}

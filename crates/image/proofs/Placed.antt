@@ -7,11 +7,11 @@ use native.Mathlib.Omega.{arith}
 use borrow.Author.Tests.{ltb-true, eqb-true, eqb-false, ne-eqb}
 use lib.Dec.{eqb, ltb}
 use Rattle.fields.proofs.Both.{both-right}
-use Rattle.records.specs.Layout.{levels, compartments, groups, components, componentRecord}
+use Rattle.header.specs.Layout.{levels, compartments, groups, components, componentRecord}
 use lib.ListN.{length}
 use Rattle.fields.proofs.Laws.{part-byte}
 use Rattle.fields.proofs.Meaning.{NameKept}
-use Rattle.records.proofs.Inside.{component-inside}
+use Rattle.header.proofs.Inside.{component-inside}
 use Rattle.records.specs.Fields.{componentNameField}
 use Rattle.records.proofs.MeaningComponents.{component-means}
 use Rattle.records.proofs.MeaningBlocks.{components-kept}

@@ -10,7 +10,7 @@ use Rattle.fields.specs.Names.{sameName, nameBefore}
 use Rattle.fields.proofs.Both.{parts}
 use Rattle.fields.proofs.Meaning.{same-means, same-refl, found-at, found-first, found-unique}
 use Rattle.sets.specs.Sets.{within}
-use Rattle.records.specs.Layout.{components, labels, users, groups, labelRecord, userRecord}
+use Rattle.header.specs.Layout.{components, labels, users, groups, labelRecord, userRecord}
 use Rattle.records.specs.Fields.{tagOf, userName, readGroups, writeGroups, defaultGroups, rowGroups}
 use Rattle.records.proofs.MeaningBlocks.{components-kept, labels-kept, users-kept}
 use Rattle.records.proofs.MeaningComponents.{ComponentAmong, component-means}

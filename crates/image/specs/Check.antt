@@ -6,10 +6,11 @@ use mathlib.Core.List.{List, [], _∷_}
 use lib.Dec.{ltb}
 use Rattle.fields.specs.Scan.{firstBad}
 use Rattle.blocks.specs.Blocks.{lengthRule, blockCount, firstBadBlock}
-use Rattle.records.specs.Layout.{groups, users, blocksNeeded, userBlock, userSlot, contentsOf}
-use Rattle.records.specs.Rules.{headerRule, fitRule, layoutRule, firstBadRecord, contentRule}
-use Rattle.records.specs.declared.layout.Kind.{Kind}
-use Rattle.records.specs.declared.layout.Kind.the-variants as kind
+use Rattle.header.specs.Layout.{groups, users, blocksNeeded, userBlock, userSlot, contentsOf}
+use Rattle.header.specs.Header.{headerRule, fitRule}
+use Rattle.records.specs.Rules.{layoutRule, firstBadRecord, contentRule}
+use Rattle.header.specs.declared.layout.Kind.{Kind}
+use Rattle.header.specs.declared.layout.Kind.the-variants as kind
 use Rattle.hierarchy.specs.Below.{firstRing, firstBadBelow}
 use Rattle.refusals.specs.Refusals.{numberOf, valuesOf}
 use Rattle.refusals.specs.declared.Refusal.{Refusal}

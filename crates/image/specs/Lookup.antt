@@ -7,7 +7,7 @@ use lib.Dec.{eqb, ltb}
 use Rattle.fields.specs.Bytes.{part}
 use Rattle.fields.specs.Names.{sameName}
 use Rattle.fields.specs.Scan.{firstWhere}
-use Rattle.records.specs.Layout.{levels, compartments, groups, users, labels, componentNameOffset, componentRecord, labelRecord, userRecord}
+use Rattle.header.specs.Layout.{levels, compartments, groups, users, labels, componentNameOffset, componentRecord, labelRecord, userRecord}
 use Rattle.records.specs.Fields.{componentNameLength, tagOf, userName}
 use Rattle.refusals.specs.declared.Refusal.the-variants.{NoComponent}
 use Rattle.image.specs.declared.faults.Checked.{Checked}

@@ -1,7 +1,7 @@
 // What is wrong with an image, and how it is told.
 ghost use mathlib.Core.Path.{_≡_};
 ghost use Rattle.image.specs.Check.{shownAs, recordFault};
-use records::layout::Kind;
+use header::layout::Kind;
 use refusals::Refusal;
 
 // The first fault of an image. Document 01 tells all but the first three as 3; each names what a policy desk looks for.

@@ -3,13 +3,13 @@
 ghost use Prim.Native.Nat.{_<_};
 ghost use mathlib.Core.Path.{_≡_};
 ghost use Rattle.fields.specs.Names.{sameName};
-ghost use Rattle.records.specs.Layout.{users, userRecord};
+ghost use Rattle.header.specs.Layout.{users, userRecord};
 ghost use Rattle.records.specs.Fields.{userName};
 ghost use Rattle.records.specs.Rules.{Counted};
 ghost use Rattle.image.specs.Lookup.{labelOfTag, userOfName};
 use fields::names::same_name;
+use header::layout;
 use records::labels;
-use records::layout;
 use records::users;
 
 // The label record that carries the tag; the number of labels where none does.

@@ -1,21 +1,21 @@
 // The first fault of an image, in the order of document 02's request R-2.
 ghost use Prim.Native.Nat.{_≤_, _<_};
 ghost use mathlib.Core.Path.{_≡_};
-ghost use Rattle.records.specs.Layout.{blocksNeeded};
+ghost use Rattle.header.specs.Layout.{blocksNeeded};
 ghost use Rattle.records.specs.Rules.{Counted};
 ghost use Rattle.image.specs.Check.{firstBadContent, contentFault, countedFault, faultOf};
 use crate::faults::Fault;
 use crate::faults::record_fault;
 use blocks::frame::first_bad_block;
 use blocks::frame::length_ok;
+use header::header::fit_ok;
+use header::header::header_ok;
+use header::layout;
 use hierarchy::parents::first_ring;
 use hierarchy::table;
 use records::blocks::content_ok;
 use records::blocks::first_bad_record;
 use records::blocks::layout_ok;
-use records::header::fit_ok;
-use records::header::header_ok;
-use records::layout;
 
 // The lowest block after the header that breaks a rule; the number of blocks where none does.
 fn first_bad_content(image: &[u8]) -> usize

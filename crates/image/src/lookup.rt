@@ -2,11 +2,11 @@
 ghost use Prim.Native.Nat.{_+_, _<_};
 ghost use mathlib.Core.Path.{_≡_};
 ghost use mathlib.Core.Bool.{true};
-ghost use Rattle.records.specs.Layout.{components};
+ghost use Rattle.header.specs.Layout.{components};
 ghost use Rattle.records.specs.Rules.{Counted};
 ghost use Rattle.image.specs.Lookup.{hasComponent, componentIndex, nameOffset, nameLength};
+use header::layout;
 use records::components;
-use records::layout;
 
 pub fn has_component(image: &[u8], class: u8, place: usize) -> bool
     requires { ⌜ Counted (now image) ⌝ }

@@ -6,7 +6,7 @@ use mathlib.Core.List.{List}
 use native.Mathlib.Omega.{arith}
 use borrow.Author.Tests.{lt-ltb, eq-eqb, eqb-false}
 use lib.Dec.{eqb}
-use Rattle.records.specs.Layout.{levels, compartments, groups}
+use Rattle.header.specs.Layout.{levels, compartments, groups}
 use Rattle.records.specs.Rules.{Counted}
 use Rattle.image.specs.Lookup.{hasComponent}
 use Rattle.labels.specs.Parse.{classCount}

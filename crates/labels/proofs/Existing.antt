@@ -11,7 +11,7 @@ use Rattle.sets.specs.Sets.{has, none, one, union}
 use Rattle.sets.proofs.Bounds.{none-below, one-below, union-below}
 use Rattle.refusals.specs.declared.Refusal.{Refusal}
 use Rattle.refusals.specs.declared.Refusal.the-variants.{TextShape, UnknownName}
-use Rattle.records.specs.Layout.{levels, compartments, groups}
+use Rattle.header.specs.Layout.{levels, compartments, groups}
 use Rattle.image.specs.declared.faults.Checked.{Checked}
 use Rattle.image.specs.declared.faults.Checked.the-variants.{Accepted, Refused}
 use Rattle.image.specs.Check.{checkOf}

@@ -11,7 +11,7 @@ use Rattle.sets.specs.Sets.{none}
 use Rattle.sets.specs.Groups.{placesOf}
 use Rattle.sets.specs.declared.groups.Groups.{Groups}
 use Rattle.refusals.specs.declared.Refusal.the-variants.{UnknownName}
-use Rattle.records.specs.Layout.{compartments}
+use Rattle.header.specs.Layout.{compartments}
 use Rattle.records.specs.Rules.{Counted}
 use Rattle.labels.specs.declared.names.Found.the-variants.{At, Nothing}
 use Rattle.labels.specs.declared.lists.Names as code

@@ -1,24 +1,8 @@
 -- Laws that several proofs use, and what the crates above may cite.
 pub mod Reading
 pub mod Splitting
-pub mod Unmarked
 pub mod Classes
 pub mod Naming
 pub mod Existing
 pub mod Joining
-pub mod Cases
 pub mod Offsets
-pub mod Listed
-pub mod Pasted
-pub mod Written
-pub mod Sections
-pub mod Whole
-pub mod Answered
-pub mod OwnNames
-pub mod ListsRead
-pub mod TextShape
-pub mod RoundTrip
-pub mod PrintRead
-pub mod AnyOrder
-pub mod TextOrder
-pub mod LongNames

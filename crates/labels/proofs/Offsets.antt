@@ -12,7 +12,7 @@ use Rattle.sets.specs.Sets.{has, none, one, union}
 use Rattle.refusals.specs.declared.Refusal.{Refusal}
 use Rattle.refusals.specs.declared.Refusal.the-variants.{TextShape, UnknownName}
 use Rattle.refusals.specs.Refusals.{placeOf}
-use Rattle.records.specs.Layout.{levels}
+use Rattle.header.specs.Layout.{levels}
 use Rattle.image.specs.declared.faults.Checked.{Checked}
 use Rattle.image.specs.declared.faults.Checked.the-variants.{Accepted, Refused}
 use Rattle.image.specs.Check.{checkOf}

@@ -4,4 +4,3 @@ pub mod Text
 pub mod Parse
 pub mod States
 pub mod Lists
-pub mod Print

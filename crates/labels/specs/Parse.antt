@@ -9,7 +9,7 @@ use Rattle.fields.specs.Scan.{firstWhere}
 use Rattle.sets.specs.Sets.{has, none, one, union}
 use Rattle.refusals.specs.declared.Refusal.{Refusal}
 use Rattle.refusals.specs.declared.Refusal.the-variants.{TextShape, UnknownName, RepeatedName}
-use Rattle.records.specs.Layout.{levels, compartments, groups, componentRecord}
+use Rattle.header.specs.Layout.{levels, compartments, groups, componentRecord}
 use Rattle.records.specs.Fields.{componentName}
 use Rattle.image.specs.declared.faults.Checked.{Checked}
 use Rattle.image.specs.declared.faults.Checked.the-variants.{Accepted, Refused}

@@ -2,16 +2,16 @@
 ghost use Prim.Native.Nat.{_≤_};
 ghost use mathlib.Core.Path.{_≡_};
 ghost use mathlib.Core.Bool.{true};
-ghost use Rattle.records.specs.Layout.{componentRecord};
+ghost use Rattle.header.specs.Layout.{componentRecord};
 ghost use Rattle.records.specs.Fields.{componentName};
 ghost use Rattle.records.specs.Rules.{Counted};
 ghost use Rattle.image.specs.Lookup.{hasComponent, componentIndex};
 ghost use Rattle.labels.specs.Parse.{matches, classCount, placeOfName};
 ghost use Rattle.labels.specs.Lists.{foundOf};
 use fields::names::same_name;
+use header::layout;
 use image::lookup;
 use records::components;
-use records::layout;
 
 // The answer of a look-up: a place in the class, or that no component has the name.
 pub enum Found {

@@ -7,9 +7,9 @@ use native.Mathlib.Omega.{arith}
 use borrow.Author.Tests.{ltb-true, ltb-false}
 use lib.Dec.{ltb}
 use lib.ListN.{length}
-use Rattle.records.specs.declared.layout.Kind.the-variants.{Component, Label, User}
-use Rattle.records.specs.declared.layout.Contents.{Contents}
-use Rattle.records.specs.Layout.{components, labels, users, firstLabelBlock, firstUserBlock, blocksNeeded, Fitted, packed, contentsOf}
+use Rattle.header.specs.declared.layout.Kind.the-variants.{Component, Label, User}
+use Rattle.header.specs.declared.layout.Contents.{Contents}
+use Rattle.header.specs.Layout.{components, labels, users, firstLabelBlock, firstUserBlock, blocksNeeded, Fitted, packed, contentsOf}
 use Rattle.records.specs.Rules.{totalOf}
 
 pub record Held (im : List ℕ) (held : Contents) : Type 0 where

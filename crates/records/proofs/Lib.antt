@@ -1,5 +1,4 @@
 pub mod Held
-pub mod Inside
 pub mod MeaningBlocks
 pub mod MeaningComponents
 pub mod MeaningHeader

@@ -11,9 +11,9 @@ use Rattle.fields.specs.Scan.{firstBad}
 use Rattle.fields.proofs.Both.{parts}
 use Rattle.fields.proofs.Meaning.{zero-part}
 use Rattle.fields.proofs.Scan.{good-before}
-use Rattle.records.specs.declared.layout.Kind.the-variants.{Component, Label, User}
-use Rattle.records.specs.declared.layout.Contents.{Contents}
-use Rattle.records.specs.Layout.{components, labels, users, firstLabelBlock, firstUserBlock, blocksNeeded, kindByte, packed, contentsOf}
+use Rattle.header.specs.declared.layout.Kind.the-variants.{Component, Label, User}
+use Rattle.header.specs.declared.layout.Contents.{Contents}
+use Rattle.header.specs.Layout.{components, labels, users, firstLabelBlock, firstUserBlock, blocksNeeded, kindByte, packed, contentsOf}
 use Rattle.records.specs.Rules.{componentRule, labelRule, userRule, recordRule, layoutRule, firstBadRecord, contentRule}
 
 -- ---- one block

@@ -13,7 +13,7 @@ use Rattle.fields.specs.Names.{sameName}
 use Rattle.fields.proofs.Both.{parts, either}
 use Rattle.fields.proofs.Meaning.{zero-part, NameKept, name-means, differ-means}
 use Rattle.fields.proofs.Scan.{everywhere-at}
-use Rattle.records.specs.Layout.{levels, compartments, groups, components, componentRecord}
+use Rattle.header.specs.Layout.{levels, compartments, groups, components, componentRecord}
 use Rattle.records.specs.Fields.{classOf, componentNameField, componentName, numericForm, parentOf}
 use Rattle.records.specs.Rules.{classAt, classStart, parentRule, componentShape, numericRule, namesDiffer, newNameRule, componentRule}
 use Rattle.records.proofs.Rising.{rise, apart}

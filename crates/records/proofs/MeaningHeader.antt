@@ -8,8 +8,9 @@ use lib.ListN.{length}
 use Rattle.fields.specs.Bytes.{byteAt}
 use Rattle.fields.proofs.Both.{parts}
 use Rattle.fields.proofs.Meaning.{zero-part}
-use Rattle.records.specs.Layout.{levels, compartments, groups, users, labels, blocksNeeded, Fitted}
-use Rattle.records.specs.Rules.{headerRule, fitRule, Counted}
+use Rattle.header.specs.Layout.{levels, compartments, groups, users, labels, blocksNeeded, Fitted}
+use Rattle.header.specs.Header.{headerRule, fitRule}
+use Rattle.records.specs.Rules.{Counted}
 
 -- kind 80, 0 records, edition 1, counts within their limits, and bytes 12..509 unused
 pub record HeaderKept (im : List ℕ) : Type 0 where

@@ -12,7 +12,7 @@ use Rattle.fields.proofs.Both.{parts, either}
 use Rattle.fields.proofs.Meaning.{zero-part}
 use Rattle.sets.specs.Sets.{has, within, allBelow}
 use Rattle.sets.proofs.Bounds.{within-below, below-has}
-use Rattle.records.specs.Layout.{levels, compartments, groups, labels, labelRecord}
+use Rattle.header.specs.Layout.{levels, compartments, groups, labels, labelRecord}
 use Rattle.records.specs.Fields.{tagOf, labelLevel, labelCompartments, labelGroups}
 use Rattle.records.specs.Rules.{labelShape, tagRule, labelRule}
 use Rattle.records.proofs.Rising.{rise, apart}

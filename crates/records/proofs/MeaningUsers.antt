@@ -14,7 +14,7 @@ use Rattle.fields.proofs.Meaning.{zero-part, NameKept, name-means, before-irref
 use Rattle.sets.specs.Sets.{has}
 use Rattle.sets.proofs.Bounds.{below-lacks}
 use Rattle.sets.proofs.Within.{within-has}
-use Rattle.records.specs.Layout.{levels, compartments, groups, users, userRecord}
+use Rattle.header.specs.Layout.{levels, compartments, groups, users, userRecord}
 use Rattle.records.specs.Fields.{userNameField, userName, privileges, maximumLevel, minimumLevel, defaultLevel, rowLevel, readCompartments, writeCompartments, defaultCompartments, rowCompartments, readGroups, writeGroups, defaultGroups, rowGroups}
 use Rattle.records.specs.Rules.{userLevelsRule, userCompartmentsRule, userGroupsRule, userShape, userNameRule, userRule}
 use Rattle.records.proofs.MeaningLabels.{exist-means}

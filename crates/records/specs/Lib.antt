@@ -1,5 +1,4 @@
--- The records of an image: where they stand, what they hold, and the rules that each keeps.
-pub mod Layout
+-- The records of an image: what they hold, and the rules that each keeps.
 pub mod Fields
 pub mod Users
 pub mod Rules

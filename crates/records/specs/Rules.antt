@@ -1,28 +1,16 @@
--- The rules of an image's header and records. Each is a Boolean; proofs/Meaning*.antt say what each means for places and bytes.
+-- The rules of an image's records. Each is a Boolean; proofs/Meaning*.antt say what each means for places and bytes.
 use Prim.Native.Nat.{ℕ, _+_, _-_, _*_, _≤_}
 use mathlib.Core.Bool.{Bool, cond, not, _&&_, _||_}
 use mathlib.Core.List.{List}
 use lib.Dec.{eqb, leb, ltb}
-use lib.ListN.{length}
 use Rattle.fields.specs.Bytes.{byteAt, part, allZero}
 use Rattle.fields.specs.Names.{nameRule, sameName, nameBefore}
 use Rattle.fields.specs.Scan.{firstBad, everywhere}
 use Rattle.sets.specs.Sets.{within, allBelow}
-use Rattle.records.specs.declared.layout.Kind.{Kind}
-use Rattle.records.specs.declared.layout.Kind.the-variants.{Component, Label, User}
-use Rattle.records.specs.Layout.{levels, compartments, groups, users, labels, components, blocksNeeded, Fitted, componentRecord, labelRecord, userRecord, kindByte, contentsOf}
+use Rattle.header.specs.declared.layout.Kind.{Kind}
+use Rattle.header.specs.declared.layout.Kind.the-variants.{Component, Label, User}
+use Rattle.header.specs.Layout.{levels, compartments, groups, users, labels, components, Fitted, componentRecord, labelRecord, userRecord, kindByte, contentsOf}
 use Rattle.records.specs.Fields.{classOf, componentNameField, componentName, numericForm, parentOf, tagOf, labelLevel, labelCompartments, labelGroups, userNameField, userName, privileges, maximumLevel, minimumLevel, defaultLevel, rowLevel, readCompartments, writeCompartments, defaultCompartments, rowCompartments, readGroups, writeGroups, defaultGroups, rowGroups}
-
--- ---- the header: kind 80, 0 records, edition 1, counts within their limits, the rest unused
-unfoldable pub headerRule : List ℕ → Bool
-headerRule im =
-    eqb (byteAt im 0) 80 && eqb (byteAt im 1) 0 && eqb (byteAt im 4) 1
-    && leb 1 (levels im) && leb (levels im) 32 && leb (compartments im) 64 && leb (groups im) 64
-    && leb (users im) 96 && leb (labels im) 1680 && allZero (part im 12 498)
-
--- there are as many blocks as the counts need, no more and no fewer
-unfoldable pub fitRule : List ℕ → Bool
-fitRule im = eqb (length im) (512 * blocksNeeded im)
 
 -- ---- components: levels, then compartments, then groups
 -- the class that the counts put at place i: 1 level, 2 compartment, 3 group

@@ -2,15 +2,15 @@
 ghost use Prim.Native.Nat.{_-_, _<_, _≤_};
 ghost use mathlib.Core.Path.{_≡_};
 ghost use Rattle.fields.specs.Scan.{firstBad};
-ghost use Rattle.records.specs.Layout.{blocksNeeded};
+ghost use Rattle.header.specs.Layout.{blocksNeeded};
 ghost use Rattle.records.specs.Rules.{recordRule, layoutRule, firstBadRecord, contentRule, totalOf, Counted};
 use crate::components::component_ok;
 use crate::labels::label_ok;
-use crate::layout::Kind;
-use crate::layout::block_contents;
-use crate::layout::kind_byte;
 use crate::users::user_ok;
 use fields::numbers::all_zero;
+use header::layout::Kind;
+use header::layout::block_contents;
+use header::layout::kind_byte;
 
 fn record_ok(image: &[u8], kind: Kind, i: usize) -> bool
     requires { ⌜ Counted (now image) × (i < totalOf (now image) kind) ⌝ }

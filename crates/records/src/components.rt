@@ -4,13 +4,13 @@ ghost use mathlib.Core.Path.{_≡_};
 ghost use lib.ListN.{length};
 ghost use Rattle.fields.specs.Names.{sameName};
 ghost use Rattle.fields.specs.Scan.{firstBad};
-ghost use Rattle.records.specs.Layout.{components, Fitted, componentOffset, componentRecord};
+ghost use Rattle.header.specs.Layout.{components, Fitted, componentOffset, componentRecord};
 ghost use Rattle.records.specs.Fields.{componentNameLength, componentName, numericForm, parentOf};
 ghost use Rattle.records.specs.Rules.{classAt, classStart, parentRule, componentShape, numericRule, namesDiffer, newNameRule, componentRule};
-use crate::layout;
 use fields::names;
 use fields::numbers::all_zero;
 use fields::numbers::number2;
+use header::layout;
 
 // The class that the counts put at place i: 1 level, 2 compartment, 3 group.
 pub fn class_at(image: &[u8], i: usize) -> u8

@@ -3,13 +3,13 @@ ghost use Prim.Native.Nat.{_<_};
 ghost use mathlib.Core.Path.{_≡_};
 ghost use lib.ListN.{length};
 ghost use Rattle.sets.specs.Groups.{placesOf};
-ghost use Rattle.records.specs.Layout.{labels, labelRecord};
+ghost use Rattle.header.specs.Layout.{labels, labelRecord};
 ghost use Rattle.records.specs.Fields.{tagOf, labelLevel, labelCompartments, labelGroups};
 ghost use Rattle.records.specs.Rules.{labelShape, tagRule, labelRule, Counted};
-use crate::layout;
 use fields::numbers::all_zero;
 use fields::numbers::number4;
 use fields::numbers::number8;
+use header::layout;
 use sets::groups::Groups;
 use sets::word;
 

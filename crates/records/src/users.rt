@@ -4,15 +4,15 @@ ghost use mathlib.Core.Path.{_≡_};
 ghost use lib.ListN.{length};
 ghost use Rattle.fields.specs.Bytes.{number8};
 ghost use Rattle.sets.specs.Groups.{placesOf};
-ghost use Rattle.records.specs.Layout.{users, userRecord};
+ghost use Rattle.header.specs.Layout.{users, userRecord};
 ghost use Rattle.records.specs.Fields as fields;
 ghost use Rattle.records.specs.Fields.{userName};
 ghost use Rattle.records.specs.Users.{levelsOf, compartmentsOf, GroupsAre};
 ghost use Rattle.records.specs.Rules.{userLevelsRule, userCompartmentsRule, userGroupsRule, userShape, userNameRule, userRule, Counted};
-use crate::layout;
 use fields::names;
 use fields::numbers::all_zero;
 use fields::numbers::number8;
+use header::layout;
 use sets::groups::Groups;
 use sets::word;
 

@@ -6,8 +6,9 @@ use Rattle.fields.specs.Names.{nameByte, nameIn, nameRule, sameName, nameBefore
 use Rattle.fields.specs.Scan.{firstBad}
 use Rattle.sets.specs.Sets.{has, allBelow, within, meets, collect}
 use Rattle.blocks.specs.Blocks.{lengthRule, blockAt, sumA, sumB, checkRule, placeRule, blockRule, blockCount, firstBadBlock}
-use Rattle.records.specs.Layout.{levels, compartments, groups, users, labels, components, firstLabelBlock, firstUserBlock, blocksNeeded, componentOffset, labelOffset, userOffset, componentRecord, labelRecord, userRecord, contentsOf}
-use Rattle.records.specs.Rules.{headerRule, fitRule, classAt, classStart, parentRule, componentShape, numericRule, namesDiffer, newNameRule, componentRule, labelShape, tagRule, labelRule, userLevelsRule, userCompartmentsRule, userGroupsRule, userShape, userNameRule, userRule, recordRule, layoutRule, firstBadRecord, contentRule}
+use Rattle.header.specs.Layout.{levels, compartments, groups, users, labels, components, firstLabelBlock, firstUserBlock, blocksNeeded, componentOffset, labelOffset, userOffset, componentRecord, labelRecord, userRecord, contentsOf}
+use Rattle.header.specs.Header.{headerRule, fitRule}
+use Rattle.records.specs.Rules.{classAt, classStart, parentRule, componentShape, numericRule, namesDiffer, newNameRule, componentRule, labelShape, tagRule, labelRule, userLevelsRule, userCompartmentsRule, userGroupsRule, userShape, userNameRule, userRule, recordRule, layoutRule, firstBadRecord, contentRule}
 use Rattle.hierarchy.specs.Below.{parent, hasParent, endsWithin, endsRule, firstRing, lineageWithin, lineage, below, belowRule, firstBadBelow}
 use Rattle.image.specs.declared.faults.Checked.the-variants.{Accepted}
 use Rattle.image.specs.Check.{firstBadContent, contentFault, countedFault, faultOf, checkOf}

@@ -7,14 +7,14 @@ use Rattle.fields.specs.Names.{nameByte, nameIn, sameName}
 use Rattle.fields.specs.Scan.{firstBad}
 use Rattle.sets.specs.Sets.{has, empty}
 use Rattle.refusals.specs.declared.Refusal.the-variants.{TextShape}
-use Rattle.records.specs.Layout.{levels, compartments, groups, componentOffset, componentRecord}
+use Rattle.header.specs.Layout.{levels, compartments, groups, componentOffset, componentRecord}
 use Rattle.image.specs.Lookup.{componentIndex}
 use Rattle.labels.specs.Label.{Marks}
 use Rattle.labels.specs.Text.{colon, split, isName, isList, shapeRule}
 use Rattle.labels.specs.Parse.{matches, placeOfName, readNames, label, refused, parseOf}
-use Rattle.labels.specs.Print.{entryAt, listed, listText, section, textOf}
-use Rattle.labels.proofs.AnyOrder.{swap}
-use Rattle.labels.proofs.TextOrder.{SameNames, compartments as with-compartments}
+use Rattle.printing.specs.Print.{entryAt, listed, listText, section, textOf}
+use Rattle.roundtrip.proofs.AnyOrder.{swap}
+use Rattle.roundtrip.proofs.TextOrder.{SameNames, compartments as with-compartments}
 use Rattle.sample.specs.Cooperative.{cooperative}
 use Rattle.sample.proofs.Sample.{sample-accepted}
 

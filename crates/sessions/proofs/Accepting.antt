@@ -5,7 +5,7 @@ use mathlib.Core.Bool.{Bool, true, false}
 use mathlib.Core.List.{List}
 use Rattle.refusals.specs.declared.Refusal.{Refusal}
 use Rattle.refusals.specs.declared.Refusal.the-variants.{SessionRules}
-use Rattle.records.specs.Layout.{users}
+use Rattle.header.specs.Layout.{users}
 use Rattle.image.specs.declared.faults.Checked.{Checked}
 use Rattle.image.specs.declared.faults.Checked.the-variants.{Accepted, Refused}
 use Rattle.image.specs.Check.{onChecked, checkOf, IsAccepted}

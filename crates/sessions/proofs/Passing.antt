@@ -8,7 +8,7 @@ use borrow.Author.Tests.{ltb-true}
 use lib.Dec.{ltb}
 use Rattle.sets.specs.Sets.{within}
 use Rattle.sets.proofs.Within.{has-within, within-intersection, within-trans}
-use Rattle.records.specs.Layout.{users, userRecord}
+use Rattle.header.specs.Layout.{users, userRecord}
 use Rattle.records.specs.Fields.{readCompartments, writeCompartments, defaultCompartments, rowCompartments, readGroups, writeGroups, defaultGroups, rowGroups}
 use Rattle.records.proofs.MeaningUsers.{UserKept}
 use Rattle.hierarchy.specs.Below.{below}

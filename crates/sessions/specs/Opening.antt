@@ -5,7 +5,7 @@ use mathlib.Core.List.{List}
 use lib.Dec.{ltb}
 use Rattle.refusals.specs.declared.Refusal.{Refusal}
 use Rattle.refusals.specs.declared.Refusal.the-variants.{NoUser}
-use Rattle.records.specs.Layout.{users, userRecord}
+use Rattle.header.specs.Layout.{users, userRecord}
 use Rattle.records.specs.Fields.{defaultLevel, defaultCompartments, defaultGroups, rowLevel, rowCompartments, rowGroups}
 use Rattle.image.specs.Check.{onChecked, checkOf}
 use Rattle.image.specs.Lookup.{userOfName}

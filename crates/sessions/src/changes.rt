@@ -1,7 +1,7 @@
 // Label changes of a session that is accepted.
 ghost use Prim.Native.Nat.{_<_};
 ghost use mathlib.Core.Path.{_≡_};
-ghost use Rattle.records.specs.Layout.{users};
+ghost use Rattle.header.specs.Layout.{users};
 ghost use Rattle.records.specs.Rules.{Counted};
 ghost use Rattle.hierarchy.specs.Below.{Tabled};
 ghost use Rattle.labels.specs.Label.{marksOf};

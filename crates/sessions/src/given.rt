@@ -9,11 +9,11 @@ use access::new_labels::row_label_answer;
 use access::new_labels::session_label_answer;
 use access::rights::View;
 use access::rights::rights_at;
+use header::layout;
 use hierarchy::table;
 use hierarchy::table::Table;
 use image::check;
 use image::faults::Checked;
-use records::layout;
 use refusals::Refusal;
 
 pub enum Lent {

@@ -1,15 +1,15 @@
 // Opening a session for a user of an accepted image.
 ghost use Prim.Native.Nat.{_<_};
 ghost use mathlib.Core.Path.{_≡_};
-ghost use Rattle.records.specs.Layout.{users};
+ghost use Rattle.header.specs.Layout.{users};
 ghost use Rattle.records.specs.Rules.{Counted};
 ghost use Rattle.sessions.specs.Session.{sessionOf};
 ghost use Rattle.sessions.specs.Opening.{defaultSession, openAccepted, openingOf};
 use crate::answers::Opened;
 use crate::session::Session;
+use header::layout;
 use image::given::user_of_name;
 use labels::label::Label;
-use records::layout;
 use records::users;
 use refusals::Refusal;
 

@@ -1,5 +1,5 @@
 use Rattle.abi.proofs.Told.{merge-told}
-use Rattle.access.specs.TwoLabels.{mergingOf}
+use Rattle.dominance.specs.TwoLabels.{mergingOf}
 use mathlib.Core.Path.{sym, ap, _∙_}
 use borrow.Author.Needs.{needs}
 use Rattle.abi.proofs.brawnesk_merge.Statement.{statement}

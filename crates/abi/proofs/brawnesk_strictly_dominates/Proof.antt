@@ -1,5 +1,5 @@
 use Rattle.encoding.specs.Labels.{lowLabelIn}
-use Rattle.access.specs.TwoLabels as two
+use Rattle.dominance.specs.TwoLabels as two
 use Rattle.abi.proofs.Lending.{byte-cond}
 use borrow.Author.Needs.{needs}
 use Rattle.abi.proofs.brawnesk_strictly_dominates.Statement.{statement}

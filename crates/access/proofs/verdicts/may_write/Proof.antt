@@ -1,10 +1,10 @@
 use Rattle.image.specs.Lookup.{labelOfTag}
-use Rattle.records.specs.Layout.{labels}
+use Rattle.header.specs.Layout.{labels}
 use borrow.Author.Tests.{lt-ltb, le-ltb}
 use native.Mathlib.Omega.{arith}
 use Prim.Native.Nat.{_≤_, _<_}
 use Rattle.access.proofs.Tests.{asked-all}
-use Rattle.records.proofs.Inside.{header-inside}
+use Rattle.header.proofs.Inside.{header-inside}
 use mathlib.Core.Path.{sym, _∙_}
 use Rattle.access.specs.Verdicts.{writesLabel, knownTag, mayWrite}
 use borrow.Author.Needs.{needs}
@@ -16,7 +16,7 @@ use Rattle.access.proofs.verdicts.label_at.Reads as label-at-reads
 use Rattle.access.proofs.verdicts.write_tests.Reads as write-tests-reads
 use Rattle.access.proofs.verdicts.writes_all.Reads as writes-all-reads
 use Rattle.image.proofs.given.label_of_tag.Reads as label-of-tag-reads
-use Rattle.records.proofs.layout.labels.Reads as labels-reads
+use Rattle.header.proofs.layout.labels.Reads as labels-reads
 
 -- src/verdicts.rt:99:8
 writes-all-requires : tie.Need-writes-all-requires

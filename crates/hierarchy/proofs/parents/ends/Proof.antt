@@ -2,8 +2,8 @@ use Prim.Native.Nat.{_≤_, _<_}
 use mathlib.Core.Path.{_≡_, sym, _∙_}
 use native.Mathlib.Omega.{arith}
 use borrow.Author.Needs.{needs}
-use Rattle.records.specs.Layout.{groups}
-use Rattle.records.proofs.Inside.{header-inside}
+use Rattle.header.specs.Layout.{groups}
+use Rattle.header.proofs.Inside.{header-inside}
 use Rattle.hierarchy.specs.Below.{Above, here, endsWithin, endsRule}
 use Rattle.hierarchy.proofs.Lineage.{above-trans}
 use Rattle.hierarchy.proofs.Steps.{walk-up, walk-ended, walk-on, walk-none}

@@ -6,8 +6,8 @@ use borrow.Author.Count.{below-none, below-more}
 use borrow.Author.Tests.{not-true, not-false}
 use Rattle.fields.specs.Scan.{firstBad}
 use Rattle.fields.proofs.Scan.{loop-bad, loop-good, loop-end}
-use Rattle.records.specs.Layout.{groups}
-use Rattle.records.proofs.Inside.{header-inside}
+use Rattle.header.specs.Layout.{groups}
+use Rattle.header.proofs.Inside.{header-inside}
 use Rattle.hierarchy.specs.Below.{endsRule, EndBefore, firstRing}
 use Rattle.hierarchy.proofs.parents.first_ring.Statement.{statement}
 use Rattle.hierarchy.proofs.parents.first_ring.Tie as tie

@@ -4,8 +4,8 @@ use native.Mathlib.Omega.{arith}
 use borrow.Author.Needs.{needs}
 use Rattle.sets.specs.Sets.{union}
 use Rattle.sets.specs.Groups.{placesOf}
-use Rattle.records.specs.Layout.{groups}
-use Rattle.records.proofs.Inside.{header-inside}
+use Rattle.header.specs.Layout.{groups}
+use Rattle.header.proofs.Inside.{header-inside}
 use Rattle.hierarchy.specs.Below.{lineageWithin, lineage}
 use Rattle.hierarchy.proofs.Steps.{met-ended, met-on, met-none}
 use Rattle.hierarchy.proofs.parents.lineage.Statement.{statement}

@@ -1,7 +1,7 @@
 use borrow.Author.Needs.{needs}
 use native.Mathlib.Omega.{arith}
-use Rattle.records.specs.Layout.{components}
-use Rattle.records.proofs.Inside.{header-inside}
+use Rattle.header.specs.Layout.{components}
+use Rattle.header.proofs.Inside.{header-inside}
 use Rattle.hierarchy.specs.Below.{parent}
 use Rattle.hierarchy.proofs.parents.parent.Statement.{statement}
 use Rattle.hierarchy.proofs.parents.parent.Tie as tie

@@ -5,8 +5,8 @@ use native.Mathlib.Omega.{arith}
 use borrow.Author.Needs.{needs}
 use Rattle.sets.specs.Sets.{one, union}
 use Rattle.sets.specs.Groups.{placesOf}
-use Rattle.records.specs.Layout.{groups}
-use Rattle.records.proofs.Inside.{header-inside}
+use Rattle.header.specs.Layout.{groups}
+use Rattle.header.proofs.Inside.{header-inside}
 use Rattle.hierarchy.proofs.Steps.{collected, collected-none, collected-all, collected-put, collected-pass}
 use Rattle.hierarchy.proofs.table.below.Statement.{statement}
 use Rattle.hierarchy.proofs.table.below.Tie as tie

@@ -5,8 +5,8 @@ use native.Mathlib.Omega.{arith}
 use borrow.Author.Tests.{not-true, not-false}
 use Rattle.fields.specs.Scan.{firstBad}
 use Rattle.fields.proofs.Scan.{loop-bad, loop-good, loop-end}
-use Rattle.records.specs.Layout.{users}
-use Rattle.records.proofs.Inside.{header-inside}
+use Rattle.header.specs.Layout.{users}
+use Rattle.header.proofs.Inside.{header-inside}
 use Rattle.hierarchy.specs.Below.{belowRule, firstBadBelow}
 use Rattle.hierarchy.proofs.table.first_bad_below.Statement.{statement}
 use Rattle.hierarchy.proofs.table.first_bad_below.Tie as tie

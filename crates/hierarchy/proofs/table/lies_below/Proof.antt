@@ -7,8 +7,8 @@ use Rattle.sets.specs.Groups.{placesOf}
 use Rattle.sets.proofs.Bounds.{less-below, below-has}
 use Rattle.sets.proofs.Lowest.{lowest-in, without-smaller}
 use Rattle.sets.proofs.Places.{places-below}
-use Rattle.records.specs.Layout.{groups}
-use Rattle.records.proofs.Inside.{header-inside}
+use Rattle.header.specs.Layout.{groups}
+use Rattle.header.proofs.Inside.{header-inside}
 use Rattle.hierarchy.specs.Below.{below}
 use Rattle.hierarchy.proofs.Steps.{lies-outside, lies-rest, lies-no, lies-on, lies-none}
 use Rattle.hierarchy.proofs.table.lies_below.Statement.{statement}

@@ -6,9 +6,9 @@ use borrow.Author.Tests.{eq-eqb, ne-eqb}
 use lib.Dec.{eqb}
 use Rattle.fields.specs.Scan.{firstWhere}
 use Rattle.fields.proofs.Scan.{loop-bad, loop-good, loop-end}
-use Rattle.records.specs.Layout.{labels, labelRecord}
+use Rattle.header.specs.Layout.{labels, labelRecord}
 use Rattle.records.specs.Fields.{tagOf}
-use Rattle.records.proofs.Inside.{header-inside}
+use Rattle.header.proofs.Inside.{header-inside}
 use Rattle.image.specs.Lookup.{labelOfTag}
 use Rattle.image.proofs.given.label_of_tag.Statement.{statement}
 use Rattle.image.proofs.given.label_of_tag.Tie as tie

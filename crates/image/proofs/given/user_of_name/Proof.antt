@@ -5,9 +5,9 @@ use native.Mathlib.Omega.{arith}
 use Rattle.fields.specs.Names.{sameName}
 use Rattle.fields.specs.Scan.{firstWhere}
 use Rattle.fields.proofs.Scan.{loop-bad, loop-good, loop-end}
-use Rattle.records.specs.Layout.{users, userRecord}
+use Rattle.header.specs.Layout.{users, userRecord}
 use Rattle.records.specs.Fields.{userName}
-use Rattle.records.proofs.Inside.{header-inside}
+use Rattle.header.proofs.Inside.{header-inside}
 use Rattle.image.specs.Lookup.{userOfName}
 use Rattle.image.proofs.given.user_of_name.Statement.{statement}
 use Rattle.image.proofs.given.user_of_name.Tie as tie

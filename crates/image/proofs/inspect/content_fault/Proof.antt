@@ -4,7 +4,7 @@ use mathlib.Core.List.{List}
 use borrow.Author.Needs.{needs}
 use borrow.Author.Tests.{not-true, not-false}
 use Rattle.fields.proofs.Scan.{bad-from}
-use Rattle.records.specs.Layout.{contentsOf}
+use Rattle.header.specs.Layout.{contentsOf}
 use Rattle.records.specs.Rules.{firstBadRecord}
 use Rattle.image.specs.Check.{contentFault}
 use Rattle.image.proofs.inspect.content_fault.Statement.{statement}

@@ -3,8 +3,8 @@ use native.Mathlib.Omega.{arith}
 use borrow.Author.Needs.{needs}
 use borrow.Author.Tests.{lt-ltb, le-ltb}
 use Rattle.fields.proofs.Scan.{bad-from}
-use Rattle.records.specs.Layout.{blocksNeeded, groups, users}
-use Rattle.records.proofs.Inside.{header-inside}
+use Rattle.header.specs.Layout.{blocksNeeded, groups, users}
+use Rattle.header.proofs.Inside.{header-inside}
 use Rattle.hierarchy.specs.Below.{firstRing, firstBadBelow}
 use Rattle.image.specs.Check.{countedFault, firstBadContent}
 use Rattle.image.proofs.inspect.counted_fault.Statement.{statement}

@@ -5,7 +5,7 @@ use borrow.Author.Tests.{not-true, not-false}
 use Rattle.fields.specs.Scan.{firstBad}
 use Rattle.fields.proofs.Scan.{loop-bad, loop-good, loop-end}
 use Rattle.records.specs.Rules.{contentRule}
-use Rattle.records.proofs.Inside.{header-inside}
+use Rattle.header.proofs.Inside.{header-inside}
 use Rattle.image.specs.Check.{firstBadContent}
 use Rattle.image.proofs.inspect.first_bad_content.Statement.{statement}
 use Rattle.image.proofs.inspect.first_bad_content.Tie as tie

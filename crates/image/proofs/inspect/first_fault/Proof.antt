@@ -7,7 +7,7 @@ use borrow.Author.Tests.{lt-ltb, le-ltb, not-true, not-false}
 use Rattle.fields.proofs.Both.{both-left, both-right}
 use Rattle.blocks.specs.Blocks.{blockCount, firstBadBlock}
 use Rattle.blocks.proofs.Meaning.{length-means}
-use Rattle.records.specs.Rules.{headerRule, fitRule}
+use Rattle.header.specs.Header.{headerRule, fitRule}
 use Rattle.records.proofs.MeaningHeader.{counted}
 use Rattle.image.specs.Check.{faultOf}
 use Rattle.image.proofs.inspect.first_fault.Statement.{statement}

@@ -1,8 +1,8 @@
 use native.Mathlib.Omega.{arith}
 use borrow.Author.Needs.{needs}
 use borrow.Author.Tests.{eq-eqb, ne-eqb}
-use Rattle.records.specs.Layout.{levels, compartments, components}
-use Rattle.records.proofs.Inside.{header-inside}
+use Rattle.header.specs.Layout.{levels, compartments, components}
+use Rattle.header.proofs.Inside.{header-inside}
 use Rattle.image.specs.Lookup.{componentIndex}
 use Rattle.image.proofs.Placed.{placed-level, placed-compartment, placed-group}
 use Rattle.image.proofs.lookup.component_index.Statement.{statement}

@@ -1,4 +1,4 @@
-use Rattle.records.proofs.Inside.{header-inside}
+use Rattle.header.proofs.Inside.{header-inside}
 use Rattle.image.specs.Lookup.{hasComponent}
 use Rattle.image.proofs.lookup.has_component.Statement.{statement}
 use Rattle.image.proofs.lookup.has_component.Tie as tie

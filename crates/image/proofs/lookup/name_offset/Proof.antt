@@ -1,6 +1,6 @@
 use native.Mathlib.Omega.{arith}
 use borrow.Author.Needs.{needs}
-use Rattle.records.specs.Layout.{componentOffset, components}
+use Rattle.header.specs.Layout.{componentOffset, components}
 use Rattle.image.specs.Lookup.{nameOffset}
 use Rattle.image.proofs.lookup.name_offset.Statement.{statement}
 use Rattle.image.proofs.lookup.name_offset.Tie as tie

@@ -1,6 +1,6 @@
 use native.Mathlib.Omega.{arith}
 use borrow.Author.Tests.{eq-eqb, ne-eqb}
-use Rattle.records.proofs.Inside.{header-inside}
+use Rattle.header.proofs.Inside.{header-inside}
 use Rattle.labels.proofs.names.class_count.Statement.{statement}
 use Rattle.labels.proofs.names.class_count.Tie as tie
 

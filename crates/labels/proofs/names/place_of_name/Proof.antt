@@ -4,7 +4,7 @@ use native.Mathlib.Nat.{sub-zero}
 use native.Mathlib.Omega.{arith}
 use Rattle.fields.specs.Scan.{firstWhere}
 use Rattle.fields.proofs.Scan.{loop-bad, loop-good, loop-end}
-use Rattle.records.specs.Layout.{componentRecord}
+use Rattle.header.specs.Layout.{componentRecord}
 use Rattle.records.specs.Fields.{componentName}
 use Rattle.image.specs.Lookup.{componentIndex}
 use Rattle.labels.specs.Parse.{matches, classCount, placeOfName}

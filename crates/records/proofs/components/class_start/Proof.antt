@@ -2,7 +2,7 @@ use Prim.Native.Nat.{_+_, _≤_, _<_}
 use native.Mathlib.Omega.{arith}
 use borrow.Author.Needs.{needs}
 use borrow.Author.Tests.{lt-ltb, le-ltb}
-use Rattle.records.specs.Layout.{levels, compartments}
+use Rattle.header.specs.Layout.{levels, compartments}
 use Rattle.records.specs.Rules.{classStart}
 use Rattle.records.proofs.components.class_start.Statement.{statement}
 use Rattle.records.proofs.components.class_start.Tie as tie

@@ -7,10 +7,10 @@ use borrow.Author.Needs.{needs}
 use Rattle.fields.specs.Names.{sameName}
 use Rattle.fields.specs.Scan.{firstBad}
 use Rattle.fields.proofs.Scan.{loop-bad, loop-good, loop-end}
-use Rattle.records.specs.Layout.{componentOffset, componentRecord}
+use Rattle.header.specs.Layout.{componentOffset, componentRecord}
 use Rattle.records.specs.Fields.{componentName}
 use Rattle.records.specs.Rules.{namesDiffer}
-use Rattle.records.proofs.Inside.{component-inside}
+use Rattle.header.proofs.Inside.{component-inside}
 use Rattle.records.proofs.components.first_same_name.Statement.{statement}
 use Rattle.records.proofs.components.first_same_name.Tie as tie
 

@@ -1,8 +1,8 @@
 use native.Mathlib.Nat.{add-sub-cancel-left}
 use native.Mathlib.Omega.{arith}
 use borrow.Author.Needs.{needs}
-use Rattle.records.specs.Layout.{componentRecord}
-use Rattle.records.proofs.Inside.{component-inside}
+use Rattle.header.specs.Layout.{componentRecord}
+use Rattle.header.proofs.Inside.{component-inside}
 use Rattle.records.proofs.components.is_named.Statement.{statement}
 use Rattle.records.proofs.components.is_named.Tie as tie
 

@@ -3,7 +3,7 @@ use native.Mathlib.Nat.{add-sub-of-le}
 use native.Mathlib.Omega.{arith}
 use borrow.Author.Needs.{needs}
 use Rattle.records.specs.Rules.{newNameRule, classStart}
-use Rattle.records.proofs.Inside.{header-inside}
+use Rattle.header.proofs.Inside.{header-inside}
 use Rattle.records.proofs.components.new_name_ok.Statement.{statement}
 use Rattle.records.proofs.components.new_name_ok.Tie as tie
 

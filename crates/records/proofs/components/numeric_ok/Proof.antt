@@ -3,7 +3,7 @@ use native.Mathlib.Omega.{arith}
 use borrow.Author.Needs.{needs}
 use borrow.Author.Tests.{eq-eqb, ne-eqb}
 use Rattle.records.specs.Rules.{numericRule, classStart}
-use Rattle.records.proofs.Inside.{header-inside}
+use Rattle.header.proofs.Inside.{header-inside}
 use Rattle.records.proofs.components.numeric_ok.Statement.{statement}
 use Rattle.records.proofs.components.numeric_ok.Tie as tie
 

@@ -1,7 +1,7 @@
 use native.Mathlib.Omega.{arith}
 use borrow.Author.Needs.{needs}
 use Rattle.records.specs.Rules.{labelShape}
-use Rattle.records.proofs.Inside.{header-inside}
+use Rattle.header.proofs.Inside.{header-inside}
 use Rattle.records.proofs.labels.shape_ok.Statement.{statement}
 use Rattle.records.proofs.labels.shape_ok.Tie as tie
 

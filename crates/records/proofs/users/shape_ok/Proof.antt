@@ -1,6 +1,6 @@
 use borrow.Author.Needs.{needs}
 use Rattle.records.specs.Rules.{userShape}
-use Rattle.records.proofs.Inside.{header-inside}
+use Rattle.header.proofs.Inside.{header-inside}
 use Rattle.records.proofs.users.shape_ok.Statement.{statement}
 use Rattle.records.proofs.users.shape_ok.Tie as tie
 

@@ -2,11 +2,11 @@ use Rattle.access.specs.NewLabels.{allowed}
 use mathlib.Core.Path.{ap}
 use Rattle.sessions.proofs.Accepting.{lent-broken, lent-whole}
 use Rattle.access.specs.NewLabels.{sessionRule}
-use Rattle.records.specs.Layout.{users}
+use Rattle.header.specs.Layout.{users}
 use Prim.Native.Nat.{_≤_, _<_}
 use borrow.Author.Tests.{lt-ltb, le-ltb}
 use native.Mathlib.Omega.{arith}
-use Rattle.records.proofs.Inside.{header-inside}
+use Rattle.header.proofs.Inside.{header-inside}
 use Rattle.image.proofs.Accepted.{accepted-counted}
 use mathlib.Core.Path.{sym, _∙_, subst}
 use Rattle.sessions.specs.Session.{lentAnswer}
@@ -19,7 +19,7 @@ use Rattle.access.proofs.new_labels.row_label_answer.Reads as row-label-answer-
 use Rattle.access.proofs.new_labels.session_label_answer.Reads as session-label-answer-reads
 use Rattle.access.proofs.rights.rights_at.Reads as rights-at-reads
 use Rattle.hierarchy.proofs.table.fill.Reads as fill-reads
-use Rattle.records.proofs.layout.users.Reads as users-reads
+use Rattle.header.proofs.layout.users.Reads as users-reads
 
 -- src/given.rt:30:5
 fill-requires : tie.Need-fill-requires

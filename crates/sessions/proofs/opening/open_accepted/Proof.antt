@@ -1,9 +1,9 @@
 use Rattle.image.specs.Lookup.{userOfName}
-use Rattle.records.specs.Layout.{users}
+use Rattle.header.specs.Layout.{users}
 use Prim.Native.Nat.{_≤_, _<_}
 use borrow.Author.Tests.{lt-ltb, le-ltb}
 use native.Mathlib.Omega.{arith}
-use Rattle.records.proofs.Inside.{header-inside}
+use Rattle.header.proofs.Inside.{header-inside}
 use Rattle.sessions.specs.Opening.{openAccepted}
 use borrow.Author.Needs.{needs}
 use Rattle.sessions.proofs.opening.open_accepted.Statement.{statement}
@@ -11,7 +11,7 @@ use Rattle.sessions.proofs.opening.open_accepted.Tie as tie
 use Rattle.sessions.proofs.opening.open_accepted.Reads as reads
 use Rattle.sessions.proofs.opening.open_accepted.Lts as lts
 use Rattle.image.proofs.given.user_of_name.Reads as user-of-name-reads
-use Rattle.records.proofs.layout.users.Reads as users-reads
+use Rattle.header.proofs.layout.users.Reads as users-reads
 use Rattle.sessions.proofs.opening.default_session.Reads as default-session-reads
 
 -- src/opening.rt:47:9

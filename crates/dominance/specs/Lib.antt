@@ -1,0 +1,2 @@
+-- Two labels: dominance and merging.
+pub mod TwoLabels

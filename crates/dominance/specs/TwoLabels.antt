@@ -1,0 +1,93 @@
+-- Two labels: dominance and merging. Neither takes an image: levels, compartments and groups are compared as they are listed.
+use Prim.Native.Nat.{ℕ, min, max}
+use mathlib.Core.Bool.{Bool, cond, not, _&&_, _||_}
+use mathlib.Core.List.{List}
+use lib.Dec.{eqb, leb}
+use lib.ListN.{length}
+use Rattle.fields.specs.Bytes.{byteAt}
+use Rattle.refusals.specs.declared.Refusal.{Refusal}
+use Rattle.refusals.specs.declared.Refusal.the-variants.{MergeLetters}
+use Rattle.sets.specs.Sets.{none, union, intersection, less, empty, within, meets}
+use Rattle.labels.specs.Label.{Marks, marksOf}
+use Rattle.dominance.specs.declared.merging.Merged.{Merged}
+use Rattle.dominance.specs.declared.merging.Merged.the-variants as merged
+
+-- ---- dominance
+-- label 2 has no groups or shares one
+unfoldable pub dominatesGroups : ℕ → ℕ → Bool
+dominatesGroups groups1 groups2 = empty groups2 || meets groups2 groups1
+
+-- label 1's level is at least as high, it has all compartments of 2, and 2 has no groups or shares one
+unfoldable pub dominates : Marks → Marks → Bool
+dominates a b =
+    leb (b .level) (a .level) && within (b .compartments) (a .compartments) && dominatesGroups (a .groups) (b .groups)
+
+unfoldable pub sameLabel : Marks → Marks → Bool
+sameLabel a b = eqb (a .level) (b .level) && eqb (a .compartments) (b .compartments) && eqb (a .groups) (b .groups)
+
+-- strictly: and the labels differ
+unfoldable pub strictlyDominates : Marks → Marks → Bool
+strictlyDominates a b = dominates a b && not (sameLabel a b)
+
+-- ---- merging
+-- the letters H and L; U, I, M and N
+abbrev pub letterH : ℕ
+letterH = 72
+
+abbrev pub letterL : ℕ
+letterL = 76
+
+abbrev pub letterU : ℕ
+letterU = 85
+
+abbrev pub letterI : ℕ
+letterI = 73
+
+abbrev pub letterM : ℕ
+letterM = 77
+
+abbrev pub letterN : ℕ
+letterN = 78
+
+abbrev pub levelLetter : ℕ → Bool
+levelLetter x = eqb x letterH || eqb x letterL
+
+abbrev pub setLetter : ℕ → Bool
+setLetter x = eqb x letterU || eqb x letterI || eqb x letterM || eqb x letterN
+
+-- level H or L: the higher, the lower
+unfoldable pub mergeLevels : ℕ → ℕ → ℕ → ℕ
+mergeLevels letter a b = cond (eqb letter letterH) (max a b) (min a b)
+
+-- U union, I intersection, M the first without the second, N none
+unfoldable pub mergeSets : ℕ → ℕ → ℕ → ℕ
+mergeSets letter a b =
+    cond (eqb letter letterU) (union a b) (cond (eqb letter letterI) (intersection a b) (cond (eqb letter letterM) (less a b) none))
+
+-- ---- the answer of `merge`
+pub data Merging : Type 0 where
+  label : Marks → Merging
+  refused : Refusal → Merging
+
+-- exactly three letters, each of those allowed at its place
+unfoldable pub lettersRule : List ℕ → Bool
+lettersRule letters =
+    eqb (length letters) 3 && levelLetter (byteAt letters 0) && setLetter (byteAt letters 1) && setLetter (byteAt letters 2)
+
+-- a letter each for level, compartments and groups
+unfoldable pub mergedLabel : Marks → Marks → List ℕ → Marks
+mergedLabel a b letters =
+    record {
+      level = mergeLevels (byteAt letters 0) (a .level) (b .level);
+      compartments = mergeSets (byteAt letters 1) (a .compartments) (b .compartments);
+      groups = mergeSets (byteAt letters 2) (a .groups) (b .groups);
+    }
+
+-- the only refusal is 17
+unfoldable pub mergeOf : Marks → Marks → List ℕ → Merging
+mergeOf a b letters = cond (lettersRule letters) (label (mergedLabel a b letters)) (refused MergeLetters)
+
+-- what an answer of the code stands for
+abbrev pub mergingOf : Merged → Merging
+mergingOf (merged.Done l) = label (marksOf l)
+mergingOf (merged.Refused r) = refused r

@@ -1,0 +1,59 @@
+-- Text written over a buffer. Assumes nothing.
+use Prim.Native.Nat.{ℕ, suc, _+_, _-_, _≤_, _<_}
+use mathlib.Core.Path.{_≡_, refl, sym, ap, ap₂, _∙_}
+use mathlib.Core.List.{List, [], _∷_, _++_, append-assoc, append-nil}
+use native.Mathlib.Nat.{add-zero, add-assoc}
+use native.Mathlib.Numerals.{add-one}
+use native.Mathlib.Omega.{arith}
+use lib.ListN.{length, take, drop, set, length-append, length-drop, take-append-drop}
+use lib.Seq.{length-take-le, drop-drop, take-at, drop-at, set-split, append-snoc}
+use Rattle.printing.specs.Print.{pasted}
+
+-- nothing is written
+pub pasted-none : (b : List ℕ) (e : ℕ) → pasted b e [] ≡ b
+unfolding pasted
+pasted-none b e = rw (append-nil, add-zero) (take-append-drop e b)
+
+module _ (b : List ℕ) (e : ℕ) (x : List ℕ) (fits : e + length x ≤ length b) where
+  head-length : length (take e b ++ x) ≡ e + length x
+  head-length =
+      let h : length (take e b) ≡ e = length-take-le e b (omega arith) in
+      omega (arith, length-append (take e b) x)
+
+  regroup : pasted b e x ≡ (take e b ++ x) ++ drop (e + length x) b
+  unfolding pasted
+  regroup = refl
+
+  pub pasted-length : length (pasted b e x) ≡ length b
+  pasted-length =
+      let h = head-length in
+      ap length regroup
+      ∙ length-append (take e b ++ x) (drop (e + length x) b)
+      ∙ simp length-drop (omega arith)
+
+  taken : take (e + length x) (pasted b e x) ≡ take e b ++ x
+  taken = ap (take (e + length x)) regroup ∙ take-at (take e b ++ x) (drop (e + length x) b) (e + length x) head-length
+
+  dropped : drop (e + length x) (pasted b e x) ≡ drop (e + length x) b
+  dropped = ap (drop (e + length x)) regroup ∙ drop-at (take e b ++ x) (drop (e + length x) b) (e + length x) head-length
+
+  rest : (n : ℕ) → drop (e + length x + n) (pasted b e x) ≡ drop (e + length x + n) b
+  rest n = sym (drop-drop n (e + length x) (pasted b e x)) ∙ ap (drop n) dropped ∙ drop-drop n (e + length x) b
+
+  -- one text after another
+  pub pasted-after : (y : List ℕ) → pasted (pasted b e x) (e + length x) y ≡ pasted b e (x ++ y)
+  unfolding pasted
+  pasted-after y =
+      ap₂ (λ (s t : List ℕ). s ++ y ++ t) taken (rest (length y))
+      ∙ ap₂ (λ (s : List ℕ) (n : ℕ). s ++ drop n b) (append-assoc (take e b) x y)
+      (add-assoc e (length x) (length y) ∙ ap (λ (n : ℕ). e + n) (sym (length-append x y)))
+
+-- one byte
+pub pasted-byte : (b : List ℕ) (e v : ℕ) → e < length b → pasted b e (v ∷ []) ≡ set b e v
+unfolding pasted
+pasted-byte b e v h = rw add-one (append-snoc (take e b) v (drop (suc e) b) ∙ sym (set-split b e v h))
+
+-- a byte, and then a text
+pub byte-after : (b : List ℕ) (e v : ℕ) (y : List ℕ) → e < length b → pasted (set b e v) (e + 1) y ≡ pasted b e (v ∷ y)
+byte-after b e v y h =
+    ap (λ (s : List ℕ). pasted s (e + 1) y) (sym (pasted-byte b e v h)) ∙ pasted-after b e (v ∷ []) (omega arith) y

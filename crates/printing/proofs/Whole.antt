@@ -1,0 +1,171 @@
+-- The whole text of a label that the policy has. Assumes nothing.
+use Prim.Native.Nat.{ℕ, _+_, _≤_}
+use mathlib.Core.Path.{_≡_, refl, sym, ap, ap₂, _∙_}
+use mathlib.Core.Bool.{Bool, true, false, cond, _&&_}
+use mathlib.Core.List.{List, [], _++_, append-nil, append-assoc}
+use native.Mathlib.Omega.{arith}
+use borrow.Author.Tests.{lt-ltb}
+use lib.Dec.{ltb}
+use lib.ListN.{length, length-append}
+use Rattle.fields.proofs.Both.{parts}
+use Rattle.sets.specs.Sets.{empty, within, allBelow}
+use Rattle.header.specs.Layout.{levels, compartments, groups}
+use Rattle.image.specs.Check.{IsAccepted}
+use Rattle.image.specs.Lookup.{hasComponent}
+use Rattle.image.proofs.Accepted.{accepted-counted}
+use Rattle.labels.specs.Label.{Marks}
+use Rattle.printing.specs.Print.{nameAt, section, textOf, labelExists, pasted, Named, Written}
+use Rattle.printing.proofs.Listed.{name-short, listed-short}
+use Rattle.printing.proofs.Pasted.{pasted-after, pasted-length}
+use Rattle.printing.proofs.Sections.{section-length}
+
+-- ---- the components are there
+pub has-level : (im : List ℕ) (m : Marks) → labelExists im m ≡ true → hasComponent im 1 (m .level) ≡ true
+unfolding labelExists hasComponent
+has-level im m e =
+    let a = ltb (m .level) (levels im) in
+    let b = within (m .compartments) (allBelow (compartments im)) in
+    let d = within (m .groups) (allBelow (groups im)) in
+    let q : ltb (m .level) (levels im) ≡ true = parts a b (parts (a && b) d e .0) .0 in
+    rw q
+
+pub named-compartments : (im : List ℕ) → IsAccepted im → Named im 2 (compartments im)
+unfolding hasComponent
+named-compartments im acc =
+    record { accepted = acc; present = λ p h. rw (lt-ltb p (compartments im) h); few = accepted-counted im acc .compartmentsLimit }
+
+pub named-groups : (im : List ℕ) → IsAccepted im → Named im 3 (groups im)
+unfolding hasComponent
+named-groups im acc =
+    record { accepted = acc; present = λ p h. lt-ltb p (groups im) h; few = accepted-counted im acc .groupsLimit }
+
+-- ---- which parts the text has
+module _ (im : List ℕ) (m : Marks) where
+  abbrev first : List ℕ
+  first = section im 2 (compartments im) (m .compartments)
+
+  abbrev second : List ℕ
+  second = section im 3 (groups im) (m .groups)
+
+  pub text-level : (empty (m .groups) && empty (m .compartments)) ≡ true → textOf im m ≡ nameAt im 1 (m .level)
+  unfolding textOf
+  text-level e =
+      let q = parts (empty (m .groups)) (empty (m .compartments)) e in
+      rw (q .0, q .1) (append-nil (nameAt im 1 (m .level)))
+
+  pub text-first : (empty (m .groups) && empty (m .compartments)) ≡ false → empty (m .groups) ≡ true
+      → textOf im m ≡ nameAt im 1 (m .level) ++ first
+  unfolding textOf
+  text-first n e =
+      let q : empty (m .compartments) ≡ false = rw e at n in
+      rw (e, q)
+
+  pub text-both : empty (m .groups) ≡ false → textOf im m ≡ nameAt im 1 (m .level) ++ first ++ second
+  unfolding textOf
+  text-both e = rw e (sym (append-assoc (nameAt im 1 (m .level)) first second))
+
+  pub length-level : {name : List ℕ} → name ≡ nameAt im 1 (m .level) → (empty (m .groups) && empty (m .compartments)) ≡ true
+      → length name ≡ length (textOf im m)
+  length-level n e = ap length (n ∙ sym (text-level e))
+
+  pub length-first : {name : List ℕ} {r : ℕ} → name ≡ nameAt im 1 (m .level) → (empty (m .groups) && empty (m .compartments)) ≡ false
+      → empty (m .groups) ≡ true → r ≡ length first → length name + r ≡ length (textOf im m)
+  length-first n t e f =
+      ap₂ (λ (a b : ℕ). a + b) (ap length n) f ∙ sym (length-append (nameAt im 1 (m .level)) first) ∙ sym (ap length (text-first t e))
+
+  pub length-both : {name : List ℕ} {r q : ℕ} → name ≡ nameAt im 1 (m .level) → empty (m .groups) ≡ false
+      → r ≡ length first → q ≡ length second → length name + r + q ≡ length (textOf im m)
+  length-both n e f g =
+      ap₂ (λ (a b : ℕ). a + b)
+      (ap₂ (λ (a b : ℕ). a + b) (ap length n) f ∙ sym (length-append (nameAt im 1 (m .level)) first)) g
+      ∙ sym (length-append (nameAt im 1 (m .level) ++ first) second) ∙ sym (ap length (text-both e))
+
+-- the tests of the code are the tests of the definition
+pub told : {a b x y t : Bool} → a ≡ x → b ≡ y → (a && b) ≡ t → (x && y) ≡ t
+told e d h = sym (ap₂ (λ (s t : Bool). s && t) e d) ∙ h
+
+-- ---- writing the parts one after another
+pub written-then : {b : List ℕ} {e : ℕ} {x mid : List ℕ} {r : ℕ} {y after : List ℕ} {q : ℕ} → e + length x ≤ length b
+    → Written b e x mid r → Written mid r y after q → Written b e (x ++ y) after q
+written-then {b} {e} {x} {mid} {r} {y} {after} {q} fits v w =
+    record {
+      bytes =
+          w .bytes ∙ ap₂ (λ (t : List ℕ) (n : ℕ). pasted t n y) (v .bytes) (v .stop) ∙ pasted-after b e x fits y;
+      stop = omega (arith, w .stop, v .stop, length-append x y);
+    }
+
+written-long : {b : List ℕ} {e : ℕ} {x after : List ℕ} {r : ℕ} → e + length x ≤ length b → Written b e x after r
+    → length after ≡ length b
+written-long {b} {e} {x} fits w = ap length (w .bytes) ∙ pasted-length b e x fits
+
+module _ (im : List ℕ) (m : Marks) (b name : List ℕ) (n : name ≡ nameAt im 1 (m .level)) (room : length (textOf im m) ≤ length b) where
+  pub room-level : 0 + length name ≤ length b
+  unfolding textOf
+  room-level =
+      let e = ap length n in
+      omega (arith, length-append (nameAt im 1 (m .level)) (cond (empty (m .groups)) (cond (empty (m .compartments)) [] (first im m)) (first im m ++ second im m)))
+
+  front-room : (empty (m .groups) && empty (m .compartments)) ≡ false → 0 + length name + length (first im m) ≤ length b
+  front-room t = at (empty (m .groups)) refl
+    where
+      at : (g : Bool) → empty (m .groups) ≡ g → 0 + length name + length (first im m) ≤ length b
+      at true e = let l = length-first im m n t e refl in omega arith
+      at false e = let l = length-both im m n e refl refl in omega arith
+
+  pub room-first : {mid : List ℕ} {r : ℕ} → (empty (m .groups) && empty (m .compartments)) ≡ false → Written b 0 name mid r
+      → r + length (first im m) ≤ length mid
+  room-first t w =
+      let l = written-long room-level w in
+      let f = front-room t in
+      omega (arith, w .stop)
+
+  pub written-level : {mid : List ℕ} {r : ℕ} → (empty (m .groups) && empty (m .compartments)) ≡ true → Written b 0 name mid r
+      → Written b 0 (textOf im m) mid r
+  written-level t w = rw (text-level im m t, ← n) w
+
+  module _ {mid : List ℕ} {r : ℕ} {after : List ℕ} {q : ℕ} (t : (empty (m .groups) && empty (m .compartments)) ≡ false)
+      (v : Written b 0 name mid r) (w : Written mid r (first im m) after q) where
+    pub written-first : empty (m .groups) ≡ true → Written b 0 (textOf im m) after q
+    written-first e = rw (text-first im m t e, ← n) (written-then room-level v w)
+
+    two : Written b 0 (name ++ first im m) after q
+    two = written-then room-level v w
+
+    fits-two : 0 + length (name ++ first im m) ≤ length b
+    fits-two = let f = front-room t in omega (arith, length-append name (first im m))
+
+    pub room-second : empty (m .groups) ≡ false → q + length (second im m) ≤ length after
+    room-second e =
+        let l = length-both im m n e refl refl in
+        let k = written-long fits-two two in
+        let s = two .stop in
+        omega (arith, length-append name (first im m))
+
+    pub written-both : {last : List ℕ} {p : ℕ} → empty (m .groups) ≡ false → Written after q (second im m) last p
+        → Written b 0 (textOf im m) last p
+    written-both e u = rw (text-both im m e, ← n) (written-then fits-two two u)
+
+-- ---- a label's text is short
+section-short : (im : List ℕ) (class s count : ℕ) → Named im class count → length (section im class count s) ≤ 1985
+section-short im class s count k =
+    let l = section-length im class s count in
+    let f = listed-short im (k .accepted) class s count 0 (λ p h. k .present p (omega arith)) in
+    let w = k .few in
+    omega arith
+
+pub text-short : (im : List ℕ) → IsAccepted im → (m : Marks) → labelExists im m ≡ true → length (textOf im m) ≤ 4096
+text-short im acc m h = at (empty (m .groups)) refl (empty (m .compartments)) refl
+  where
+    at : (g : Bool) → empty (m .groups) ≡ g → (c : Bool) → empty (m .compartments) ≡ c → length (textOf im m) ≤ 4096
+    at g e c d =
+        let name = name-short im acc 1 (m .level) (has-level im m h) in
+        let one = section-short im 2 (m .compartments) (compartments im) (named-compartments im acc) in
+        let two = section-short im 3 (m .groups) (groups im) (named-groups im acc) in
+        by g e c d name one two
+      where
+        by : (g : Bool) → empty (m .groups) ≡ g → (c : Bool) → empty (m .compartments) ≡ c
+            → length (nameAt im 1 (m .level)) ≤ 30 → length (first im m) ≤ 1985 → length (second im m) ≤ 1985
+            → length (textOf im m) ≤ 4096
+        by true e true d name one two = let l = length-level im m refl (rw (e, d)) in omega arith
+        by true e false d name one two = let l = length-first im m refl (rw (e, d)) e refl in omega arith
+        by false e c d name one two = let l = length-both im m refl e refl refl in omega arith

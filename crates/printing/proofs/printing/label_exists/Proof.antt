@@ -1,0 +1,56 @@
+use borrow.Author.Needs.{needs}
+use Rattle.header.proofs.Inside.{header-inside}
+use Rattle.printing.specs.Print.{labelExists}
+use Rattle.printing.proofs.printing.label_exists.Statement.{statement}
+use Rattle.printing.proofs.printing.label_exists.Tie as tie
+
+cast-result : tie.Need-cast-result
+cast-result c = search needs
+
+levels-requires : tie.Need-levels-requires
+levels-requires c κs = header-inside _ (c .before .before .pre .fitted)
+
+compartments-requires : tie.Need-compartments-requires
+compartments-requires c κs = header-inside _ (c .before .before .before .pre .fitted)
+
+all-below-requires : tie.Need-all-below-requires
+all-below-requires c κs = search needs
+
+within-requires : tie.Need-within-requires
+within-requires c κs = search needs
+
+groups-requires : tie.Need-groups-requires
+groups-requires c κs = header-inside _ (c .before .before .before .before .before .before .pre .fitted)
+
+all-below-requires-2 : tie.Need-all-below-requires-2
+all-below-requires-2 c κs = search needs
+
+within-requires-2 : tie.Need-within-requires-2
+within-requires-2 c κs = search needs
+
+returns : tie.Need-returns
+unfolding labelExists
+returns c =
+    rw (
+      c .within2 .ensures,
+      c .before .all-below2 .ensures,
+      c .before .before .groups .ensures .0,
+      c .before .before .before .within .ensures,
+      c .before .before .before .before .all-below .ensures,
+      c .before .before .before .before .before .compartments .ensures .0,
+      c .before .before .before .before .before .before .levels .ensures .0,
+    )
+
+pub label-exists-spec : {M : Type 1} → statement M
+label-exists-spec =
+    tie.close
+    (tie.spec
+    cast-result
+    levels-requires
+    compartments-requires
+    all-below-requires
+    within-requires
+    groups-requires
+    all-below-requires-2
+    within-requires-2
+    returns)

@@ -1,0 +1,35 @@
+use borrow.Author.Needs.{needs}
+use Rattle.printing.proofs.Written.{put-part}
+use Rattle.printing.proofs.printing.put.Statement.{statement}
+use Rattle.printing.proofs.printing.put.Tie as tie
+
+sub-copy : tie.Need-sub-copy
+sub-copy c = search needs
+
+part-copy-start : tie.Need-part-copy-start
+part-copy-start c = search needs
+
+part-copy-end : tie.Need-part-copy-end
+part-copy-end c = search needs
+
+copy-requires : tie.Need-copy-requires
+copy-requires c κs = search needs
+
+add-result : tie.Need-add-result
+add-result c = search needs
+
+same-length : tie.Need-same-length
+same-length c = search needs
+
+returns : tie.Need-returns
+returns c =
+    let e = c .before .before .copy .ensures in
+    record {
+      bytes = put-part _ _ _ _ (c .before .before .before .before .before .before .pre) (e .1);
+      stop = rw (e .0);
+    }
+
+pub put-spec : {M : Type 1} → statement M
+put-spec =
+    tie.close
+    (tie.spec sub-copy part-copy-start part-copy-end copy-requires add-result same-length returns)

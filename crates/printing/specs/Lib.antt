@@ -1,0 +1,2 @@
+-- Labels as text.
+pub mod Print

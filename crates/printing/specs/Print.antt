@@ -1,0 +1,85 @@
+-- Printing a label: its level's name, then its lists with places rising; empty tails are dropped.
+use Prim.Native.Nat.{ℕ, zero, suc, _+_, _≤_, _<_}
+use mathlib.Core.Path.{_≡_}
+use mathlib.Core.Bool.{Bool, true, cond, _&&_}
+use mathlib.Core.List.{List, [], _∷_, _++_}
+use lib.Dec.{leb, ltb}
+use lib.ListN.{length, take, drop}
+use Rattle.sets.specs.Sets.{has, empty, within, allBelow}
+use Rattle.refusals.specs.declared.Refusal.the-variants.{NoComponent, Room}
+use Rattle.header.specs.Layout.{levels, compartments, groups, componentRecord}
+use Rattle.records.specs.Fields.{componentName}
+use Rattle.image.specs.declared.faults.Checked.{Checked}
+use Rattle.image.specs.declared.faults.Checked.the-variants.{Accepted, Refused}
+use Rattle.image.specs.Check.{checkOf, IsAccepted}
+use Rattle.image.specs.Lookup.{componentIndex, hasComponent}
+use Rattle.labels.specs.Label.{Marks}
+use Rattle.printing.specs.declared.printing.Printed.{Printed}
+use Rattle.printing.specs.declared.printing.Printed.the-variants as printed
+
+-- the name of the component of that class at that place
+abbrev pub nameAt : List ℕ → ℕ → ℕ → List ℕ
+nameAt im class place = componentName (componentRecord im (componentIndex im class place))
+
+-- what a place adds to a list: where the set has it, a comma and the component's name
+unfoldable pub entryAt : List ℕ → ℕ → ℕ → ℕ → List ℕ
+entryAt im class set k = cond (has set k) (44 ∷ nameAt im class k) []
+
+-- the names of those of the n places from k on that the set has, a comma before each
+unfoldable pub listed : List ℕ → ℕ → ℕ → ℕ → ℕ → List ℕ
+listed im class set zero k = []
+listed im class set (suc n) k = entryAt im class set k ++ listed im class set n (suc k)
+
+-- a list: one name, or one name, a comma and a list; count is the number of components of the class
+unfoldable pub listText : List ℕ → ℕ → ℕ → ℕ → List ℕ
+listText im class count set = drop 1 (listed im class set count 0)
+
+-- a colon and a list
+unfoldable pub section : List ℕ → ℕ → ℕ → ℕ → List ℕ
+section im class count set = 58 ∷ listText im class count set
+
+-- LEVEL, LEVEL:list, LEVEL:list:list or LEVEL::list
+unfoldable pub textOf : List ℕ → Marks → List ℕ
+textOf im m =
+    let first = section im 2 (compartments im) (m .compartments) in
+    let second = section im 3 (groups im) (m .groups) in
+    nameAt im 1 (m .level) ++ cond (empty (m .groups)) (cond (empty (m .compartments)) [] first) (first ++ second)
+
+-- the policy has every component that the label names
+unfoldable pub labelExists : List ℕ → Marks → Bool
+labelExists im m =
+    ltb (m .level) (levels im) && within (m .compartments) (allBelow (compartments im)) && within (m .groups) (allBelow (groups im))
+
+-- ---- what print answers, with the buffer after it
+-- 13 where the text is longer than the buffer. A print that is done reports its length and changes only its own bytes
+abbrev pub whenRoom : List ℕ → List ℕ → Printed × List ℕ
+whenRoom text buffer =
+    cond (leb (length text) (length buffer)) (printed.Done (length text), text ++ drop (length text) buffer) (printed.Refused Room, buffer)
+
+-- where the image is accepted: 18 first
+unfoldable pub acceptedAnswer : List ℕ → Marks → List ℕ → Printed × List ℕ
+acceptedAnswer im m buffer = cond (labelExists im m) (whenRoom (textOf im m) buffer) (printed.Refused NoComponent, buffer)
+
+-- 1, 2, 3 before all others; a refusal changes nothing
+abbrev pub unlessRefused : Checked → Printed × List ℕ → List ℕ → Printed × List ℕ
+unlessRefused (Refused r) answer buffer = (printed.Refused r, buffer)
+unlessRefused Accepted answer buffer = answer
+
+unfoldable pub printOf : List ℕ → Marks → List ℕ → Printed × List ℕ
+printOf im m buffer = unlessRefused (checkOf im) (acceptedAnswer im m buffer) buffer
+
+-- ---- what the parts of print do
+-- the buffer with the text written over its bytes from `at` on
+unfoldable pub pasted : List ℕ → ℕ → List ℕ → List ℕ
+pasted buffer at text = take at buffer ++ text ++ drop (at + length text) buffer
+
+-- what writing a text at `at` leaves: the buffer, and where the text ends
+pub record Written (buffer : List ℕ) (at : ℕ) (text after : List ℕ) (end : ℕ) : Type 0 where
+  pub bytes : after ≡ pasted buffer at text
+  pub stop : end ≡ at + length text
+
+-- what code may take for granted where it lists names: the image is accepted and has the first places of the class, 64 at most
+pub record Named (im : List ℕ) (class count : ℕ) : Type 0 where
+  pub accepted : IsAccepted im
+  pub present : (p : ℕ) → p < count → hasComponent im class p ≡ true
+  pub few : count ≤ 64

@@ -1,0 +1,21 @@
+// The text of a label, printed under a policy image.
+pub mod printing;
+
+ghost use mathlib.Core.Path.{_≡_};
+ghost use Rattle.labels.specs.Label.{marksOf};
+ghost use Rattle.printing.specs.Print.{printOf};
+use image::check;
+use image::faults::Checked;
+use labels::label::Label;
+use printing::Printed;
+
+// Prints a label to the front of the buffer. Refusals: 1, 2, 3, 18, 13; a refusal leaves the buffer as it was.
+pub fn print(image: &[u8], label: Label, buffer: &mut [u8]) -> Printed
+    ensures { λ r. ⌜ (r, now (buffer .exit)) ≡ printOf (now (image .entry)) (marksOf label) (now (buffer .entry)) ⌝ }
+{
+    let answer = check(image);
+    match answer {
+        Checked::Accepted => printing::print_accepted(image, label, buffer),
+        Checked::Refused(refusal) => Printed::Refused(refusal),
+    }
+}

@@ -1,0 +1,10 @@
+pub mod Unmarked
+pub mod Cases
+pub mod OwnNames
+pub mod ListsRead
+pub mod TextShape
+pub mod RoundTrip
+pub mod PrintRead
+pub mod AnyOrder
+pub mod TextOrder
+pub mod LongNames

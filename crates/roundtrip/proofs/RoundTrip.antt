@@ -1,0 +1,105 @@
+-- Text that is printed for a label is read as that label. Assumes nothing.
+use Prim.Native.Nat.{ℕ, _+_}
+use mathlib.Core.Path.{_≡_, refl, sym, ap, ap₂, _∙_}
+use mathlib.Core.Bool.{Bool, true, false, cond, _&&_}
+use mathlib.Core.List.{List, [], _∷_}
+use native.Mathlib.Omega.{arith}
+use borrow.Author.Tests.{lt-ltb}
+use lib.Dec.{ltb}
+use lib.ListN.{length}
+use Rattle.fields.proofs.Both.{both}
+use Rattle.sets.specs.Sets.{none, empty, within, allBelow}
+use Rattle.sets.proofs.Bounds.{below-within}
+use Rattle.sets.proofs.Meets.{empty-none}
+use Rattle.header.specs.Layout.{levels, compartments, groups}
+use Rattle.refusals.specs.declared.Refusal.the-variants.{TextShape}
+use Rattle.image.specs.declared.faults.Checked.{Checked}
+use Rattle.image.specs.declared.faults.Checked.the-variants.{Accepted, Refused}
+use Rattle.image.specs.Check.{checkOf, IsAccepted}
+use Rattle.labels.specs.Label.{Marks}
+use Rattle.labels.specs.Text.{colon, split, shapeRule}
+use Rattle.labels.specs.Parse.{read, readList, Read, label, refused, readSets, readParts, unlessRefused, parseOf}
+use Rattle.printing.specs.Print.{nameAt, listText, textOf, labelExists}
+use Rattle.labels.proofs.Existing.{parsed-exists}
+use Rattle.roundtrip.proofs.OwnNames.{place-of-own-name}
+use Rattle.roundtrip.proofs.ListsRead.{list-read}
+use Rattle.roundtrip.proofs.TextShape.{level-below, compartments-below, groups-below, parts-level, parts-first, parts-both, shape-of-text}
+
+same-label : (m : Marks) (c g : ℕ) → c ≡ m .compartments → g ≡ m .groups
+    → label (record { level = m .level; compartments = c; groups = g }) ≡ label m
+same-label m c g e d = ap₂ (λ (x y : ℕ). label (record { level = m .level; compartments = x; groups = y })) e d
+
+module _ (im : List ℕ) (acc : IsAccepted im) (m : Marks) (h : labelExists im m ≡ true) where
+  abbrev first : List ℕ
+  first = listText im 2 (compartments im) (m .compartments)
+
+  abbrev second : List ℕ
+  second = listText im 3 (groups im) (m .groups)
+
+  level-read : (rest : List (List ℕ))
+      → readParts im (nameAt im 1 (m .level) ∷ rest) ≡ readSets im (m .level) (length (nameAt im 1 (m .level)) + 1) rest
+  level-read rest =
+      rw (
+        place-of-own-name im acc 1 (omega arith) (omega arith) (m .level) (level-below im m h),
+        lt-ltb (m .level) (levels im) (level-below im m h),
+      )
+
+  first-read : (offset : ℕ) → readList im 2 offset first ≡ read (m .compartments)
+  first-read = list-read im acc 2 (omega arith) (omega arith) (m .compartments) (compartments-below im m h)
+
+  second-read : (offset : ℕ) → readList im 3 offset second ≡ read (m .groups)
+  second-read = list-read im acc 3 (omega arith) (omega arith) (m .groups) (groups-below im m h)
+
+  parts-read : readParts im (split colon (textOf im m)) ≡ label m
+  parts-read = at (empty (m .groups)) refl (empty (m .compartments)) refl
+    where
+      at : (g : Bool) → empty (m .groups) ≡ g → (c : Bool) → empty (m .compartments) ≡ c → readParts im (split colon (textOf im m)) ≡ label m
+      at true e true d =
+          rw (parts-level im acc m h e d)
+          (level-read [] ∙ same-label m none none (sym (empty-none (m .compartments) d)) (sym (empty-none (m .groups) e)))
+      at true e false d =
+          rw (parts-first im acc m h e d)
+          (level-read (first ∷ [])
+          ∙ rw (first-read (length (nameAt im 1 (m .level)) + 1)) (same-label m (m .compartments) none refl (sym (empty-none (m .groups) e))))
+      at false e c d =
+          rw (parts-both im acc m h e)
+          (level-read (first ∷ second ∷ [])
+          ∙ rw (
+            first-read (length (nameAt im 1 (m .level)) + 1),
+            second-read (length (nameAt im 1 (m .level)) + 1 + length first + 1),
+          ))
+
+  pub parse-of-print : parseOf im (textOf im m) ≡ label m
+  unfolding parseOf
+  parse-of-print = rw (acc, shape-of-text im acc m h) parts-read
+
+-- ---- so the text tells the label
+pub text-tells : (im : List ℕ) → IsAccepted im → (m n : Marks) → labelExists im m ≡ true → labelExists im n ≡ true
+    → textOf im m ≡ textOf im n → m ≡ n
+text-tells im acc m n h k e =
+    let q : label m ≡ label n = sym (parse-of-print im acc m h) ∙ ap (parseOf im) e ∙ parse-of-print im acc n k in
+    cc
+
+-- ---- a text that is read as a label: the image is accepted, the policy has the label, and its print is read as it again
+pub parsed-accepted : (im text : List ℕ) (m : Marks) → parseOf im text ≡ label m → IsAccepted im
+unfolding parseOf
+parsed-accepted im text m = at (checkOf im) (cond (shapeRule text) (readParts im (split colon text)) (refused TextShape))
+  where
+    at : (c : Checked) (r : Read) → unlessRefused c r ≡ label m → c ≡ Accepted
+    at Accepted r e = refl
+    at (Refused x) r e = let z : _≡_ {A = ℕ} 0 1 = cc in absurd (omega arith)
+
+pub parsed-has : (im text : List ℕ) (m : Marks) → parseOf im text ≡ label m → labelExists im m ≡ true
+unfolding labelExists
+parsed-has im text m e =
+    let x = parsed-exists im text m e in
+    both (ltb (m .level) (levels im) && within (m .compartments) (allBelow (compartments im))) (within (m .groups) (allBelow (groups im)))
+    (both (ltb (m .level) (levels im)) (within (m .compartments) (allBelow (compartments im))) (lt-ltb (m .level) (levels im) (x .level))
+    (below-within (m .compartments) (compartments im) (x .compartments)))
+    (below-within (m .groups) (groups im) (x .groups))
+
+pub print-of-parse : (im text : List ℕ) (m : Marks) → parseOf im text ≡ label m
+    → (labelExists im m ≡ true) × (parseOf im (textOf im m) ≡ label m)
+print-of-parse im text m e =
+    let h = parsed-has im text m e in
+    (h, parse-of-print im (parsed-accepted im text m e) m h)

@@ -1,0 +1,97 @@
+-- A text whose lists give the same names in another order reads as the same label. Assumes nothing.
+use Prim.Native.Nat.{ℕ, _+_}
+use mathlib.Core.Path.{_≡_, refl, sym, ap}
+use mathlib.Core.Bool.{Bool, true, false, cond, true≢false}
+use mathlib.Core.List.{List, [], _∷_}
+use lib.Dec.{ltb}
+use lib.ListN.{length}
+use Rattle.sets.specs.Sets.{none}
+use Rattle.refusals.specs.declared.Refusal.the-variants.{TextShape, UnknownName}
+use Rattle.header.specs.Layout.{levels}
+use Rattle.image.specs.Check.{IsAccepted}
+use Rattle.labels.specs.Label.{Marks}
+use Rattle.labels.specs.Text.{comma, colon, split, isEmpty, shapeRule}
+use Rattle.labels.specs.Parse.{placeOfName, Names, read, unknown, repeated, readList, Read, label, refused, badImage, thenRead, readSets, readParts, parseOf}
+use Rattle.printing.specs.Print.{labelExists, textOf}
+use Rattle.roundtrip.proofs.AnyOrder.{Reordered, any-order}
+use Rattle.roundtrip.proofs.RoundTrip.{parsed-accepted, parse-of-print}
+
+-- two lists, or two empty parts, with the same names in another order
+pub record SameList (first other : List ℕ) : Type 0 where
+  pub names : Reordered (split comma first) (split comma other)
+  pub empty : isEmpty first ≡ isEmpty other
+
+-- the parts of two texts: the same level, and lists with the same names
+pub data SameNames : List (List ℕ) → List (List ℕ) → Type 0 where
+  level : (l : List ℕ) → SameNames (l ∷ []) (l ∷ [])
+  compartments : (l : List ℕ) {f g : List ℕ} → SameList f g → SameNames (l ∷ f ∷ []) (l ∷ g ∷ [])
+  groups : (l : List ℕ) {f g h k : List ℕ} → SameList f g → SameList h k → SameNames (l ∷ f ∷ h ∷ []) (l ∷ g ∷ k ∷ [])
+
+list-order : (im : List ℕ) (class : ℕ) (f g : List ℕ) → SameList f g → (offset offset' s : ℕ) → readList im class offset f ≡ read s
+    → readList im class offset' g ≡ read s
+list-order im class [] [] same offset offset' s e = e
+list-order im class [] (y ∷ ys) same offset offset' s e = absurd (true≢false (same .empty))
+list-order im class (x ∷ xs) [] same offset offset' s e = absurd (true≢false (sym (same .empty)))
+list-order im class (x ∷ xs) (y ∷ ys) same offset offset' s e = any-order im class (same .names) offset offset' none s e
+
+abbrev isLabel : Read → Bool
+isLabel (label m) = true
+isLabel (refused r) = false
+isLabel (badImage r) = false
+
+-- where reading on gives a label, the names were read
+then-read : (n : Names) (next : ℕ → Read) (m : Marks) → thenRead n next ≡ label m → (s : ℕ) × ((n ≡ read s) × (next s ≡ label m))
+then-read (read s) next m e = (s, (refl, e))
+then-read (unknown o) next m e = absurd (true≢false (sym (ap isLabel e)))
+then-read (repeated o) next m e = absurd (true≢false (sym (ap isLabel e)))
+
+module _ (im : List ℕ) (place offset : ℕ) (m : Marks) where
+  one-order : (f g : List ℕ) → SameList f g → readSets im place offset (f ∷ []) ≡ label m → readSets im place offset (g ∷ []) ≡ label m
+  one-order f g same e =
+      let k = then-read (readList im 2 offset f) _ m e in
+      rw (list-order im 2 f g same offset offset (k .0) (k .1 .0)) (k .1 .1)
+
+  two-order : (f g h k : List ℕ) → SameList f g → SameList h k → readSets im place offset (f ∷ h ∷ []) ≡ label m
+      → readSets im place offset (g ∷ k ∷ []) ≡ label m
+  two-order f g h k same other e =
+      let a = then-read (readList im 2 offset f) _ m e in
+      let b = then-read (readList im 3 (offset + length f + 1) h) _ m (a .1 .1) in
+      rw (
+        list-order im 2 f g same offset offset (a .0) (a .1 .0),
+        list-order im 3 h k other (offset + length f + 1) (offset + length g + 1) (b .0) (b .1 .0),
+      ) (b .1 .1)
+
+parts-order : (im : List ℕ) (m : Marks) {ps qs : List (List ℕ)} → SameNames ps qs → readParts im ps ≡ label m → readParts im qs ≡ label m
+parts-order im m (level l) e = e
+parts-order im m (compartments l {f} {g} same) e = at (ltb (placeOfName im 1 l) (levels im)) e
+  where
+    at : (t : Bool) → cond t (readSets im (placeOfName im 1 l) (length l + 1) (f ∷ [])) (refused (UnknownName 0)) ≡ label m
+        → cond t (readSets im (placeOfName im 1 l) (length l + 1) (g ∷ [])) (refused (UnknownName 0)) ≡ label m
+    at true h = one-order im (placeOfName im 1 l) (length l + 1) m f g same h
+    at false h = h
+parts-order im m (groups l {f} {g} {h} {k} same other) e = at (ltb (placeOfName im 1 l) (levels im)) e
+  where
+    at : (t : Bool) → cond t (readSets im (placeOfName im 1 l) (length l + 1) (f ∷ h ∷ [])) (refused (UnknownName 0)) ≡ label m
+        → cond t (readSets im (placeOfName im 1 l) (length l + 1) (g ∷ k ∷ [])) (refused (UnknownName 0)) ≡ label m
+    at true d = two-order im (placeOfName im 1 l) (length l + 1) m f g h k same other d
+    at false d = d
+
+read-parts : (im text : List ℕ) (m : Marks) → parseOf im text ≡ label m → readParts im (split colon text) ≡ label m
+unfolding parseOf
+read-parts im text m e = at (shapeRule text) (rw (parsed-accepted im text m e) at e)
+  where
+    at : (t : Bool) → cond t (readParts im (split colon text)) (refused TextShape) ≡ label m → readParts im (split colon text) ≡ label m
+    at true h = h
+    at false h = absurd (true≢false (sym (ap isLabel h)))
+
+-- the same names in any order give the same label
+pub parse-any-order : (im text other : List ℕ) (m : Marks) → SameNames (split colon text) (split colon other) → shapeRule other ≡ true
+    → parseOf im text ≡ label m → parseOf im other ≡ label m
+unfolding parseOf
+parse-any-order im text other m same shaped e =
+    rw (parsed-accepted im text m e, shaped) (parts-order im m same (read-parts im text m e))
+
+-- so a printed label reads back, also when its lists are given in another order
+pub print-any-order : (im : List ℕ) → IsAccepted im → (m : Marks) → labelExists im m ≡ true → (other : List ℕ)
+    → SameNames (split colon (textOf im m)) (split colon other) → shapeRule other ≡ true → parseOf im other ≡ label m
+print-any-order im acc m h other same shaped = parse-any-order im (textOf im m) other m same shaped (parse-of-print im acc m h)
