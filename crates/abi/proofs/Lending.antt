@@ -1,13 +1,11 @@
 -- What the C function that prints needs: labels that name more groups than an image has, and places that fit. Assumes nothing.
-use Prim.Native.Nat.{ℕ, _+_, _*_, _^_, _≤_, _<_}
-use mathlib.Core.Path.{_≡_, refl, sym, ap, _∙_, subst}
-use mathlib.Core.Bool.{Bool, true, false, _&&_, cond, and-false, and-assoc}
+use Prim.Native.Nat.{ℕ, _+_, _^_, _≤_, _<_}
+use mathlib.Core.Path.{_≡_, refl, subst}
+use mathlib.Core.Bool.{Bool, true, false, _&&_, cond, and-false}
 use mathlib.Core.List.{List, _++_}
-use native.Mathlib.Nat.{pos-of-ne-zero}
 use native.Mathlib.Omega.{arith}
-use borrow.Author.Tests.{eq-eqb, ne-eqb, eqb-true, eqb-false}
 use mir.Val.{boolByte}
-use lib.Dec.{eqb, leb, ltb}
+use lib.Dec.{leb, ltb}
 use lib.ListN.{length, drop}
 use lib.Pow.{pow-mono}
 use Rattle.fields.specs.Bytes.{number8}
@@ -25,7 +23,7 @@ use Rattle.image.proofs.Place.{check-place}
 use Rattle.labels.specs.Label.{Marks}
 use Rattle.printing.specs.declared.printing.Printed.{Printed}
 use Rattle.printing.specs.declared.printing.Printed.the-variants as printed
-use Rattle.printing.specs.Print.{textOf, labelExists, whenRoom, acceptedAnswer, unlessRefused, printOf}
+use Rattle.printing.specs.Print.{textOf, labelExists, acceptedAnswer, unlessRefused, printOf}
 use Rattle.abi.specs.Answers.{afterCheck}
 use Rattle.encoding.specs.Labels.{high, labelIn}
 use Rattle.encoding.proofs.Wide.{above-large}

@@ -1,6 +1,6 @@
 -- The place that a refusal tells fits its 32 bits, for each call on sessions and for merges. Assumes nothing.
 use Prim.Native.Nat.{ℕ, _^_, _<_}
-use mathlib.Core.Path.{_≡_, refl, sym, ap, _∙_, subst}
+use mathlib.Core.Path.{_≡_, refl, _∙_, subst}
 use mathlib.Core.Bool.{Bool, true, false, cond}
 use mathlib.Core.List.{List}
 use native.Mathlib.Omega.{arith}
@@ -29,9 +29,9 @@ use Rattle.sessions.specs.Session.{SessionMarks, lentAnswer, sessionRights}
 use Rattle.sessions.specs.Opening.{Opening, session, refused, defaultSession, openAccepted, openOf}
 use Rattle.sessions.specs.Changes.{changeIf, changeTo, afterLent, withLabel, withRowLabel, labelChange, rowLabelChange, setLabelOf, setRowLabelOf}
 use Rattle.sessions.specs.Asking.{verdictOf, mayReadOf, mayWriteOf}
-use Rattle.sessions.specs.declared.answers.Verdict.{Verdict}
 use Rattle.sessions.specs.declared.answers.Verdict.the-variants as verdict
 use Rattle.sessions.proofs.Accepting.{lent-accepted}
+use Rattle.encoding.specs.Sessions.{answerPlace}
 use Rattle.encoding.specs.Verdicts.{verdictPlace}
 
 -- ---- openings
@@ -50,11 +50,7 @@ open-told im name r e = subst (λ (o : Opening). openPlace o < 2 ^ 32) e (at (ch
     at (Refused q) d t = omega (arith, check-place im q d)
 
 -- ---- answers that accept or refuse
-abbrev checkedPlace : Checked → ℕ
-checkedPlace Accepted = 0
-checkedPlace (Refused r) = placeOf r
-
-session-label-told : (im : List ℕ) (u : ℕ) (new row : Marks) → checkedPlace (sessionLabelAnswer im u new row) ≡ 0
+session-label-told : (im : List ℕ) (u : ℕ) (new row : Marks) → answerPlace (sessionLabelAnswer im u new row) ≡ 0
 unfolding sessionLabelAnswer
 session-label-told im u new row =
     let r = userRecord im u in
@@ -62,19 +58,19 @@ session-label-told im u new row =
     (sessionGroupsRule im r (new .groups)) (rowInside (rightsAt im u new) row)
   where
     at : (a b c d : Bool)
-        → checkedPlace (orRefuse a LevelNotAllowed (orRefuse b CompartmentsNotAllowed (orRefuse c GroupsNotAllowed (orRefuse d RowLabelOutside Accepted)))) ≡ 0
+        → answerPlace (orRefuse a LevelNotAllowed (orRefuse b CompartmentsNotAllowed (orRefuse c GroupsNotAllowed (orRefuse d RowLabelOutside Accepted)))) ≡ 0
     at true true true true = refl
     at true true true false = refl
     at true true false d = refl
     at true false c d = refl
     at false b c d = refl
 
-row-label-told : (rights : Rights) (new : Marks) → checkedPlace (rowLabelAnswer rights new) ≡ 0
+row-label-told : (rights : Rights) (new : Marks) → answerPlace (rowLabelAnswer rights new) ≡ 0
 unfolding rowLabelAnswer
 row-label-told rights new =
     at (between (rights .minimum) (rights .level) (new .level)) (within (new .compartments) (rights .writeCompartments)) (rowGroupsRule rights (new .groups))
   where
-    at : (a b c : Bool) → checkedPlace (orRefuse a LevelNotAllowed (orRefuse b CompartmentsNotAllowed (orRefuse c GroupsNotAllowed Accepted))) ≡ 0
+    at : (a b c : Bool) → answerPlace (orRefuse a LevelNotAllowed (orRefuse b CompartmentsNotAllowed (orRefuse c GroupsNotAllowed Accepted))) ≡ 0
     at true true true = refl
     at true true false = refl
     at true false c = refl
@@ -83,23 +79,23 @@ row-label-told rights new =
 pub lent-told : (im : List ℕ) (s : SessionMarks) (r : Refusal) → lentAnswer im s ≡ Refused r → placeOf r < 2 ^ 32
 unfolding lentAnswer
 lent-told im s r e =
-    subst (λ (c : Checked). checkedPlace c < 2 ^ 32) e (at (checkOf im) refl (sessionRule im (s .user) (s .label) (s .row)))
+    subst (λ (c : Checked). answerPlace c < 2 ^ 32) e (at (checkOf im) refl (sessionRule im (s .user) (s .label) (s .row)))
   where
-    at : (c : Checked) → checkOf im ≡ c → (t : Bool) → checkedPlace (onChecked c Refused (orRefuse t SessionRules Accepted)) < 2 ^ 32
+    at : (c : Checked) → checkOf im ≡ c → (t : Bool) → answerPlace (onChecked c Refused (orRefuse t SessionRules Accepted)) < 2 ^ 32
     at Accepted d true = omega arith
     at Accepted d false = omega arith
     at (Refused q) d t = omega (arith, check-place im q d)
 
 -- ---- label changes
-if-told : (old new : SessionMarks) (c : Checked) → checkedPlace c ≡ 0 → checkedPlace (changeIf old c new .1) < 2 ^ 32
+if-told : (old new : SessionMarks) (c : Checked) → answerPlace c ≡ 0 → answerPlace (changeIf old c new .1) < 2 ^ 32
 if-told old new Accepted e = omega arith
 if-told old new (Refused r) e = omega (arith, e)
 
-module _ (im text : List ℕ) (old : SessionMarks) (rule : Marks → Checked) (change : Marks → SessionMarks) (told : (m : Marks) → checkedPlace (rule m) ≡ 0) where
-  text-told : parseOf im text ≡ readText im text → checkedPlace (changeTo old (readText im text) rule change .1) < 2 ^ 32
+module _ (im text : List ℕ) (old : SessionMarks) (rule : Marks → Checked) (change : Marks → SessionMarks) (told : (m : Marks) → answerPlace (rule m) ≡ 0) where
+  text-told : parseOf im text ≡ readText im text → answerPlace (changeTo old (readText im text) rule change .1) < 2 ^ 32
   text-told whole = at (readText im text) refl
     where
-      at : (r : Read) → readText im text ≡ r → checkedPlace (changeTo old r rule change .1) < 2 ^ 32
+      at : (r : Read) → readText im text ≡ r → answerPlace (changeTo old r rule change .1) < 2 ^ 32
       at (parse.label m) e = if-told old (change m) (rule m) (told m)
       at (parse.refused r) e = parse-told im text r (whole ∙ e)
       at (badImage r) e = image-told im text r (whole ∙ e)
@@ -109,29 +105,26 @@ unfolding parseOf
 read-whole im text acc = rw acc
 
 module _ (im text : List ℕ) (s : SessionMarks) (change : SessionMarks × Checked) where
-  after-told : ((lentAnswer im s ≡ Accepted) → checkedPlace (change .1) < 2 ^ 32) → (r : Refusal) → afterLent im s change .1 ≡ Refused r
-      → placeOf r < 2 ^ 32
-  after-told told r e = subst (λ (c : Checked). checkedPlace c < 2 ^ 32) e (at (lentAnswer im s) refl)
+  after-told : ((lentAnswer im s ≡ Accepted) → answerPlace (change .1) < 2 ^ 32) → answerPlace (afterLent im s change .1) < 2 ^ 32
+  after-told told = at (lentAnswer im s) refl
     where
-      at : (c : Checked) → lentAnswer im s ≡ c → checkedPlace (onChecked c (λ q. (s, Refused q)) change .1) < 2 ^ 32
+      at : (c : Checked) → lentAnswer im s ≡ c → answerPlace (onChecked c (λ q. (s, Refused q)) change .1) < 2 ^ 32
       at Accepted d = told d
       at (Refused q) d = lent-told im s q d
 
-pub set-label-told : (im text : List ℕ) (s : SessionMarks) (r : Refusal) → setLabelOf im s text .1 ≡ Refused r → placeOf r < 2 ^ 32
+pub set-label-told : (im text : List ℕ) (s : SessionMarks) → answerPlace (setLabelOf im s text .1) < 2 ^ 32
 unfolding setLabelOf labelChange
-set-label-told im text s r =
+set-label-told im text s =
     after-told im text s _
     (λ (d : lentAnswer im s ≡ Accepted). text-told im text s (λ m. sessionLabelAnswer im (s .user) m (s .row)) (λ m. withLabel s m)
     (λ m. session-label-told im (s .user) m (s .row)) (read-whole im text (lent-accepted im s d)))
-    r
 
-pub set-row-label-told : (im text : List ℕ) (s : SessionMarks) (r : Refusal) → setRowLabelOf im s text .1 ≡ Refused r → placeOf r < 2 ^ 32
+pub set-row-label-told : (im text : List ℕ) (s : SessionMarks) → answerPlace (setRowLabelOf im s text .1) < 2 ^ 32
 unfolding setRowLabelOf rowLabelChange
-set-row-label-told im text s r =
+set-row-label-told im text s =
     after-told im text s _
     (λ (d : lentAnswer im s ≡ Accepted). text-told im text s (λ m. rowLabelAnswer (sessionRights im s) m) (λ m. withRowLabel s m)
     (λ m. row-label-told (sessionRights im s) m) (read-whole im text (lent-accepted im s d)))
-    r
 
 -- ---- verdicts
 asked-told : (im : List ℕ) (s : SessionMarks) (yes : Bool) → verdictPlace (onChecked (lentAnswer im s) verdict.Refused (verdictOf yes)) < 2 ^ 32

@@ -4,15 +4,12 @@ use mathlib.Core.Path.{_≡_, refl, sym, ap, _∙_}
 use mathlib.Core.Bool.{Bool, true, false, cond, _&&_, true≢false}
 use mathlib.Core.List.{List}
 use native.Mathlib.Omega.{arith}
-use borrow.Author.Tests.{eqb-true, eqb-false}
+use borrow.Author.Tests.{eqb-false}
 use lib.Dec.{eqb}
 use lib.Pow.{pow-mono}
 use Rattle.fields.specs.Bytes.{part, number8}
-use Rattle.fields.proofs.Both.{both-left, both-right}
-use Rattle.sets.specs.Sets.{within}
 use Rattle.sets.proofs.Bounds.{part-below, intersection-below}
 use Rattle.refusals.specs.Refusals.{answerOf}
-use Rattle.refusals.specs.declared.Refusal.{Refusal}
 use Rattle.refusals.specs.declared.Refusal.the-variants.{SessionRules}
 use Rattle.header.specs.Layout.{groups, userRecord}
 use Rattle.records.specs.Fields.{readGroups, writeGroups}
@@ -24,17 +21,17 @@ use Rattle.image.specs.Check.{onChecked, checkOf, IsAccepted}
 use Rattle.image.proofs.Accepted.{accepted-counted}
 use Rattle.access.specs.Rights.{rightsAt, writeGroupsOf}
 use Rattle.access.specs.NewLabels.{orRefuse, sessionRule}
-use Rattle.access.proofs.Answers.{SessionKept, session-means}
+use Rattle.access.proofs.Answers.{session-means}
 use Rattle.sessions.specs.Session.{SessionMarks, lentAnswer}
 use Rattle.sessions.specs.Changes.{afterLent}
 use Rattle.sessions.specs.declared.answers.Verdict.{Verdict}
 use Rattle.sessions.specs.declared.answers.Verdict.the-variants as verdict
 use Rattle.encoding.specs.Labels.{labelIn, high}
-use Rattle.encoding.specs.Sessions.{sessionIn, oneUser, sessionFits}
+use Rattle.encoding.specs.Sessions.{sessionIn, oneUser, sessionFits, changedInto}
 use Rattle.encoding.specs.Verdicts.{verdictCode}
 use Rattle.encoding.proofs.Wide.{above-large}
 use Rattle.abi.specs.Answers.{afterCheck}
-use Rattle.abi.specs.Sessions.{changedInto, changeAnswer}
+use Rattle.abi.specs.Sessions.{changeAnswer}
 
 -- ---- a session that keeps its rules names groups below the 64th only
 module _ (im : List ℕ) (acc : IsAccepted im) (s : SessionMarks) (e : sessionRule im (s .user) (s .label) (s .row) ≡ true) where

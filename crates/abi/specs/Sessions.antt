@@ -5,12 +5,11 @@ use mathlib.Core.List.{List}
 use Rattle.refusals.specs.Refusals.{answerOf}
 use Rattle.refusals.specs.declared.Refusal.the-variants.{SessionRules}
 use Rattle.image.specs.declared.faults.Checked.{Checked}
-use Rattle.image.specs.declared.faults.Checked.the-variants.{Accepted, Refused}
 use Rattle.sessions.specs.Session.{SessionMarks}
 use Rattle.sessions.specs.Opening.{Opening, session, refused, openOf}
 use Rattle.sessions.specs.Changes.{setLabelOf, setRowLabelOf}
 use Rattle.sessions.specs.Asking.{mayReadOf, mayWriteOf}
-use Rattle.encoding.specs.Sessions.{sessionBytes, sessionIn, oneUser}
+use Rattle.encoding.specs.Sessions.{sessionBytes, sessionIn, oneUser, changedInto}
 use Rattle.encoding.specs.Verdicts.{verdictCode}
 use Rattle.abi.specs.Answers.{afterCheck}
 
@@ -23,10 +22,6 @@ abbrev pub openAnswer : List ℕ → List ℕ → List ℕ → ℕ × List ℕ
 openAnswer im name old = openedInto (openOf im name) old
 
 -- ---- `brawnesk_set_label`, `brawnesk_set_row_label`: the answer, and the session's bytes after it
-abbrev pub changedInto : SessionMarks → Checked → List ℕ → ℕ × List ℕ
-changedInto s Accepted old = (0, sessionBytes s)
-changedInto s (Refused r) old = (answerOf r, old)
-
 -- a session of two users is 19, after 1, 2, 3
 abbrev pub changeAnswer : List ℕ → SessionMarks × Checked → List ℕ → ℕ × List ℕ
 changeAnswer im change old = cond (oneUser old) (changedInto (change .0) (change .1) old) (afterCheck im SessionRules, old)

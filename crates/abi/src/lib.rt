@@ -113,14 +113,7 @@ pub extern "C" fn brawnesk_set_label(image: &[u8], session: &mut [u8; 104], text
         return after_check(image, Refusal::SessionRules);
     }
     let change = bytes104::session_in(session).set_label(image, text);
-    let answer = change.answer;
-    match answer {
-        Checked::Accepted => {
-            *session = bytes104::session_bytes(change.session);
-            0
-        }
-        Checked::Refused(r) => refused(r),
-    }
+    bytes104::store(session, change)
 }
 
 // Gives the session the row label that the text names. Done: 0.
@@ -132,14 +125,7 @@ pub extern "C" fn brawnesk_set_row_label(image: &[u8], session: &mut [u8; 104], 
         return after_check(image, Refusal::SessionRules);
     }
     let change = bytes104::session_in(session).set_row_label(image, text);
-    let answer = change.answer;
-    match answer {
-        Checked::Accepted => {
-            *session = bytes104::session_bytes(change.session);
-            0
-        }
-        Checked::Refused(r) => refused(r),
-    }
+    bytes104::store(session, change)
 }
 
 // May the session read a row of that tag? Done: 1 yes, 0 no.

@@ -1,13 +1,11 @@
 -- What an accepted answer of the rules for new labels means, and that labels which keep the rules are accepted. Assumes nothing.
 use Prim.Native.Nat.{ℕ, _≤_, _<_}
-use mathlib.Core.Path.{_≡_, refl, sym, ap, _∙_}
-use mathlib.Core.Bool.{Bool, true, false, cond, _&&_, true≢false}
+use mathlib.Core.Path.{_≡_, refl, sym}
+use mathlib.Core.Bool.{Bool, true, false, true≢false}
 use mathlib.Core.List.{List}
 use borrow.Author.Tests.{leb-true, le-leb, ltb-true, lt-ltb}
-use lib.Dec.{leb, ltb}
-use Rattle.fields.proofs.Both.{both, parts}
+use Rattle.fields.proofs.Both.{parts}
 use Rattle.refusals.specs.declared.Refusal.{Refusal}
-use Rattle.refusals.specs.declared.Refusal.the-variants.{LevelNotAllowed, CompartmentsNotAllowed, GroupsNotAllowed, RowLabelOutside}
 use Rattle.sets.specs.Sets.{within}
 use Rattle.header.specs.Layout.{users, userRecord}
 use Rattle.records.specs.Fields.{maximumLevel, minimumLevel, readCompartments, readGroups}
@@ -15,7 +13,7 @@ use Rattle.hierarchy.specs.Below.{below}
 use Rattle.image.specs.declared.faults.Checked.{Checked}
 use Rattle.image.specs.declared.faults.Checked.the-variants.{Accepted, Refused}
 use Rattle.labels.specs.Label.{Marks}
-use Rattle.access.specs.Rights.{Rights, rightsAt, between}
+use Rattle.access.specs.Rights.{Rights, rightsAt}
 use Rattle.access.specs.NewLabels.{orRefuse, allowed, sessionGroupsRule, rowGroupsRule, rowInside, sessionLabelAnswer, rowLabelAnswer, sessionRule}
 
 -- a demand that is accepted was met, and so was the rest

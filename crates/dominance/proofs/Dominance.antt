@@ -3,9 +3,7 @@ use Prim.Native.Nat.{ℕ}
 use mathlib.Core.Path.{_≡_, refl, sym, ap, _∙_}
 use mathlib.Core.Bool.{Bool, true, false, not, _&&_, true≢false}
 use borrow.Author.Tests.{eqb-true, eq-eqb}
-use lib.Dec.{eqb, leb}
-use lib.Bits.{bitAnd}
-use Rattle.fields.proofs.Both.{both, parts}
+use Rattle.fields.proofs.Both.{parts}
 use Rattle.sets.specs.Sets.{within, meets, empty}
 use Rattle.labels.specs.Label.{Marks}
 use Rattle.dominance.specs.TwoLabels.{dominatesGroups, dominates, sameLabel, strictlyDominates}

@@ -1,6 +1,6 @@
 -- Merges beside dominance: HUU is at least as high as both labels and has the compartments of both; LII is no higher than either and
 -- has no compartments but those of both. Assumes nothing.
-use Prim.Native.Nat.{ℕ, _≤_}
+use Prim.Native.Nat.{_≤_}
 use mathlib.Core.Path.{_≡_}
 use mathlib.Core.Bool.{true}
 use mathlib.Core.List.{[], _∷_}

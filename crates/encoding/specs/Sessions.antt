@@ -5,6 +5,9 @@ use mathlib.Core.Bool.{Bool, _&&_}
 use mathlib.Core.List.{List, _∷_, _++_}
 use lib.Dec.{eqb}
 use Rattle.fields.specs.Bytes.{byteAt, part}
+use Rattle.refusals.specs.Refusals.{placeOf, answerOf}
+use Rattle.image.specs.declared.faults.Checked.{Checked}
+use Rattle.image.specs.declared.faults.Checked.the-variants.{Accepted, Refused}
 use Rattle.sessions.specs.Session.{SessionMarks}
 use Rattle.encoding.specs.Labels.{labelBytes, labelIn, high}
 
@@ -22,3 +25,13 @@ oneUser bytes = eqb (byteAt bytes 1) (byteAt bytes 0)
 -- one user, and no group past the 64th in either label: such groups no image has
 unfoldable pub sessionFits : List ℕ → Bool
 sessionFits bytes = oneUser bytes && eqb (high (part bytes 8 48)) 0 && eqb (high (part bytes 56 48)) 0
+
+-- what a label change leaves: 0 and the session, or the refusal and the bytes as they were
+abbrev pub changedInto : SessionMarks → Checked → List ℕ → ℕ × List ℕ
+changedInto s Accepted old = (0, sessionBytes s)
+changedInto s (Refused r) old = (answerOf r, old)
+
+-- the place that an answer's refusal tells
+abbrev pub answerPlace : Checked → ℕ
+answerPlace Accepted = 0
+answerPlace (Refused r) = placeOf r

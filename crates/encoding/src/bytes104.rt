@@ -1,12 +1,16 @@
 // A session in 104 bytes.
+ghost use Prim.Native.Nat.{_^_, _<_};
 ghost use mathlib.Core.Path.{_≡_};
 ghost use mathlib.Core.Bool.{true};
 ghost use lib.ListN.{length};
 ghost use Rattle.sessions.specs.Session.{sessionOf};
-ghost use Rattle.encoding.specs.Sessions.{sessionBytes, sessionIn, sessionFits};
+ghost use Rattle.encoding.specs.Sessions.{sessionBytes, sessionIn, sessionFits, changedInto, answerPlace};
+use crate::answers::refused;
 use crate::bytes48::few_groups;
 use crate::bytes48::label_bytes;
 use crate::bytes48::label_in;
+use image::faults::Checked;
+use sessions::answers::Changed;
 use sessions::session::Session;
 
 // Each byte of the session; the unused ones are zero.
@@ -40,5 +44,21 @@ pub fn session_in(bytes: &[u8]) -> Session
         user: bytes[0],
         label: label_in(&bytes[8..56]),
         row: label_in(&bytes[56..104]),
+    }
+}
+
+// Lays a changed session down; a refusal leaves the bytes as they were.
+pub fn store(session: &mut [u8; 104], change: Changed) -> u64
+    requires { ⌜ answerPlace (change .answer) < 2 ^ 32 ⌝ }
+    ensures { λ r. ⌜ (r, now (session .exit)) ≡ changedInto (sessionOf (change .session)) (change .answer) (now (session .entry)) ⌝ }
+{
+    let answer = change.answer;
+    let changed = change.session;
+    match answer {
+        Checked::Accepted => {
+            *session = session_bytes(changed);
+            0
+        }
+        Checked::Refused(r) => refused(r),
     }
 }

@@ -1,16 +1,14 @@
 -- An opened session and a changed session always pass 19. Assumes nothing.
-use Prim.Native.Nat.{ℕ, _≤_, _<_}
-use mathlib.Core.Path.{_≡_, refl, sym, ap, _∙_, subst}
+use Prim.Native.Nat.{ℕ, _<_}
+use mathlib.Core.Path.{_≡_, refl, sym, ap, subst}
 use mathlib.Core.Bool.{Bool, true, false, cond, true≢false}
 use mathlib.Core.List.{List}
 use native.Mathlib.Omega.{arith}
 use borrow.Author.Tests.{ltb-true}
 use lib.Dec.{ltb}
-use Rattle.sets.specs.Sets.{within}
-use Rattle.sets.proofs.Within.{has-within, within-intersection, within-trans}
+use Rattle.sets.proofs.Within.{has-within, within-intersection}
 use Rattle.header.specs.Layout.{users, userRecord}
-use Rattle.records.specs.Fields.{readCompartments, writeCompartments, defaultCompartments, rowCompartments, readGroups, writeGroups, defaultGroups, rowGroups}
-use Rattle.records.proofs.MeaningUsers.{UserKept}
+use Rattle.records.specs.Fields.{readCompartments, writeCompartments, defaultCompartments, rowCompartments, writeGroups, defaultGroups, rowGroups}
 use Rattle.hierarchy.specs.Below.{below}
 use Rattle.image.specs.declared.faults.Checked.{Checked}
 use Rattle.image.specs.declared.faults.Checked.the-variants.{Accepted, Refused}
@@ -25,7 +23,7 @@ use Rattle.labels.specs.Parse as parse
 use Rattle.labels.specs.Parse.{Read, label, badImage, readText}
 use Rattle.access.specs.Rights.{rightsAt, writeCompartmentsOf, writeGroupsOf}
 use Rattle.access.specs.NewLabels.{allowed, sessionLabelAnswer, rowLabelAnswer, sessionRule}
-use Rattle.access.proofs.Answers.{Inside, SessionLabelKept, RowLabelKept, SessionKept, session-label-means, row-label-means, means-session}
+use Rattle.access.proofs.Answers.{Inside, session-label-means, row-label-means, means-session}
 use Rattle.sessions.specs.Session.{SessionMarks, lentAnswer, sessionRights}
 use Rattle.sessions.specs.Opening.{Opening, session, refused, defaultLabel, defaultRowLabel, defaultSession, openAccepted, openOf}
 use Rattle.sessions.specs.Changes.{changeIf, changeTo, afterLent, withLabel, withRowLabel, labelChange, rowLabelChange, setLabelOf, setRowLabelOf}

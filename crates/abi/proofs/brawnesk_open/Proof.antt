@@ -4,37 +4,25 @@ use mathlib.Core.Path.{sym, ap, _∙_}
 use borrow.Author.Needs.{needs}
 use Rattle.abi.proofs.brawnesk_open.Statement.{statement}
 use Rattle.abi.proofs.brawnesk_open.Tie as tie
-use Rattle.abi.proofs.brawnesk_open.Reads as reads
-use Rattle.abi.proofs.brawnesk_open.Lts as lts
-use Rattle.encoding.proofs.answers.refused.Reads as refused-reads
-use Rattle.encoding.proofs.bytes104.session_bytes.Reads as session-bytes-reads
-use Rattle.sessions.proofs.open.Reads as open-reads
 
--- src/lib.rt:97:9
 open-requires : tie.Need-open-requires
 open-requires c κs = search needs
 
--- src/lib.rt:99:22
 enum-known-answer : tie.Need-enum-known-answer
 enum-known-answer c = search needs
 
--- src/lib.rt:100:24
 session-bytes-requires : tie.Need-session-bytes-requires
 session-bytes-requires c κs = search needs
 
--- src/lib.rt:103:25
 enum-known-answer-2 : tie.Need-enum-known-answer-2
 enum-known-answer-2 c = search needs
 
--- src/lib.rt:103:31
 refused-requires : tie.Need-refused-requires
 refused-requires c κs = open-told _ _ _ (sym (c .before .before .before .open .ensures) ∙ ap openingOf (c .before .answer2 .given .1))
 
--- src/lib.rt:93:1
 returns : tie.Need-returns
 returns c = rw (← c .before .before .before .before .open .ensures, c .before .before .answer .given .1, c .session-bytes .ensures)
 
--- src/lib.rt:93:1
 returns-2 : tie.Need-returns-2
 returns-2 c = rw (← c .before .before .before .before .open .ensures, c .before .before .answer2 .given .1, c .refused .ensures)
 

@@ -5,54 +5,37 @@ use mathlib.Core.Path.{sym, ap, _∙_}
 use borrow.Author.Needs.{needs}
 use Rattle.abi.proofs.brawnesk_parse.Statement.{statement}
 use Rattle.abi.proofs.brawnesk_parse.Tie as tie
-use Rattle.abi.proofs.brawnesk_parse.Reads as reads
-use Rattle.abi.proofs.brawnesk_parse.Lts as lts
-use Rattle.encoding.proofs.answers.refused.Reads as refused-reads
-use Rattle.encoding.proofs.bytes48.label_bytes.Reads as label-bytes-reads
-use Rattle.labels.proofs.answers.refusal.Reads as refusal-reads
-use Rattle.labels.proofs.parse.Reads as parse-reads
 
--- src/lib.rt:66:9
 parse-requires : tie.Need-parse-requires
 parse-requires c κs = search needs
 
--- src/lib.rt:68:22
 enum-known-answer : tie.Need-enum-known-answer
 enum-known-answer c = search needs
 
--- src/lib.rt:69:22
 label-bytes-requires : tie.Need-label-bytes-requires
 label-bytes-requires c κs = search needs
 
--- src/lib.rt:72:25
 enum-known-answer-2 : tie.Need-enum-known-answer-2
 enum-known-answer-2 c = search needs
 
--- src/lib.rt:72:44
 refusal-requires : tie.Need-refusal-requires
 refusal-requires c κs = search needs
 
--- src/lib.rt:72:36
 refused-requires : tie.Need-refused-requires
 refused-requires c κs = parse-told _ _ _ (sym (c .before .before .before .before .parse .ensures) ∙ ap readOf (c .before .before .answer2 .given .1) ∙ ap parse.refused (sym (c .refusal .ensures)))
 
--- src/lib.rt:73:26
 enum-known-answer-3 : tie.Need-enum-known-answer-3
 enum-known-answer-3 c = search needs
 
--- src/lib.rt:73:32
 refused-requires-2 : tie.Need-refused-requires-2
 refused-requires-2 c κs = image-told _ _ _ (sym (c .before .before .before .parse .ensures) ∙ ap readOf (c .before .answer3 .given .1))
 
--- src/lib.rt:62:1
 returns : tie.Need-returns
 returns c = rw (← c .before .before .before .before .parse .ensures, c .before .before .answer .given .1, c .label-bytes .ensures)
 
--- src/lib.rt:62:1
 returns-2 : tie.Need-returns-2
 returns-2 c = rw (← c .before .before .before .before .before .parse .ensures, c .before .before .before .answer2 .given .1, c .refused .ensures, c .before .refusal .ensures)
 
--- src/lib.rt:62:1
 returns-3 : tie.Need-returns-3
 returns-3 c = rw (← c .before .before .before .before .parse .ensures, c .before .before .answer3 .given .1, c .refused2 .ensures)
 

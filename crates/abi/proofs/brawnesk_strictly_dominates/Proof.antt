@@ -4,28 +4,19 @@ use Rattle.abi.proofs.Lending.{byte-cond}
 use borrow.Author.Needs.{needs}
 use Rattle.abi.proofs.brawnesk_strictly_dominates.Statement.{statement}
 use Rattle.abi.proofs.brawnesk_strictly_dominates.Tie as tie
-use Rattle.abi.proofs.brawnesk_strictly_dominates.Reads as reads
-use Rattle.abi.proofs.brawnesk_strictly_dominates.Lts as lts
-use Rattle.access.proofs.strictly_dominates.Reads as strictly-dominates-reads
-use Rattle.encoding.proofs.bytes48.low_label_in.Reads as low-label-in-reads
 
--- src/lib.rt:182:9
 low-label-in-requires : tie.Need-low-label-in-requires
 low-label-in-requires c κs = search needs
 
--- src/lib.rt:183:9
 low-label-in-requires-2 : tie.Need-low-label-in-requires-2
 low-label-in-requires-2 c κs = search needs
 
--- src/lib.rt:181:9
 strictly-dominates-requires : tie.Need-strictly-dominates-requires
 strictly-dominates-requires c κs = search needs
 
--- src/lib.rt:185:5
 cast-result : tie.Need-cast-result
 cast-result c = search needs
 
--- src/lib.rt:177:1
 returns : tie.Need-returns
 returns c =
     let a = c .before .before .before .before .before .args in

@@ -6,26 +6,18 @@ use Rattle.dominance.specs.TwoLabels.{lettersRule, mergeOf}
 use borrow.Author.Needs.{needs}
 use Rattle.dominance.proofs.merge.Statement.{statement}
 use Rattle.dominance.proofs.merge.Tie as tie
-use Rattle.dominance.proofs.merge.Reads as reads
-use Rattle.dominance.proofs.merge.Lts as lts
-use Rattle.dominance.proofs.merging.letters_ok.Reads as letters-ok-reads
-use Rattle.dominance.proofs.merging.merged_label.Reads as merged-label-reads
 
--- src/lib.rt:39:9
 letters-ok-requires : tie.Need-letters-ok-requires
 letters-ok-requires c κs = search needs
 
--- src/lib.rt:40:9
 returns : tie.Need-returns
 unfolding mergeOf
 returns c = rw (sym (c .before .letters-ok .ensures) ∙ not-true _ (c .if1 .taken))
 
--- src/lib.rt:42:18
 merged-label-requires : tie.Need-merged-label-requires
 unfolding lettersRule
 merged-label-requires c κs = eqb-true _ 3 (both-left _ _ (both-left _ _ (both-left _ _ (sym (c .before .letters-ok .ensures) ∙ not-false _ (c .if1 .left)))))
 
--- src/lib.rt:36:1
 returns-2 : tie.Need-returns-2
 unfolding mergeOf
 returns-2 c = rw (sym (c .before .before .letters-ok .ensures) ∙ not-false _ (c .before .if1 .left), c .merged-label .ensures)

@@ -1,36 +1,26 @@
 use Rattle.image.proofs.Accepted.{accepted-counted}
-use mathlib.Core.Path.{sym, _∙_, subst}
+use mathlib.Core.Path.{sym, _∙_}
 use Rattle.sessions.specs.Opening.{openOf}
 use borrow.Author.Needs.{needs}
 use Rattle.sessions.proofs.open.Statement.{statement}
 use Rattle.sessions.proofs.open.Tie as tie
-use Rattle.sessions.proofs.open.Reads as reads
-use Rattle.sessions.proofs.open.Lts as lts
-use Rattle.image.proofs.check.Reads as check-reads
-use Rattle.sessions.proofs.opening.open_accepted.Reads as open-accepted-reads
 
--- src/lib.rt:29:9
 check-requires : tie.Need-check-requires
 check-requires c κs = search needs
 
--- src/lib.rt:31:30
 enum-told : tie.Need-enum-told
 enum-told c = search needs
 
--- src/lib.rt:31:30
 open-accepted-requires : tie.Need-open-accepted-requires
 open-accepted-requires c κs = accepted-counted _ (sym (c .before .before .check .ensures) ∙ c .enum-told .given .1)
 
--- src/lib.rt:32:26
 enum-known-answer : tie.Need-enum-known-answer
 enum-known-answer c = search needs
 
--- src/lib.rt:26:1
 returns : tie.Need-returns
 unfolding openOf
 returns c = rw (sym (c .before .before .before .check .ensures) ∙ c .before .enum-told .given .1) (c .open-accepted .ensures)
 
--- src/lib.rt:26:1
 returns-2 : tie.Need-returns-2
 unfolding openOf
 returns-2 c = rw (sym (c .before .before .before .check .ensures) ∙ c .before .answer .given .1)

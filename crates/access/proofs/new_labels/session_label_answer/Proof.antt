@@ -4,50 +4,35 @@ use Rattle.access.specs.NewLabels.{sessionLabelAnswer}
 use borrow.Author.Needs.{needs}
 use Rattle.access.proofs.new_labels.session_label_answer.Statement.{statement}
 use Rattle.access.proofs.new_labels.session_label_answer.Tie as tie
-use Rattle.access.proofs.new_labels.session_label_answer.Reads as reads
-use Rattle.access.proofs.new_labels.session_label_answer.Lts as lts
-use Rattle.access.proofs.new_labels.compartments_ok.Reads as compartments-ok-reads
-use Rattle.access.proofs.new_labels.groups_ok.Reads as groups-ok-reads
-use Rattle.access.proofs.new_labels.level_ok.Reads as level-ok-reads
-use Rattle.access.proofs.new_labels.row_inside.Reads as row-inside-reads
 
--- src/new_labels.rt:71:9
 level-ok-requires : tie.Need-level-ok-requires
 level-ok-requires c κs = search needs
 
--- src/new_labels.rt:72:9
 returns : tie.Need-returns
 unfolding sessionLabelAnswer
 returns c = rw (sym (c .before .level-ok .ensures) ∙ not-true _ (c .if1 .taken))
 
--- src/new_labels.rt:74:9
 compartments-ok-requires : tie.Need-compartments-ok-requires
 compartments-ok-requires c κs = search needs
 
--- src/new_labels.rt:75:9
 returns-2 : tie.Need-returns-2
 unfolding sessionLabelAnswer
 returns-2 c = rw (sym (c .before .before .before .level-ok .ensures) ∙ not-false _ (c .before .before .if1 .left), sym (c .before .compartments-ok .ensures) ∙ not-true _ (c .if2 .taken))
 
--- src/new_labels.rt:77:9
 groups-ok-requires : tie.Need-groups-ok-requires
 groups-ok-requires c κs = search needs
 
--- src/new_labels.rt:78:9
 returns-3 : tie.Need-returns-3
 unfolding sessionLabelAnswer
 returns-3 c = rw (sym (c .before .before .before .before .before .level-ok .ensures) ∙ not-false _ (c .before .before .before .before .if1 .left), sym (c .before .before .before .compartments-ok .ensures) ∙ not-false _ (c .before .before .if2 .left), sym (c .before .groups-ok .ensures) ∙ not-true _ (c .if3 .taken))
 
--- src/new_labels.rt:80:9
 row-inside-requires : tie.Need-row-inside-requires
 row-inside-requires c κs = search needs
 
--- src/new_labels.rt:81:9
 returns-4 : tie.Need-returns-4
 unfolding sessionLabelAnswer
 returns-4 c = rw (sym (c .before .before .before .before .before .before .before .level-ok .ensures) ∙ not-false _ (c .before .before .before .before .before .before .if1 .left), sym (c .before .before .before .before .before .compartments-ok .ensures) ∙ not-false _ (c .before .before .before .before .if2 .left), sym (c .before .before .before .groups-ok .ensures) ∙ not-false _ (c .before .before .if3 .left), ← c .before .before .before .before .before .before .before .before .before .pre .1, sym (c .before .row-inside .ensures) ∙ not-true _ (c .if4 .taken))
 
--- src/new_labels.rt:67:1
 returns-5 : tie.Need-returns-5
 unfolding sessionLabelAnswer
 returns-5 c = rw (sym (c .before .before .before .before .before .before .before .level-ok .ensures) ∙ not-false _ (c .before .before .before .before .before .before .if1 .left), sym (c .before .before .before .before .before .compartments-ok .ensures) ∙ not-false _ (c .before .before .before .before .if2 .left), sym (c .before .before .before .groups-ok .ensures) ∙ not-false _ (c .before .before .if3 .left), ← c .before .before .before .before .before .before .before .before .before .pre .1, sym (c .before .row-inside .ensures) ∙ not-false _ (c .if4 .left))

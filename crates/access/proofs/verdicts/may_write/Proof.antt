@@ -10,40 +10,26 @@ use Rattle.access.specs.Verdicts.{writesLabel, knownTag, mayWrite}
 use borrow.Author.Needs.{needs}
 use Rattle.access.proofs.verdicts.may_write.Statement.{statement}
 use Rattle.access.proofs.verdicts.may_write.Tie as tie
-use Rattle.access.proofs.verdicts.may_write.Reads as reads
-use Rattle.access.proofs.verdicts.may_write.Lts as lts
-use Rattle.access.proofs.verdicts.label_at.Reads as label-at-reads
-use Rattle.access.proofs.verdicts.write_tests.Reads as write-tests-reads
-use Rattle.access.proofs.verdicts.writes_all.Reads as writes-all-reads
-use Rattle.image.proofs.given.label_of_tag.Reads as label-of-tag-reads
-use Rattle.header.proofs.layout.labels.Reads as labels-reads
 
--- src/verdicts.rt:99:8
 writes-all-requires : tie.Need-writes-all-requires
 writes-all-requires c κs = search needs
 
--- src/verdicts.rt:100:9
 returns : tie.Need-returns
 unfolding mayWrite writesLabel
 returns c = asked-all (knownTag _ _) _ _ (sym (c .before .writes-all .ensures) ∙ c .if1 .taken)
 
--- src/verdicts.rt:102:9
 label-of-tag-requires : tie.Need-label-of-tag-requires
 label-of-tag-requires c κs = search needs
 
--- src/verdicts.rt:103:12
 labels-requires : tie.Need-labels-requires
 labels-requires c κs = header-inside _ (c .before .before .before .before .pre .fitted)
 
--- src/verdicts.rt:104:34
 label-at-requires : tie.Need-label-at-requires
 label-at-requires c κs = search needs
 
--- src/verdicts.rt:104:9
 write-tests-requires : tie.Need-write-tests-requires
 write-tests-requires c κs = search needs
 
--- src/verdicts.rt:104:9
 returns-2 : tie.Need-returns-2
 unfolding mayWrite writesLabel knownTag
 returns-2 c =
@@ -51,7 +37,6 @@ returns-2 c =
     let h : labelOfTag (a .image .now) (a .tag) < labels (a .image .now) = omega arith in
     rw (lt-ltb _ _ h, sym (c .before .before .before .before .before .before .writes-all .ensures) ∙ c .before .before .before .before .before .if1 .left, c .write-tests .ensures, c .before .label-at .ensures, c .before .before .before .before .label-of-tag .ensures)
 
--- src/verdicts.rt:95:1
 returns-3 : tie.Need-returns-3
 unfolding mayWrite knownTag
 returns-3 c =

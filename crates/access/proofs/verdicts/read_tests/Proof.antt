@@ -2,35 +2,22 @@ use Rattle.access.specs.Verdicts.{readLevelRule, readGroupsRule, readCom
 use borrow.Author.Needs.{needs}
 use Rattle.access.proofs.verdicts.read_tests.Statement.{statement}
 use Rattle.access.proofs.verdicts.read_tests.Tie as tie
-use Rattle.access.proofs.verdicts.read_tests.Reads as reads
-use Rattle.access.proofs.verdicts.read_tests.Lts as lts
-use Rattle.access.proofs.verdicts.holds_compaccess.Reads as holds-compaccess-reads
-use Rattle.sets.proofs.groups.Groups.is_empty.Reads as groups-Groups-is-empty-reads
-use Rattle.sets.proofs.groups.Groups.meets.Reads as meets-reads
-use Rattle.sets.proofs.word.is_empty.Reads as word-is-empty-reads
-use Rattle.sets.proofs.word.within.Reads as within-reads
 
--- src/verdicts.rt:42:9
 holds-compaccess-requires : tie.Need-holds-compaccess-requires
 holds-compaccess-requires c κs = search needs
 
--- src/verdicts.rt:44:17
 is-empty-requires : tie.Need-is-empty-requires
 is-empty-requires c κs = search needs
 
--- src/verdicts.rt:44:37
 meets-requires : tie.Need-meets-requires
 meets-requires c κs = search needs
 
--- src/verdicts.rt:45:9
 within-requires : tie.Need-within-requires
 within-requires c κs = search needs
 
--- src/verdicts.rt:47:34
 is-empty-requires-2 : tie.Need-is-empty-requires-2
 is-empty-requires-2 c κs = search needs
 
--- src/verdicts.rt:38:1
 returns : tie.Need-returns
 unfolding readTests compaccessReads readLevelRule readGroupsRule readCompartmentsRule
 returns c = rw (c .is-empty2 .ensures, c .before .within .ensures, c .before .before .meets .ensures, c .before .before .before .is-empty .ensures, c .before .before .before .before .before .before .holds-compaccess .ensures)

@@ -3,34 +3,23 @@ use Rattle.access.specs.Verdicts.{readCompartmentsRule, writeGroupsRule,
 use borrow.Author.Needs.{needs}
 use Rattle.access.proofs.verdicts.write_sets.Statement.{statement}
 use Rattle.access.proofs.verdicts.write_sets.Tie as tie
-use Rattle.access.proofs.verdicts.write_sets.Reads as reads
-use Rattle.access.proofs.verdicts.write_sets.Lts as lts
-use Rattle.sets.proofs.groups.Groups.is_empty.Reads as is-empty-reads
-use Rattle.sets.proofs.groups.Groups.meets.Reads as meets-reads
-use Rattle.sets.proofs.word.within.Reads as within-reads
 
--- src/verdicts.rt:55:8
 is-empty-requires : tie.Need-is-empty-requires
 is-empty-requires c κs = search needs
 
--- src/verdicts.rt:56:9
 within-requires : tie.Need-within-requires
 within-requires c κs = search needs
 
--- src/verdicts.rt:56:9
 returns : tie.Need-returns
 unfolding writeSetsRule writeCompartmentsRule
 returns c = rw (sym (c .before .before .is-empty .ensures) ∙ c .before .if1 .taken) (c .within .ensures)
 
--- src/verdicts.rt:58:5
 meets-requires : tie.Need-meets-requires
 meets-requires c κs = search needs
 
--- src/verdicts.rt:58:39
 within-requires-2 : tie.Need-within-requires-2
 within-requires-2 c κs = search needs
 
--- src/verdicts.rt:51:1
 returns-2 : tie.Need-returns-2
 unfolding writeSetsRule writeGroupsRule readCompartmentsRule
 returns-2 c = rw (sym (c .before .before .before .is-empty .ensures) ∙ c .before .before .if1 .left, c .before .meets .ensures, c .within2 .ensures)

@@ -3,41 +3,29 @@ use Rattle.dominance.specs.TwoLabels.{lettersRule}
 use borrow.Author.Needs.{needs}
 use Rattle.dominance.proofs.merging.letters_ok.Statement.{statement}
 use Rattle.dominance.proofs.merging.letters_ok.Tie as tie
-use Rattle.dominance.proofs.merging.letters_ok.Reads as reads
-use Rattle.dominance.proofs.merging.letters_ok.Lts as lts
-use Rattle.dominance.proofs.merging.level_letter.Reads as level-letter-reads
-use Rattle.dominance.proofs.merging.set_letter.Reads as set-letter-reads
 
--- src/merging.rt:44:9
 returns : tie.Need-returns
 unfolding lettersRule
 returns c = rw (ne-eqb _ _ (c .if1 .taken))
 
--- src/merging.rt:46:18
 shared-slice-read-level-letter : tie.Need-shared-slice-read-level-letter
 shared-slice-read-level-letter c = search needs
 
--- src/merging.rt:46:5
 level-letter-requires : tie.Need-level-letter-requires
 level-letter-requires c κs = search needs
 
--- src/merging.rt:46:43
 shared-slice-read-set-letter : tie.Need-shared-slice-read-set-letter
 shared-slice-read-set-letter c = search needs
 
--- src/merging.rt:46:32
 set-letter-requires : tie.Need-set-letter-requires
 set-letter-requires c κs = search needs
 
--- src/merging.rt:46:68
 shared-slice-read-set-letter-2 : tie.Need-shared-slice-read-set-letter-2
 shared-slice-read-set-letter-2 c = search needs
 
--- src/merging.rt:46:57
 set-letter-requires-2 : tie.Need-set-letter-requires-2
 set-letter-requires-2 c κs = search needs
 
--- src/merging.rt:40:1
 returns-2 : tie.Need-returns-2
 unfolding lettersRule
 returns-2 c = rw (eq-eqb _ _ (c .before .before .before .before .before .before .if1 .left), c .before .before .before .before .level-letter .ensures, c .before .before .set-letter .ensures, c .set-letter2 .ensures)

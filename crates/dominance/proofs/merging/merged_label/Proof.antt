@@ -2,37 +2,25 @@ use Rattle.dominance.specs.TwoLabels.{mergedLabel}
 use borrow.Author.Needs.{needs}
 use Rattle.dominance.proofs.merging.merged_label.Statement.{statement}
 use Rattle.dominance.proofs.merging.merged_label.Tie as tie
-use Rattle.dominance.proofs.merging.merged_label.Reads as reads
-use Rattle.dominance.proofs.merging.merged_label.Lts as lts
-use Rattle.dominance.proofs.merging.merge_compartments.Reads as merge-compartments-reads
-use Rattle.dominance.proofs.merging.merge_groups.Reads as merge-groups-reads
-use Rattle.dominance.proofs.merging.merge_levels.Reads as merge-levels-reads
 
--- src/merging.rt:88:29
 shared-slice-read-merge-levels : tie.Need-shared-slice-read-merge-levels
 shared-slice-read-merge-levels c = search needs
 
--- src/merging.rt:88:16
 merge-levels-requires : tie.Need-merge-levels-requires
 merge-levels-requires c κs = search needs
 
--- src/merging.rt:89:42
 shared-slice-read-merge-compartments : tie.Need-shared-slice-read-merge-compartments
 shared-slice-read-merge-compartments c = search needs
 
--- src/merging.rt:89:23
 merge-compartments-requires : tie.Need-merge-compartments-requires
 merge-compartments-requires c κs = search needs
 
--- src/merging.rt:90:30
 shared-slice-read-merge-groups : tie.Need-shared-slice-read-merge-groups
 shared-slice-read-merge-groups c = search needs
 
--- src/merging.rt:90:17
 merge-groups-requires : tie.Need-merge-groups-requires
 merge-groups-requires c κs = search needs
 
--- src/merging.rt:83:1
 returns : tie.Need-returns
 unfolding mergedLabel
 returns c = rw (c .merge-groups .ensures, c .before .before .merge-compartments .ensures, c .before .before .before .before .merge-levels .ensures)

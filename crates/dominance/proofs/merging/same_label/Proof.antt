@@ -2,15 +2,10 @@ use Rattle.dominance.specs.TwoLabels.{sameLabel}
 use borrow.Author.Needs.{needs}
 use Rattle.dominance.proofs.merging.same_label.Statement.{statement}
 use Rattle.dominance.proofs.merging.same_label.Tie as tie
-use Rattle.dominance.proofs.merging.same_label.Reads as reads
-use Rattle.dominance.proofs.merging.same_label.Lts as lts
-use Rattle.sets.proofs.groups.Groups.same.Reads as same-reads
 
--- src/merging.rt:25:11
 same-requires : tie.Need-same-requires
 same-requires c κs = search needs
 
--- src/merging.rt:18:1
 returns : tie.Need-returns
 unfolding sameLabel
 returns c = rw (c .same .ensures)

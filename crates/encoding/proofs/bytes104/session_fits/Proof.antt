@@ -2,51 +2,37 @@ use Rattle.encoding.specs.Sessions.{sessionFits}
 use borrow.Author.Needs.{needs}
 use Rattle.encoding.proofs.bytes104.session_fits.Statement.{statement}
 use Rattle.encoding.proofs.bytes104.session_fits.Tie as tie
-use Rattle.encoding.proofs.bytes104.session_fits.Reads as reads
-use Rattle.encoding.proofs.bytes104.session_fits.Lts as lts
-use Rattle.encoding.proofs.bytes48.few_groups.Reads as few-groups-reads
 
--- src/bytes104.rt:34:6
 shared-slice-read-result : tie.Need-shared-slice-read-result
 shared-slice-read-result c = search needs
 
--- src/bytes104.rt:34:18
 shared-slice-read-result-2 : tie.Need-shared-slice-read-result-2
 shared-slice-read-result-2 c = search needs
 
--- src/bytes104.rt:34:41
 sub-few-groups : tie.Need-sub-few-groups
 sub-few-groups c = search needs
 
--- src/bytes104.rt:34:41
 part-few-groups-start : tie.Need-part-few-groups-start
 part-few-groups-start c = search needs
 
--- src/bytes104.rt:34:41
 part-few-groups-end : tie.Need-part-few-groups-end
 part-few-groups-end c = search needs
 
--- src/bytes104.rt:34:30
 few-groups-requires : tie.Need-few-groups-requires
 few-groups-requires c κs = search needs
 
--- src/bytes104.rt:34:69
 sub-few-groups-2 : tie.Need-sub-few-groups-2
 sub-few-groups-2 c = search needs
 
--- src/bytes104.rt:34:69
 part-few-groups-start-2 : tie.Need-part-few-groups-start-2
 part-few-groups-start-2 c = search needs
 
--- src/bytes104.rt:34:69
 part-few-groups-end-2 : tie.Need-part-few-groups-end-2
 part-few-groups-end-2 c = search needs
 
--- src/bytes104.rt:34:58
 few-groups-requires-2 : tie.Need-few-groups-requires-2
 few-groups-requires-2 c κs = search needs
 
--- src/bytes104.rt:30:1
 returns : tie.Need-returns
 unfolding sessionFits
 returns c = rw (c .before .before .few-groups .ensures, c .few-groups2 .ensures)

@@ -3,47 +3,34 @@ use Rattle.encoding.specs.Sessions.{sessionIn}
 use borrow.Author.Needs.{needs}
 use Rattle.encoding.proofs.bytes104.session_in.Statement.{statement}
 use Rattle.encoding.proofs.bytes104.session_in.Tie as tie
-use Rattle.encoding.proofs.bytes104.session_in.Reads as reads
-use Rattle.encoding.proofs.bytes104.session_in.Lts as lts
-use Rattle.encoding.proofs.bytes48.label_in.Reads as label-in-reads
 
--- src/bytes104.rt:40:15
 shared-slice-read-t3 : tie.Need-shared-slice-read-t3
 shared-slice-read-t3 c = search needs
 
--- src/bytes104.rt:41:25
 sub-label-in : tie.Need-sub-label-in
 sub-label-in c = search needs
 
--- src/bytes104.rt:41:25
 part-label-in-start : tie.Need-part-label-in-start
 part-label-in-start c = search needs
 
--- src/bytes104.rt:41:25
 part-label-in-end : tie.Need-part-label-in-end
 part-label-in-end c = search needs
 
--- src/bytes104.rt:41:16
 label-in-requires : tie.Need-label-in-requires
 label-in-requires c κs = (search needs, fits-means _ (c .before .before .before .pre .1) .label)
 
--- src/bytes104.rt:42:23
 sub-label-in-2 : tie.Need-sub-label-in-2
 sub-label-in-2 c = search needs
 
--- src/bytes104.rt:42:23
 part-label-in-start-2 : tie.Need-part-label-in-start-2
 part-label-in-start-2 c = search needs
 
--- src/bytes104.rt:42:23
 part-label-in-end-2 : tie.Need-part-label-in-end-2
 part-label-in-end-2 c = search needs
 
--- src/bytes104.rt:42:14
 label-in-requires-2 : tie.Need-label-in-requires-2
 label-in-requires-2 c κs = (search needs, fits-means _ (c .before .before .before .before .before .pre .1) .row)
 
--- src/bytes104.rt:35:1
 returns : tie.Need-returns
 unfolding sessionIn
 returns c = rw (c .before .before .label-in .ensures, c .label-in2 .ensures)

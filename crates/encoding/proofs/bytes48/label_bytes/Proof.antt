@@ -1,6 +1,4 @@
-use mathlib.Core.Path.{_≡_, refl}
 use borrow.Author.Needs.{needs}
-use Rattle.sets.specs.Groups.{placesOf}
 use Rattle.hierarchy.proofs.Steps.{word-whole}
 use Rattle.encoding.specs.Labels.{labelBytes}
 use Rattle.encoding.proofs.bytes48.label_bytes.Statement.{statement}

@@ -3,15 +3,10 @@ use mathlib.Core.Path.{_∙_}
 use borrow.Author.Needs.{needs}
 use Rattle.encoding.proofs.bytes48.label_in.Statement.{statement}
 use Rattle.encoding.proofs.bytes48.label_in.Tie as tie
-use Rattle.encoding.proofs.bytes48.label_in.Reads as reads
-use Rattle.encoding.proofs.bytes48.label_in.Lts as lts
-use Rattle.encoding.proofs.bytes48.low_label_in.Reads as low-label-in-reads
 
--- src/bytes48.rt:55:5
 low-label-in-requires : tie.Need-low-label-in-requires
 low-label-in-requires c κs = search needs
 
--- src/bytes48.rt:51:1
 returns : tie.Need-returns
 returns c = c .low-label-in .ensures ∙ low-whole _ (c .before .before .pre .1)
 

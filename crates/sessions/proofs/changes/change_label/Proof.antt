@@ -2,47 +2,33 @@ use Rattle.sessions.specs.Changes.{labelChange}
 use borrow.Author.Needs.{needs}
 use Rattle.sessions.proofs.changes.change_label.Statement.{statement}
 use Rattle.sessions.proofs.changes.change_label.Tie as tie
-use Rattle.sessions.proofs.changes.change_label.Reads as reads
-use Rattle.sessions.proofs.changes.change_label.Lts as lts
-use Rattle.labels.proofs.answers.refusal.Reads as refusal-reads
-use Rattle.labels.proofs.given.read_text.Reads as read-text-reads
-use Rattle.sessions.proofs.changes.put_label.Reads as put-label-reads
 
--- src/changes.rt:51:9
 read-text-requires : tie.Need-read-text-requires
 read-text-requires c κs = search needs
 
--- src/changes.rt:53:22
 enum-known-parsed : tie.Need-enum-known-parsed
 enum-known-parsed c = search needs
 
--- src/changes.rt:53:30
 put-label-requires : tie.Need-put-label-requires
 put-label-requires c κs = search needs
 
--- src/changes.rt:54:25
 enum-known-parsed-2 : tie.Need-enum-known-parsed-2
 enum-known-parsed-2 c = search needs
 
--- src/changes.rt:56:38
 refusal-requires : tie.Need-refusal-requires
 refusal-requires c κs = search needs
 
--- src/changes.rt:58:26
 enum-known-parsed-3 : tie.Need-enum-known-parsed-3
 enum-known-parsed-3 c = search needs
 
--- src/changes.rt:47:1
 returns : tie.Need-returns
 unfolding labelChange
 returns c = rw (← c .before .before .before .before .read-text .ensures, c .before .before .parsed .given .1) (c .put-label .ensures)
 
--- src/changes.rt:47:1
 returns-2 : tie.Need-returns-2
 unfolding labelChange
 returns-2 c = rw (← c .before .before .before .before .read-text .ensures, c .before .before .parsed2 .given .1, c .refusal .ensures)
 
--- src/changes.rt:47:1
 returns-3 : tie.Need-returns-3
 unfolding labelChange
 returns-3 c = rw (← c .before .before .before .read-text .ensures, c .before .parsed3 .given .1)

@@ -2,47 +2,33 @@ use Rattle.sessions.specs.Changes.{rowLabelChange}
 use borrow.Author.Needs.{needs}
 use Rattle.sessions.proofs.changes.change_row_label.Statement.{statement}
 use Rattle.sessions.proofs.changes.change_row_label.Tie as tie
-use Rattle.sessions.proofs.changes.change_row_label.Reads as reads
-use Rattle.sessions.proofs.changes.change_row_label.Lts as lts
-use Rattle.labels.proofs.answers.refusal.Reads as refusal-reads
-use Rattle.labels.proofs.given.read_text.Reads as read-text-reads
-use Rattle.sessions.proofs.changes.put_row_label.Reads as put-row-label-reads
 
--- src/changes.rt:89:9
 read-text-requires : tie.Need-read-text-requires
 read-text-requires c κs = search needs
 
--- src/changes.rt:91:22
 enum-known-parsed : tie.Need-enum-known-parsed
 enum-known-parsed c = search needs
 
--- src/changes.rt:91:30
 put-row-label-requires : tie.Need-put-row-label-requires
 put-row-label-requires c κs = search needs
 
--- src/changes.rt:92:25
 enum-known-parsed-2 : tie.Need-enum-known-parsed-2
 enum-known-parsed-2 c = search needs
 
--- src/changes.rt:94:38
 refusal-requires : tie.Need-refusal-requires
 refusal-requires c κs = search needs
 
--- src/changes.rt:96:26
 enum-known-parsed-3 : tie.Need-enum-known-parsed-3
 enum-known-parsed-3 c = search needs
 
--- src/changes.rt:85:1
 returns : tie.Need-returns
 unfolding rowLabelChange
 returns c = rw (← c .before .before .before .before .read-text .ensures, c .before .before .parsed .given .1, ← c .before .before .before .before .before .before .before .pre .1) (c .put-row-label .ensures)
 
--- src/changes.rt:85:1
 returns-2 : tie.Need-returns-2
 unfolding rowLabelChange
 returns-2 c = rw (← c .before .before .before .before .read-text .ensures, c .before .before .parsed2 .given .1, c .refusal .ensures)
 
--- src/changes.rt:85:1
 returns-3 : tie.Need-returns-3
 unfolding rowLabelChange
 returns-3 c = rw (← c .before .before .before .read-text .ensures, c .before .parsed3 .given .1)

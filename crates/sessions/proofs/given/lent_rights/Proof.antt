@@ -1,34 +1,24 @@
-use mathlib.Core.Path.{sym, _∙_, subst}
+use mathlib.Core.Path.{sym, _∙_}
 use Rattle.sessions.specs.Session.{lentAnswer}
 use borrow.Author.Needs.{needs}
 use Rattle.sessions.proofs.given.lent_rights.Statement.{statement}
 use Rattle.sessions.proofs.given.lent_rights.Tie as tie
-use Rattle.sessions.proofs.given.lent_rights.Reads as reads
-use Rattle.sessions.proofs.given.lent_rights.Lts as lts
-use Rattle.image.proofs.check.Reads as check-reads
-use Rattle.sessions.proofs.given.lent_accepted.Reads as lent-accepted-reads
 
--- src/given.rt:54:9
 check-requires : tie.Need-check-requires
 check-requires c κs = search needs
 
--- src/given.rt:56:51
 enum-told : tie.Need-enum-told
 enum-told c = search needs
 
--- src/given.rt:56:30
 lent-accepted-requires : tie.Need-lent-accepted-requires
 lent-accepted-requires c κs = sym (c .before .before .before .check .ensures) ∙ c .before .enum-told .given .1
 
--- src/given.rt:57:26
 enum-known-answer : tie.Need-enum-known-answer
 enum-known-answer c = search needs
 
--- src/given.rt:51:1
 returns : tie.Need-returns
 returns c = search needs
 
--- src/given.rt:51:1
 returns-2 : tie.Need-returns-2
 unfolding lentAnswer
 returns-2 c = rw (sym (c .before .before .before .check .ensures) ∙ c .before .answer .given .1)

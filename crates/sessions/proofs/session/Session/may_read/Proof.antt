@@ -1,43 +1,31 @@
 use Rattle.sessions.specs.Asking.{mayReadOf}
 use Rattle.image.proofs.Accepted.{accepted-counted}
-use Rattle.sessions.proofs.Accepting.{lent-accepted, lent-user, lent-at, lent-refused}
+use Rattle.sessions.proofs.Accepting.{lent-accepted, lent-at, lent-refused}
 use borrow.Author.Needs.{needs}
 use Rattle.sessions.proofs.session.Session.may_read.Statement.{statement}
 use Rattle.sessions.proofs.session.Session.may_read.Tie as tie
-use Rattle.sessions.proofs.session.Session.may_read.Reads as reads
-use Rattle.sessions.proofs.session.Session.may_read.Lts as lts
-use Rattle.access.proofs.verdicts.may_read.Reads as may-read-reads
-use Rattle.sessions.proofs.given.lent_rights.Reads as lent-rights-reads
-use Rattle.sessions.proofs.verdict_of.Reads as verdict-of-reads
 
--- src/lib.rt:73:13
 lent-rights-requires : tie.Need-lent-rights-requires
 lent-rights-requires c κs = search needs
 
--- src/lib.rt:75:22
 enum-known-found : tie.Need-enum-known-found
 enum-known-found c = search needs
 
--- src/lib.rt:75:42
 may-read-requires : tie.Need-may-read-requires
 may-read-requires c κs = accepted-counted _ (lent-accepted _ _ (lent-at _ _ _ _ _ (c .before .found .given .1) (c .before .before .before .lent-rights .ensures) .0))
 
--- src/lib.rt:75:31
 verdict-of-requires : tie.Need-verdict-of-requires
 verdict-of-requires c κs = search needs
 
--- src/lib.rt:76:27
 enum-known-found-2 : tie.Need-enum-known-found-2
 enum-known-found-2 c = search needs
 
--- src/lib.rt:69:5
 returns : tie.Need-returns
 unfolding mayReadOf
 returns c =
     let g = lent-at _ _ _ _ _ (c .before .before .before .found .given .1) (c .before .before .before .before .before .lent-rights .ensures) in
     rw (g .0, ← g .1 .1, ← c .before .may-read .ensures) (c .verdict-of .ensures)
 
--- src/lib.rt:69:5
 returns-2 : tie.Need-returns-2
 unfolding mayReadOf
 returns-2 c = rw (lent-refused _ _ _ _ _ (c .before .found2 .given .1) (c .before .before .before .lent-rights .ensures))

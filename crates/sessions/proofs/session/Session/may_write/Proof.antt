@@ -1,43 +1,31 @@
 use Rattle.sessions.specs.Asking.{mayWriteOf}
 use Rattle.image.proofs.Accepted.{accepted-counted}
-use Rattle.sessions.proofs.Accepting.{lent-accepted, lent-user, lent-at, lent-refused}
+use Rattle.sessions.proofs.Accepting.{lent-accepted, lent-at, lent-refused}
 use borrow.Author.Needs.{needs}
 use Rattle.sessions.proofs.session.Session.may_write.Statement.{statement}
 use Rattle.sessions.proofs.session.Session.may_write.Tie as tie
-use Rattle.sessions.proofs.session.Session.may_write.Reads as reads
-use Rattle.sessions.proofs.session.Session.may_write.Lts as lts
-use Rattle.access.proofs.verdicts.may_write.Reads as may-write-reads
-use Rattle.sessions.proofs.given.lent_rights.Reads as lent-rights-reads
-use Rattle.sessions.proofs.verdict_of.Reads as verdict-of-reads
 
--- src/lib.rt:85:13
 lent-rights-requires : tie.Need-lent-rights-requires
 lent-rights-requires c κs = search needs
 
--- src/lib.rt:87:22
 enum-known-found : tie.Need-enum-known-found
 enum-known-found c = search needs
 
--- src/lib.rt:87:42
 may-write-requires : tie.Need-may-write-requires
 may-write-requires c κs = accepted-counted _ (lent-accepted _ _ (lent-at _ _ _ _ _ (c .before .found .given .1) (c .before .before .before .lent-rights .ensures) .0))
 
--- src/lib.rt:87:31
 verdict-of-requires : tie.Need-verdict-of-requires
 verdict-of-requires c κs = search needs
 
--- src/lib.rt:88:27
 enum-known-found-2 : tie.Need-enum-known-found-2
 enum-known-found-2 c = search needs
 
--- src/lib.rt:81:5
 returns : tie.Need-returns
 unfolding mayWriteOf
 returns c =
     let g = lent-at _ _ _ _ _ (c .before .before .before .found .given .1) (c .before .before .before .before .before .lent-rights .ensures) in
     rw (g .0, ← g .1 .1, ← c .before .may-write .ensures) (c .verdict-of .ensures)
 
--- src/lib.rt:81:5
 returns-2 : tie.Need-returns-2
 unfolding mayWriteOf
 returns-2 c = rw (lent-refused _ _ _ _ _ (c .before .found2 .given .1) (c .before .before .before .lent-rights .ensures))

@@ -4,37 +4,27 @@ use Rattle.sessions.proofs.Accepting.{lent-accepted, lent-user, lent-at
 use borrow.Author.Needs.{needs}
 use Rattle.sessions.proofs.session.Session.set_label.Statement.{statement}
 use Rattle.sessions.proofs.session.Session.set_label.Tie as tie
-use Rattle.sessions.proofs.session.Session.set_label.Reads as reads
-use Rattle.sessions.proofs.session.Session.set_label.Lts as lts
-use Rattle.sessions.proofs.changes.change_label.Reads as change-label-reads
-use Rattle.sessions.proofs.given.lent_rights.Reads as lent-rights-reads
 
--- src/lib.rt:43:13
 lent-rights-requires : tie.Need-lent-rights-requires
 lent-rights-requires c κs = search needs
 
--- src/lib.rt:45:22
 enum-known-found : tie.Need-enum-known-found
 enum-known-found c = search needs
 
--- src/lib.rt:45:32
 change-label-requires : tie.Need-change-label-requires
 change-label-requires c κs =
     let g = lent-at _ _ _ _ _ (c .before .before .found .given .1) (c .before .before .before .before .lent-rights .ensures) in
     (accepted-counted _ (lent-accepted _ _ (g .0)), (g .1 .0, lent-user _ _ (g .0)))
 
--- src/lib.rt:46:27
 enum-known-found-2 : tie.Need-enum-known-found-2
 enum-known-found-2 c = search needs
 
--- src/lib.rt:39:5
 returns : tie.Need-returns
 unfolding setLabelOf
 returns c =
     let g = lent-at _ _ _ _ _ (c .before .before .before .found .given .1) (c .before .before .before .before .before .lent-rights .ensures) in
     rw (g .0) (c .change-label .ensures)
 
--- src/lib.rt:39:5
 returns-2 : tie.Need-returns-2
 unfolding setLabelOf
 returns-2 c = rw (lent-refused _ _ _ _ _ (c .before .found2 .given .1) (c .before .before .before .lent-rights .ensures))

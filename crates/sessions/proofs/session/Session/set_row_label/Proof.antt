@@ -1,40 +1,30 @@
 use Rattle.sessions.specs.Changes.{setRowLabelOf}
 use Rattle.image.proofs.Accepted.{accepted-counted}
-use Rattle.sessions.proofs.Accepting.{lent-accepted, lent-user, lent-at, lent-refused}
+use Rattle.sessions.proofs.Accepting.{lent-accepted, lent-at, lent-refused}
 use borrow.Author.Needs.{needs}
 use Rattle.sessions.proofs.session.Session.set_row_label.Statement.{statement}
 use Rattle.sessions.proofs.session.Session.set_row_label.Tie as tie
-use Rattle.sessions.proofs.session.Session.set_row_label.Reads as reads
-use Rattle.sessions.proofs.session.Session.set_row_label.Lts as lts
-use Rattle.sessions.proofs.changes.change_row_label.Reads as change-row-label-reads
-use Rattle.sessions.proofs.given.lent_rights.Reads as lent-rights-reads
 
--- src/lib.rt:58:13
 lent-rights-requires : tie.Need-lent-rights-requires
 lent-rights-requires c κs = search needs
 
--- src/lib.rt:60:22
 enum-known-found : tie.Need-enum-known-found
 enum-known-found c = search needs
 
--- src/lib.rt:60:31
 change-row-label-requires : tie.Need-change-row-label-requires
 change-row-label-requires c κs =
     let g = lent-at _ _ _ _ _ (c .before .found .given .1) (c .before .before .before .lent-rights .ensures) in
     (accepted-counted _ (lent-accepted _ _ (g .0)), g .1 .1)
 
--- src/lib.rt:61:27
 enum-known-found-2 : tie.Need-enum-known-found-2
 enum-known-found-2 c = search needs
 
--- src/lib.rt:54:5
 returns : tie.Need-returns
 unfolding setRowLabelOf
 returns c =
     let g = lent-at _ _ _ _ _ (c .before .before .found .given .1) (c .before .before .before .before .lent-rights .ensures) in
     rw (g .0) (c .change-row-label .ensures)
 
--- src/lib.rt:54:5
 returns-2 : tie.Need-returns-2
 unfolding setRowLabelOf
 returns-2 c = rw (lent-refused _ _ _ _ _ (c .before .found2 .given .1) (c .before .before .before .lent-rights .ensures))

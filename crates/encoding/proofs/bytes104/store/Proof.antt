@@ -1,0 +1,36 @@
+use Rattle.encoding.specs.Sessions.{answerPlace}
+use Rattle.image.specs.declared.faults.Checked.{Checked}
+use mathlib.Core.Path.{subst}
+use Prim.Native.Nat.{_^_, _<_}
+use borrow.Author.Needs.{needs}
+use Rattle.encoding.proofs.bytes104.store.Statement.{statement}
+use Rattle.encoding.proofs.bytes104.store.Tie as tie
+
+enum-told : tie.Need-enum-told
+enum-told c = search needs
+
+session-bytes-requires : tie.Need-session-bytes-requires
+session-bytes-requires c κs = search needs
+
+enum-known-answer : tie.Need-enum-known-answer
+enum-known-answer c = search needs
+
+refused-requires : tie.Need-refused-requires
+refused-requires c κs = subst (λ (a : Checked). answerPlace a < 2 ^ 32) (c .before .answer .given .1) (c .before .before .before .before .pre)
+
+returns : tie.Need-returns
+returns c = rw (c .before .enum-told .given .1, c .session-bytes .ensures)
+
+returns-2 : tie.Need-returns-2
+returns-2 c = rw (c .before .before .answer .given .1, c .refused .ensures)
+
+pub store-spec : {M : Type 1} → statement M
+store-spec =
+    tie.close
+    (tie.spec
+    enum-told
+    session-bytes-requires
+    enum-known-answer
+    refused-requires
+    returns
+    returns-2)
