@@ -32,6 +32,32 @@ uint64_t brawnesk_parse(const uint8_t *image, size_t image_length, const uint8_t
  * component that the policy lacks, 13 the text is longer than the buffer. */
 uint64_t brawnesk_print(const uint8_t *image, size_t image_length, const uint8_t *label, uint8_t *text, size_t text_length);
 
+/* A session is 104 bytes: byte 0 the user's place; byte 1 the same again (otherwise 19); 8..55 the session label; 56..103 the row
+ * label. Bytes 2..7 are written as zero and not looked at. Keep the bytes as they came from the last call. */
+enum { BRAWNESK_SESSION = 104 };
+
+/* Opens a session for the user of that name, with the default label and the default row label. Done: 0, and the session's 104 bytes
+ * are written. Refusals: 1, 2, 3, 4 no user of that name. */
+uint64_t brawnesk_open(const uint8_t *image, size_t image_length, const uint8_t *name, size_t name_length, uint8_t *session);
+
+/* Gives the session the session label, or the row label, that a text names. Done: 0, and the session's 104 bytes are written.
+ * Refusals: 1, 2, 3, 19 the session breaks its rules for that image, 5, then the leftmost name refused by 6 or 7 (its offset), then 8
+ * level, 9 compartments, 10 groups not allowed; a new session label also 11 the row label would stand outside it. */
+uint64_t brawnesk_set_label(const uint8_t *image, size_t image_length, uint8_t *session, const uint8_t *text, size_t text_length);
+uint64_t brawnesk_set_row_label(const uint8_t *image, size_t image_length, uint8_t *session, const uint8_t *text, size_t text_length);
+
+/* May the session read, or write, a row of that tag? Done: 1 yes, 0 no. Refusals: 1, 2, 3, 19. */
+uint64_t brawnesk_may_read(const uint8_t *image, size_t image_length, const uint8_t *session, uint32_t tag);
+uint64_t brawnesk_may_write(const uint8_t *image, size_t image_length, const uint8_t *session, uint32_t tag);
+
+/* Does label 1 dominate label 2? Strictly: and the labels differ. 1 yes, 0 no; never refused. Bytes 24..47 are not looked at. */
+uint64_t brawnesk_dominates(const uint8_t *label1, const uint8_t *label2);
+uint64_t brawnesk_strictly_dominates(const uint8_t *label1, const uint8_t *label2);
+
+/* One label of two, by three letters: H or L for the higher or lower level; U union, I intersection, M the first without the second or
+ * N none, for the compartments and for the groups. Done: 0, and the 48 bytes of merged are written. Refusal: 17 other letters. */
+uint64_t brawnesk_merge(const uint8_t *label1, const uint8_t *label2, const uint8_t *letters, size_t letters_length, uint8_t *merged);
+
 static inline int brawnesk_refused(uint64_t answer) { return answer >> 63 != 0; }
 static inline unsigned brawnesk_number(uint64_t answer) { return (unsigned)(answer >> 32 & 0x7fffffff); }
 static inline uint32_t brawnesk_place(uint64_t answer) { return (uint32_t)answer; }
