@@ -1,5 +1,6 @@
-# `make` proves and builds the C library and shows the check of the sample image; `make test` is the gate.
-.PHONY: all test clean
+# `make` proves and builds the C library and shows the check of the sample image; `make test` is the gate; `make edits` tries the
+# further must-fail edits.
+.PHONY: all test edits clean
 
 all: target/check
 	target/check sample/cooperative.img
@@ -12,6 +13,9 @@ target/check: examples/check.c include/brawnesk.h target/staticlib/libabi.a
 
 test:
 	bash .ci/run
+
+edits:
+	bash more-edits/run
 
 clean:
 	rm -rf target
