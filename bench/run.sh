@@ -1,7 +1,9 @@
 #!/usr/bin/env bash
-# Measures one check of the largest image, ours and the plain Rust version, in one run: instructions
-# by callgrind, time, stack, and the instructions of each function. Without target/staticlib/libabi.a
-# only the plain version is measured.
+# Measures calls on the largest image, ours and the plain Rust version, in one run: instructions by
+# callgrind, time and stack of each, and by how many percent a call that is lent an image exceeds the
+# check of the same version. A ! marks where ours misses a limit. Then the instructions of each function
+# in a check, or in the calls that are named: bench/run.sh [CALL...]
+# Without target/staticlib/libabi.a only the plain version is measured.
 set -eu
 cd "$(dirname "$0")"
 cargo build --release --offline --quiet
@@ -9,11 +11,10 @@ bench=../target/cargo/release/bench
 out=../target/bench
 mkdir -p "$out"
 
-# Instructions of one check; only what runs inside brawnesk_bench_calls is counted.
-instructions() {
+# One call of a version under callgrind; only what runs inside brawnesk_bench_calls is counted.
+count() {
     valgrind --tool=callgrind --collect-atstart=no --toggle-collect=brawnesk_bench_calls \
-        --callgrind-out-file="$out/$1.callgrind" "$bench" "$1" 1 >"$out/$1.log" 2>&1
-    awk '$1 == "totals:" { print $2 }' "$out/$1.callgrind"
+        --callgrind-out-file="$out/$1-$2.callgrind" "$bench" "$1" "$2" 1 >"$out/$1-$2.log" 2>&1
 }
 
 # One line for each part of a function: instructions and name. A function has a part for each file
@@ -22,6 +23,14 @@ parts() {
     callgrind_annotate --auto=no --show-percs=no --threshold=100 --inclusive="$2" "$out/$1.callgrind" |
         sed -nE 's/^ *([0-9,]+) +[^ :]*:(.*)$/\1\t\2/p' | sed -E 's/ \[[^]]*\]$//' |
         awk -F '\t' -v OFS='\t' '{ gsub(",", "", $1); print }'
+}
+
+# Instructions of the called function ($3) with its callees, without the loop around the call. The
+# largest part is the whole function.
+instructions() {
+    local name="brawnesk_$3"
+    if [ "$1" = plain ]; then name="bench::plain::calls::$3"; fi
+    parts "$1-$2" yes | awk -F '\t' -v name="$name" '$2 == name && $1 > most { most = $1 } END { print most }'
 }
 
 # Functions with instructions of their own, the most first. Inlined functions count for their caller.
@@ -33,12 +42,47 @@ functions() {
         sort -rn | head -n 25
 }
 
-printf '%-12s %14s %12s %14s\n' version instructions 'time, ns' 'stack, bytes'
-for version in $("$bench" versions); do
-    printf '%-12s %14s %12s %14s\n' "$version" "$(instructions "$version")" \
-        "$("$bench" "$version" time)" "$("$bench" "$version" stack)"
+# By how many percent of $2 the number $1 exceeds it.
+over() {
+    awk -v call="$1" -v check="$2" 'BEGIN { printf "%.2f", (call - check) * 100 / check }'
+}
+
+# Marks a percentage of ours that is over its limit, if there is one.
+marked() {
+    awk -v version="$1" -v percent="$2" -v limit="$3" \
+        'BEGIN { print percent (version == "ours" && limit != "-" && percent > limit + 0 ? "!" : "") }'
+}
+
+# The four columns of a version: instructions, percent over its check, time, stack.
+columns() {
+    local version=$1 call=$2 function=$3 lent=$4 limit=$5 counted percent=-
+    count "$version" "$call"
+    counted=$(instructions "$version" "$call" "$function")
+    if [ "$call" = check ]; then checks[$version]=$counted; fi
+    if [ "$lent" = image ]; then
+        percent=$(marked "$version" "$(over "$counted" "${checks[$version]}")" "$limit")
+    fi
+    printf ' %12s %8s %8s %8s' "$counted" "$percent" \
+        "$("$bench" "$version" "$call" time)" "$("$bench" "$version" "$call" stack)"
+}
+
+declare -A checks
+versions=$("$bench" versions)
+printf '%-18s %8s' call 'limit, %'
+for version in $versions; do
+    printf ' %12s %8s %8s %8s' "$version" 'over, %' ns stack
 done
-for version in $("$bench" versions); do
-    printf '\n%s\n%12s %14s  function\n' "$version" own 'with callees'
-    functions "$version"
+echo
+"$bench" calls | while read -r call function lent limit; do
+    printf '%-18s %8s' "$call" "$limit"
+    for version in $versions; do
+        columns "$version" "$call" "$function" "$lent" "$limit"
+    done
+    echo
+done
+for call in "${@:-check}"; do
+    for version in $versions; do
+        printf '\n%s %s\n%12s %14s  function\n' "$version" "$call" own 'with callees'
+        functions "$version-$call"
+    done
 done

@@ -1,9 +1,11 @@
-//! The stack that one check uses. A thread runs on memory that is filled with a pattern; after the
+//! The stack that one call uses. A thread runs on memory that is filled with a pattern; after the
 //! call, the lowest byte that differs shows how deep the call went. The same is done for a call
 //! that does nothing, since starting a thread uses stack too: the figure is exact where it is the
 //! larger one.
 
-use crate::Check;
+use crate::calls::Version;
+use crate::scene::{Out, Scene};
+use brawnesk_tests::ffi::Answer;
 use std::alloc::{alloc, dealloc, Layout};
 use std::ffi::c_void;
 use std::hint::black_box;
@@ -29,8 +31,9 @@ extern "C" {
 }
 
 struct Job<'a> {
-    check: Check,
-    image: &'a [u8],
+    version: Version,
+    scene: &'a Scene,
+    out: &'a mut Out,
     low: *const u8,
     used: usize,
 }
@@ -41,7 +44,7 @@ extern "C" fn run(job: *mut c_void) -> *mut c_void {
     // SAFETY: `depth` lends the job until the thread has ended.
     let job = unsafe { &mut *job.cast::<Job>() };
     let here = addr_of!(job) as usize;
-    black_box(job.check)(black_box(job.image));
+    black_box(job.version)(black_box(job.scene), job.out);
     let mut at = job.low;
     // SAFETY: the walk stays in the thread's stack, since this frame itself differs from the pattern.
     while unsafe { at.read_volatile() } == PATTERN {
@@ -51,7 +54,8 @@ extern "C" fn run(job: *mut c_void) -> *mut c_void {
     null_mut()
 }
 
-fn depth(check: Check, image: &[u8]) -> usize {
+fn depth(version: Version, scene: &Scene) -> usize {
+    let mut out = Out::new();
     let layout = Layout::from_size_align(SIZE, 4096).expect("a power of two");
     // SAFETY: the memory is filled before it is read, and freed after the thread has ended.
     unsafe {
@@ -59,8 +63,9 @@ fn depth(check: Check, image: &[u8]) -> usize {
         assert!(!low.is_null());
         low.write_bytes(PATTERN, SIZE);
         let mut job = Job {
-            check,
-            image,
+            version,
+            scene,
+            out: &mut out,
             low,
             used: 0,
         };
@@ -77,12 +82,12 @@ fn depth(check: Check, image: &[u8]) -> usize {
     }
 }
 
-pub fn used(check: Check, image: &[u8]) -> String {
-    let nothing = depth(|_| true, image);
-    let used = depth(check, image);
+pub fn used(version: Version, scene: &Scene) -> String {
+    let nothing = depth(|_, _| Answer::Done(0), scene);
+    let used = depth(version, scene);
     if used > nothing {
         used.to_string()
     } else {
-        format!("at most {nothing}")
+        format!("<={nothing}")
     }
 }

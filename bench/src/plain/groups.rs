@@ -1,5 +1,6 @@
 //! The table of ancestors and the rules by below.
 
+use super::label::places;
 use super::records::set_at;
 use super::{Block, Counts};
 
@@ -22,7 +23,7 @@ impl Ancestors {
     }
 
     /// Whether each group of a set is in below(other): it or an ancestor is in the other.
-    fn lies_below(&self, set: u64, other: u64) -> bool {
+    pub fn lies_below(&self, set: u64, other: u64) -> bool {
         let mut rest = set & !other;
         while rest != 0 {
             let group = rest.trailing_zeros() as usize;
@@ -34,8 +35,17 @@ impl Ancestors {
         true
     }
 
+    /// Whether one group of a set is in below(first) and in below(second).
+    pub fn meets_below(&self, set: u64, first: u64, second: u64) -> bool {
+        let is_below = |group: usize| self.0[group] & first != 0 && self.0[group] & second != 0;
+        places(set).any(is_below)
+    }
+
+    /// Not inlined, so that its share of the instructions can be read.
+    #[inline(never)]
     pub fn user_holds(&self, record: &[u8]) -> bool {
-        let [read, write, default, row] = [72, 80, 88, 96].map(|at| set_at(record, at));
+        let set = |at: usize| set_at(record, at);
+        let [read, write, default, row] = [set(72), set(80), set(88), set(96)];
         self.lies_below(write, read)
             && self.lies_below(default, read)
             && self.lies_below(row, default)

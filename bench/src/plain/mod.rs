@@ -1,9 +1,20 @@
 //! The check of an image as one would write it for speed in plain safe Rust: one remainder for
 //! each block and sum, one walk over the records, one table of ancestors for all users. It answers
 //! as the library does, and finds the first fault in the same order.
+//!
+//! The other calls stand over it, each in its own file; `calls` has the shape of the C functions.
 
+pub mod calls;
 mod groups;
+mod label;
+mod policy;
 mod records;
+mod sessions;
+#[cfg(test)]
+mod tests;
+mod text;
+mod two_labels;
+mod verdicts;
 
 use brawnesk_tests::model::{Fault, Refusal};
 use groups::Ancestors;
@@ -18,6 +29,18 @@ pub struct Counts {
     pub groups: usize,
     pub users: usize,
     pub labels: usize,
+}
+
+impl Counts {
+    fn read(header: &Block) -> Counts {
+        Counts {
+            levels: usize::from(header[5]),
+            compartments: usize::from(header[6]),
+            groups: usize::from(header[7]),
+            users: usize::from(u16::from_le_bytes([header[8], header[9]])),
+            labels: usize::from(u16::from_le_bytes([header[10], header[11]])),
+        }
+    }
 }
 
 pub fn check(image: &[u8]) -> Result<(), Refusal> {
@@ -83,13 +106,7 @@ fn first_fault(blocks: &[Block]) -> Option<Fault> {
 /// The counts, if the header keeps its rules and the length fits them.
 fn header(blocks: &[Block]) -> Option<Counts> {
     let header = &blocks[0];
-    let counts = Counts {
-        levels: usize::from(header[5]),
-        compartments: usize::from(header[6]),
-        groups: usize::from(header[7]),
-        users: usize::from(u16::from_le_bytes([header[8], header[9]])),
-        labels: usize::from(u16::from_le_bytes([header[10], header[11]])),
-    };
+    let counts = Counts::read(header);
     let components = counts.levels + counts.compartments + counts.groups;
     let needed =
         1 + components.div_ceil(12) + counts.labels.div_ceil(21) + counts.users.div_ceil(3);
@@ -182,24 +199,4 @@ fn below_fault(
         block: first_block + user / 3,
         record: user % 3,
     })
-}
-
-#[cfg(test)]
-mod tests {
-    use super::*;
-    use brawnesk_tests::cases::Case;
-    use brawnesk_tests::model;
-
-    #[test]
-    fn agrees_with_the_model() {
-        for seed in 0..8_000 {
-            let Case { kind, image } = Case::new(seed);
-            let answer = check(&image);
-            assert_eq!(answer, model::check(&image), "{kind:?}, seed {seed}");
-            if answer == Err(Refusal::Image) {
-                let fault = first_fault(image.as_chunks().0);
-                assert_eq!(fault, model::first_fault(&image), "{kind:?}, seed {seed}");
-            }
-        }
-    }
 }

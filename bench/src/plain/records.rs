@@ -72,6 +72,11 @@ const IN_NAMES: [bool; 256] = {
     table
 };
 
+/// A name, of any length: one byte at least, and no byte that a name may not hold.
+pub fn is_name(bytes: &[u8]) -> bool {
+    !bytes.is_empty() && bytes.iter().all(|&byte| IN_NAMES[usize::from(byte)])
+}
+
 /// A length and 30 bytes: a name and zeros.
 fn name_holds(field: &[u8; 31]) -> bool {
     let length = usize::from(field[0]);
@@ -118,6 +123,6 @@ pub fn set_at(record: &[u8], at: usize) -> u64 {
     u64::from_le_bytes(record[at..at + 8].try_into().unwrap())
 }
 
-fn set_exists(set: u64, count: usize) -> bool {
+pub fn set_exists(set: u64, count: usize) -> bool {
     count >= 64 || set >> count == 0
 }

@@ -1,0 +1,100 @@
+//! The measured calls, each by the library and by the plain version.
+
+use crate::plain::calls as plain;
+use crate::scene::{Out, Scene};
+use brawnesk_tests::ffi::{self, Answer};
+
+pub type Version = fn(&Scene, &mut Out) -> Answer;
+
+pub struct Call {
+    pub name: &'static str,
+    /// The function's name in `ffi` and in `plain`. The C function has `brawnesk_` before it.
+    pub function: &'static str,
+    /// By how many percent of the check it may exceed the check.
+    pub limit: Option<u32>,
+    ours: Version,
+    plain: Version,
+}
+
+/// Of each call its name, its limit, and its function with arguments that are the same for both
+/// versions.
+macro_rules! calls {
+    (|$scene:ident, $out:ident|
+        $($name:literal, $limit:expr => $function:ident($($argument:expr),*);)*) => {
+        #[allow(unused_variables)]
+        pub const CALLS: &[Call] = &[$(
+            Call {
+                name: $name,
+                function: stringify!($function),
+                limit: $limit,
+                ours: |$scene, $out| ffi::$function($($argument),*),
+                plain: |$scene, $out| plain::$function($($argument),*),
+            },
+        )*];
+    };
+}
+
+const VERDICT: Option<u32> = Some(5);
+const OPENING: Option<u32> = Some(5);
+const CHANGE: Option<u32> = Some(30);
+const GROUP: u8 = 3;
+
+calls! {
+    |scene, out|
+    "check", None => check(&scene.image);
+    "name", None => name(&scene.image, GROUP, scene.last_group);
+    "parse", None => parse(&scene.image, &scene.text, &mut out.label);
+    "parse-longest", None => parse(&scene.image, &scene.whole_text, &mut out.label);
+    "print-longest", None => print(&scene.image, &scene.whole, &mut out.text);
+    "open", OPENING => open(&scene.image, &scene.last_user, &mut out.session);
+    "set-label", CHANGE => set_label(&scene.image, out.lend(&scene.with_row), &scene.text);
+    "set-label-longest", CHANGE =>
+        set_label(&scene.image, out.lend(&scene.widest), &scene.widest_text);
+    "set-row-label", CHANGE =>
+        set_row_label(&scene.image, out.lend(&scene.session), &scene.text);
+    "may-read-last", VERDICT => may_read(&scene.image, &scene.session, scene.last_tag);
+    "may-read-unknown", VERDICT => may_read(&scene.image, &scene.session, scene.unknown_tag);
+    "may-write-last", VERDICT => may_write(&scene.image, &scene.session, scene.last_tag);
+    "dominates", None => dominates(&scene.whole, &scene.last_label);
+    "merge", None => merge(&scene.last_label, &scene.text_label, b"LMU", &mut out.label);
+}
+
+impl Call {
+    /// Dominance and merging are lent no image.
+    pub fn is_lent_an_image(&self) -> bool {
+        !matches!(self.function, "dominates" | "merge")
+    }
+
+    /// Without the library only the plain version can be run.
+    pub fn version(&self, name: &str) -> Option<Version> {
+        match name {
+            "ours" => ffi::LINKED.then_some(self.ours),
+            "plain" => Some(self.plain),
+            _ => None,
+        }
+    }
+
+    /// Asks that the call is done, and that both versions answer and write the same.
+    pub fn assert_agrees(&self, scene: &Scene) {
+        let run = |version: Version| {
+            let mut out = Out::new();
+            (version(scene, &mut out), out)
+        };
+        let plain = run(self.plain);
+        assert!(matches!(plain.0, Answer::Done(_)), "{}", self.name);
+        if ffi::LINKED {
+            assert_eq!(run(self.ours), plain, "{}", self.name);
+        }
+    }
+}
+
+#[cfg(test)]
+mod tests {
+    use super::*;
+
+    #[test]
+    fn both_versions_agree() {
+        let scene = Scene::new();
+        CALLS.iter().for_each(|call| call.assert_agrees(&scene));
+    }
+}

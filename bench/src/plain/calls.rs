@@ -1,0 +1,115 @@
+//! The plain calls in the shape of the library's (`brawnesk_tests::ffi`): bytes in, bytes and an answer
+//! out. None is inlined, so that a short one can be counted by itself.
+
+use super::label::{Label, Session};
+use super::policy::{Class, Policy};
+use super::sessions::{self, Lent};
+use super::{text, two_labels, verdicts};
+use brawnesk_tests::compare::expected;
+use brawnesk_tests::ffi::{Answer, LABEL, SESSION};
+use brawnesk_tests::model::Refusal;
+
+#[inline(never)]
+pub fn check(image: &[u8]) -> Answer {
+    expected(super::check(image).map(|()| 0))
+}
+
+#[inline(never)]
+pub fn name(image: &[u8], class: u8, place: u8) -> Answer {
+    expected(name_span(image, class, place))
+}
+
+fn name_span(image: &[u8], class: u8, place: u8) -> Result<u64, Refusal> {
+    let policy = Policy::accepted(image)?;
+    let class = match class {
+        1 => Class::Level,
+        2 => Class::Compartment,
+        3 => Class::Group,
+        _ => return Err(Refusal::Component),
+    };
+    let span = policy.span(class, place.into()).ok_or(Refusal::Component)?;
+    Ok((span.offset + 65_536 * span.length) as u64)
+}
+
+#[inline(never)]
+pub fn parse(image: &[u8], text: &[u8], label: &mut [u8; LABEL]) -> Answer {
+    let read = Policy::accepted(image).and_then(|policy| text::read(&policy, text));
+    expected(read.map(|read| {
+        *label = read.to_bytes();
+        0
+    }))
+}
+
+#[inline(never)]
+pub fn print(image: &[u8], label: &[u8; LABEL], out: &mut [u8]) -> Answer {
+    let policy = Policy::accepted(image);
+    let length = policy.and_then(|policy| text::print(&policy, Label::read(label), out));
+    expected(length.map(|length| length as u64))
+}
+
+#[inline(never)]
+pub fn open(image: &[u8], name: &[u8], session: &mut [u8; SESSION]) -> Answer {
+    let policy = Policy::accepted(image);
+    handed_out(
+        policy.and_then(|policy| sessions::open(&policy, name)),
+        session,
+    )
+}
+
+#[inline(never)]
+pub fn set_label(image: &[u8], session: &mut [u8; SESSION], text: &[u8]) -> Answer {
+    let changed = lent(image, session).and_then(|(policy, lent)| lent.set_label(&policy, text));
+    handed_out(changed, session)
+}
+
+#[inline(never)]
+pub fn set_row_label(image: &[u8], session: &mut [u8; SESSION], text: &[u8]) -> Answer {
+    let changed = lent(image, session).and_then(|(policy, lent)| lent.set_row_label(&policy, text));
+    handed_out(changed, session)
+}
+
+#[inline(never)]
+pub fn may_read(image: &[u8], session: &[u8; SESSION], tag: u32) -> Answer {
+    let lent = lent(image, session);
+    expected(lent.map(|(policy, lent)| verdicts::may_read(&policy, &lent, tag).into()))
+}
+
+#[inline(never)]
+pub fn may_write(image: &[u8], session: &[u8; SESSION], tag: u32) -> Answer {
+    let lent = lent(image, session);
+    expected(lent.map(|(policy, lent)| verdicts::may_write(&policy, &lent, tag).into()))
+}
+
+#[inline(never)]
+pub fn dominates(first: &[u8; LABEL], second: &[u8; LABEL]) -> Answer {
+    let [first, second] = [first, second].map(Label::read_low);
+    Answer::Done(two_labels::dominates(&first, &second).into())
+}
+
+#[inline(never)]
+pub fn merge(
+    first: &[u8; LABEL],
+    second: &[u8; LABEL],
+    letters: &[u8],
+    label: &mut [u8; LABEL],
+) -> Answer {
+    let [first, second] = [first, second].map(Label::read_low);
+    expected(two_labels::merge(&first, &second, letters).map(|merged| {
+        *label = merged.to_bytes();
+        0
+    }))
+}
+
+/// The accepted image and the accepted session.
+fn lent<'a>(image: &'a [u8], session: &[u8; SESSION]) -> Result<(Policy<'a>, Lent), Refusal> {
+    let policy = Policy::accepted(image)?;
+    let lent = Lent::accept(&policy, Session::read(session))?;
+    Ok((policy, lent))
+}
+
+fn handed_out(result: Result<Session, Refusal>, session: &mut [u8; SESSION]) -> Answer {
+    expected(result.map(|given| {
+        *session = given.to_bytes();
+        0
+    }))
+}

@@ -1,0 +1,115 @@
+//! The plain calls against the model.
+
+use super::*;
+use brawnesk_tests::builder::to_image;
+use brawnesk_tests::calls::{Call, PairCall};
+use brawnesk_tests::cases::Case;
+use brawnesk_tests::compare::expected;
+use brawnesk_tests::ffi::LABEL;
+use brawnesk_tests::rng::Rng;
+use brawnesk_tests::{model, pairs, texts, walk};
+
+#[test]
+fn checks() {
+    for seed in 0..8_000 {
+        let Case { kind, image, .. } = Case::new(seed);
+        let answer = check(&image);
+        assert_eq!(answer, model::check(&image), "{kind:?}, seed {seed}");
+        if answer == Err(Refusal::Image) {
+            let fault = first_fault(image.as_chunks().0);
+            assert_eq!(fault, model::first_fault(&image), "{kind:?}, seed {seed}");
+        }
+    }
+}
+
+#[test]
+fn names() {
+    for seed in 0..400 {
+        let image = Case::new(seed).image;
+        let mut rng = Rng::new(!seed);
+        for _ in 0..4 {
+            let (class, place) = (rng.range(0, 4) as u8, rng.range(0, 12) as u8);
+            let span = model::name(&image, class, place);
+            let wanted = expected(span.map(|(at, length)| (at + 65_536 * length) as u64));
+            let answer = calls::name(&image, class, place);
+            assert_eq!(answer, wanted, "seed {seed}: {class} {place}");
+        }
+    }
+}
+
+#[test]
+fn texts_both_ways() {
+    for seed in 0..500 {
+        let mut rng = Rng::new(seed);
+        let policy = texts::policy(&mut rng);
+        let image = to_image(&policy);
+        for _ in 0..10 {
+            parse_agrees(&image, &texts::text(&policy, &mut rng), seed);
+            let label = match rng.once_in(3) {
+                true => texts::label_past(&policy, &mut rng),
+                false => texts::label(&policy, &mut rng),
+            };
+            print_agrees(&image, &label, rng.range(0, 400), seed);
+        }
+    }
+}
+
+fn parse_agrees(image: &[u8], text: &[u8], seed: u64) {
+    let result = model::parse(image, text);
+    let wanted = result.as_ref().map_or([7; LABEL], model::Label::to_bytes);
+    let mut label = [7; LABEL];
+    let answer = calls::parse(image, text, &mut label);
+    assert_eq!(answer, expected(result.map(|_| 0)), "seed {seed}: {text:?}");
+    assert_eq!(label, wanted, "seed {seed}: {text:?}");
+}
+
+fn print_agrees(image: &[u8], label: &[u8; LABEL], room: usize, seed: u64) {
+    let result = model::print_within(image, &model::Label::read(label), room);
+    let mut wanted = vec![b'#'; room];
+    if let Ok(text) = &result {
+        wanted[..text.len()].copy_from_slice(text);
+    }
+    let mut out = vec![b'#'; room];
+    let answer = calls::print(image, label, &mut out);
+    let length = expected(result.map(|text| text.len() as u64));
+    assert_eq!((answer, out), (length, wanted), "seed {seed}: {label:?}");
+}
+
+#[test]
+fn sessions_and_verdicts() {
+    for seed in 0..1_000 {
+        walk::each_call(seed, 100, |step| {
+            let mut session = step.lent;
+            let answer = match &step.call {
+                Call::Open(name) => calls::open(step.image, name, &mut session),
+                Call::SetLabel(text) => calls::set_label(step.image, &mut session, text),
+                Call::SetRowLabel(text) => calls::set_row_label(step.image, &mut session, text),
+                Call::MayRead(tag) => calls::may_read(step.image, &session, *tag),
+                Call::MayWrite(tag) => calls::may_write(step.image, &session, *tag),
+            };
+            let (call, lent) = (&step.call, &step.lent);
+            assert_eq!(answer, step.answer, "seed {seed}: {call:?} on {lent:?}");
+            assert_eq!(session, step.session, "seed {seed}: {call:?} on {lent:?}");
+        });
+    }
+}
+
+#[test]
+fn two_labels() {
+    for seed in 0..2_000 {
+        let mut rng = Rng::new(seed);
+        let pair = pairs::pair(&mut rng);
+        let [first, second] = &pair;
+        for call in pairs::calls(&mut rng) {
+            let (mut out, mut wanted) = ([7; LABEL], [7; LABEL]);
+            let answer = match &call {
+                PairCall::Dominates => calls::dominates(first, second),
+                PairCall::StrictlyDominates => continue,
+                PairCall::Merge(letters) => calls::merge(first, second, letters, &mut out),
+            };
+            let by_model = call.by_model(&pair, &mut wanted);
+            assert_eq!(answer, by_model, "seed {seed}: {call:?} of {pair:?}");
+            assert_eq!(out, wanted, "seed {seed}: {call:?} of {pair:?}");
+        }
+    }
+}

@@ -1,0 +1,158 @@
+//! What the measured calls are lent: the largest image, and sessions, tags, texts and labels for it. All
+//! of it is made from the builder's policy and by the model, so it is there without the library too.
+
+use brawnesk_tests::builder::{full, to_image, Component, Label, Policy, User};
+use brawnesk_tests::ffi::{LABEL, SESSION};
+use brawnesk_tests::model::{self, Image};
+
+const READ_OR_FULL: u8 = 3;
+
+pub struct Scene {
+    pub image: Vec<u8>,
+    pub last_user: Vec<u8>,
+    pub last_group: u8,
+    /// The tag of the last label record.
+    pub last_tag: u32,
+    /// A tag above all tags of the image.
+    pub unknown_tag: u32,
+    /// Opened for the last user with neither READ nor FULL whose typical text has all its names.
+    pub session: [u8; SESSION],
+    /// A level, 3 compartments and 3 groups that the session may have as its row label.
+    pub text: Vec<u8>,
+    /// The session with that row label. It may have the text as its session label too.
+    pub with_row: [u8; SESSION],
+    /// Opened for the user whose longest session label is the longest of all users.
+    pub widest: [u8; SESSION],
+    pub widest_text: Vec<u8>,
+    /// The label of all compartments and groups and of the level with the longest name.
+    pub whole: [u8; LABEL],
+    pub whole_text: Vec<u8>,
+    /// The label of the last label record, and the label of `text`.
+    pub last_label: [u8; LABEL],
+    pub text_label: [u8; LABEL],
+}
+
+impl Scene {
+    pub fn new() -> Scene {
+        let policy = full();
+        let image = to_image(&policy);
+        let accepted = model::accepted(&image).expect("the image keeps all rules");
+        let last = policy.labels.last().expect("there are labels");
+        let (user, label) = typical(&policy);
+        let text = text_of(&policy, &label);
+        let (widest, widest_label) = widest(&policy);
+        let whole = longest(&policy, 0, u8::MAX, u64::MAX, u64::MAX);
+        let session = opened(&accepted, user);
+        let with_row = model::set_row_label(&accepted, &session, &text);
+        Scene {
+            last_user: policy.users[policy.users.len() - 1].name.clone().into(),
+            last_group: policy.groups.len() as u8 - 1,
+            last_tag: last.tag,
+            unknown_tag: last.tag + 1,
+            session: session.to_bytes(),
+            with_row: with_row.expect("it is allowed").to_bytes(),
+            text,
+            widest: opened(&accepted, widest).to_bytes(),
+            widest_text: text_of(&policy, &widest_label),
+            whole: whole.to_bytes(),
+            whole_text: text_of(&policy, &whole),
+            last_label: last.to_bytes(),
+            text_label: label.to_bytes(),
+            image,
+        }
+    }
+}
+
+/// What calls write. Before a call all is the same, so what two versions leave can be compared.
+#[derive(Clone, Debug, PartialEq, Eq)]
+pub struct Out {
+    pub session: [u8; SESSION],
+    pub label: [u8; LABEL],
+    pub text: [u8; 4_096],
+}
+
+impl Out {
+    pub fn new() -> Out {
+        Out {
+            session: [b'#'; SESSION],
+            label: [b'#'; LABEL],
+            text: [b'#'; 4_096],
+        }
+    }
+
+    /// A copy of a session, for a call that changes it.
+    pub fn lend(&mut self, session: &[u8; SESSION]) -> &mut [u8; SESSION] {
+        self.session = *session;
+        &mut self.session
+    }
+}
+
+fn opened(image: &Image, user: &User) -> model::Session {
+    model::open(image, user.name.as_bytes()).expect("a user of the image")
+}
+
+/// The last user that verdicts go by labels for and that may write 3 compartments and 3 groups when
+/// opened; with the label of the default level and of the lowest, the middle and the highest of both.
+fn typical(policy: &Policy) -> (&User, Label) {
+    let label = |user: &User| {
+        let groups = policy.below(user.groups.default) & policy.below(user.groups.write);
+        Some(Label {
+            tag: 0,
+            level: user.levels.default,
+            compartments: three(user.compartments.default & user.compartments.write)?,
+            groups: three(groups)?,
+        })
+    };
+    let mut users = policy.users.iter().rev();
+    let found = users.find_map(|user| {
+        let is_ruled = user.privileges & READ_OR_FULL == 0;
+        is_ruled.then(|| label(user)).flatten().map(|it| (user, it))
+    });
+    found.expect("there is such a user")
+}
+
+/// The lowest, the middle and the highest place of a set that has three.
+fn three(set: u64) -> Option<u64> {
+    let places: Vec<usize> = (0..64).filter(|place| set >> place & 1 == 1).collect();
+    let last = places.len().checked_sub(1).filter(|&last| last > 1)?;
+    let chosen = [places[0], places[last / 2], places[last]];
+    Some(chosen.iter().fold(0, |set, place| set | 1 << place))
+}
+
+/// The user whose longest session label has the longest text, and that label: all that the user may
+/// read. It covers the row label at which the user's session opens.
+fn widest(policy: &Policy) -> (&User, Label) {
+    let labels = policy.users.iter().map(|user| {
+        let (lowest, highest) = (user.levels.row, user.levels.maximum);
+        let groups = policy.below(user.groups.read);
+        let label = longest(policy, lowest, highest, user.compartments.read, groups);
+        (user, label)
+    });
+    let widest = labels.max_by_key(|(_, label)| text_of(policy, label).len());
+    widest.expect("there are users")
+}
+
+/// The label of two sets and of the level with the longest name in a range, the highest of several.
+fn longest(policy: &Policy, low: u8, high: u8, compartments: u64, groups: u64) -> Label {
+    let levels = (0..policy.levels.len() as u8).filter(|level| (low..=high).contains(level));
+    let length = |level: &u8| policy.levels[usize::from(*level)].name.len();
+    Label {
+        tag: 0,
+        level: levels.max_by_key(length).expect("a level in the range"),
+        compartments,
+        groups,
+    }
+}
+
+/// The text of a label with compartments and groups.
+fn text_of(policy: &Policy, label: &Label) -> Vec<u8> {
+    let list = |class: &[Component], set: u64| {
+        let places = (0..class.len()).filter(|place| set >> place & 1 == 1);
+        let names: Vec<&str> = places.map(|place| class[place].name.as_str()).collect();
+        names.join(",")
+    };
+    let level = &policy.levels[usize::from(label.level)].name;
+    let compartments = list(&policy.compartments, label.compartments);
+    let groups = list(&policy.groups, label.groups);
+    format!("{level}:{compartments}:{groups}").into_bytes()
+}
