@@ -32,14 +32,14 @@ pub record Inside (rights : Rights) (row : Marks) : Type 0 where
   pub groups : within (row .groups) (rights .writeGroups) ≡ true
 
 pub inside-means : (rights : Rights) (row : Marks) → rowInside rights row ≡ true → Inside rights row
-unfolding rowInside rowGroupsRule
+unfolding rowInside
 inside-means rights row e =
     let q2 = parts _ _ e in
     let q1 = parts _ _ (q2 .0) in
     record { level = leb-true _ _ (q1 .0); compartments = q1 .1; groups = q2 .1 }
 
 pub means-inside : (rights : Rights) (row : Marks) → Inside rights row → rowInside rights row ≡ true
-unfolding rowInside rowGroupsRule
+unfolding rowInside
 means-inside rights row k = rw (le-leb _ _ (k .level), k .compartments, k .groups)
 
 -- ---- a new session label
@@ -77,7 +77,7 @@ pub record RowLabelKept (rights : Rights) (new : Marks) : Type 0 where
   pub inside : Inside rights new
 
 pub row-label-means : (rights : Rights) (new : Marks) → allowed (rowLabelAnswer rights new) ≡ true → RowLabelKept rights new
-unfolding rowLabelAnswer rowGroupsRule
+unfolding rowLabelAnswer
 row-label-means rights new e =
     let q1 = demand-met _ _ _ e in
     let q2 = demand-met _ _ _ (q1 .1) in
@@ -89,7 +89,7 @@ row-label-means rights new e =
     }
 
 pub means-row-label : (rights : Rights) (new : Marks) → RowLabelKept rights new → rowLabelAnswer rights new ≡ Accepted
-unfolding rowLabelAnswer rowGroupsRule
+unfolding rowLabelAnswer
 means-row-label rights new k =
     rw (le-leb _ _ (k .minimum), le-leb _ _ (k .inside .level), k .inside .compartments, k .inside .groups)
 

@@ -8,12 +8,13 @@ use native.Mathlib.Omega.{arith}
 use borrow.Author.Tests.{leb-true, le-leb}
 use lib.Dec.{leb}
 use Rattle.sets.specs.Sets.{has, one, union, empty, within, meets}
-use Rattle.sets.proofs.Within.{within-refl, within-trans, within-union-left, within-has}
+use Rattle.sets.proofs.Has.{one-has}
+use Rattle.sets.proofs.Within.{within-union-right, within-refl, within-trans, within-union-left, within-has}
 use Rattle.sets.proofs.Meets.{meets-mono}
 use Rattle.image.specs.Lookup.{labelOfTag}
 use Rattle.labels.specs.Label.{Marks}
 use Rattle.access.specs.Rights.{Rights}
-use Rattle.access.specs.Verdicts.{readsAll, writesAll, holdsCompaccess, readLevelRule, readGroupsRule, readCompartmentsRule, compaccessReads, readTests, writeLevelRule, writeGroupsRule, writeCompartmentsRule, writeSetsRule, compaccessWrites, writeTests, readsLabel, writesLabel, labelAt, knownTag, mayRead, mayWrite}
+use Rattle.access.specs.Verdicts.{placeOfRead, placeOfFull, placeOfCompaccess, readsAll, writesAll, holdsCompaccess, readLevelRule, readGroupsRule, readCompartmentsRule, compaccessReads, readTests, writeLevelRule, writeGroupsRule, writeCompartmentsRule, writeSetsRule, compaccessWrites, writeTests, readsLabel, writesLabel, labelAt, knownTag, mayRead, mayWrite}
 use Rattle.access.proofs.Tests.{and-mono, or-mono, cond-mono}
 
 -- the second has all that the first has, for reading
@@ -53,7 +54,7 @@ module _ (a b : Rights) (more : MoreReading a b) (row : Marks) where
   unfolding readTests compaccessReads holdsCompaccess
   reads-more =
       or-mono _ _ _ _ (and-mono _ _ _ _ (and-mono _ _ _ _ level-more group-more) compartment-more)
-      (and-mono _ _ _ _ (and-mono _ _ _ _ (and-mono _ _ _ _ (holds-more a b more 2) level-more) (λ e. e)) compartment-more)
+      (and-mono _ _ _ _ (and-mono _ _ _ _ (and-mono _ _ _ _ (holds-more a b more placeOfCompaccess) level-more) (λ e. e)) compartment-more)
 
 module _ (a b : Rights) (more : MoreWriting a b) (row : Marks) where
   write-level-more : writeLevelRule a row ≡ true → writeLevelRule b row ≡ true
@@ -84,17 +85,17 @@ module _ (a b : Rights) (more : MoreWriting a b) (row : Marks) where
   unfolding writeTests compaccessWrites holdsCompaccess
   writes-more =
       or-mono _ _ _ _ (and-mono _ _ _ _ write-level-more write-sets-more)
-      (and-mono _ _ _ _ (and-mono _ _ _ _ (and-mono _ _ _ _ (holds-more a b (more .reading) 2) write-level-more) (λ e. e)) write-compartment-more)
+      (and-mono _ _ _ _ (and-mono _ _ _ _ (and-mono _ _ _ _ (holds-more a b (more .reading) placeOfCompaccess) write-level-more) (λ e. e)) write-compartment-more)
 
 -- ---- verdicts on a tag
 module _ (a b : Rights) where
   all-read-more : MoreReading a b → readsAll a ≡ true → readsAll b ≡ true
   unfolding readsAll
-  all-read-more more = or-mono _ _ _ _ (holds-more a b more 0) (holds-more a b more 1)
+  all-read-more more = or-mono _ _ _ _ (holds-more a b more placeOfRead) (holds-more a b more placeOfFull)
 
   all-written-more : MoreReading a b → writesAll a ≡ true → writesAll b ≡ true
   unfolding writesAll
-  all-written-more more = holds-more a b more 1
+  all-written-more more = holds-more a b more placeOfFull
 
   pub reads-label-more : MoreReading a b → (row : Marks) → readsLabel a row ≡ true → readsLabel b row ≡ true
   unfolding readsLabel
@@ -122,7 +123,7 @@ withCompaccess a =
       writeCompartments = a .writeCompartments;
       writeGroups = a .writeGroups;
       minimum = a .minimum;
-      privileges = union (a .privileges) (one 2);
+      privileges = union (a .privileges) (one placeOfCompaccess);
     }
 
 module _ (a : Rights) where
@@ -134,12 +135,19 @@ module _ (a : Rights) where
               level = omega arith;
               compartments = within-refl (a .compartments);
               groups = within-refl (a .belowGroups);
-              privileges = within-union-left (a .privileges) (one 2);
+              privileges = within-union-left (a .privileges) (one placeOfCompaccess);
             };
         minimum = omega arith;
         writeCompartments = within-refl (a .writeCompartments);
         writeGroups = within-refl (a .writeGroups);
       }
+
+  -- it is COMPACCESS that was added
+  pub compaccess-held : holdsCompaccess (withCompaccess a) ≡ true
+  unfolding holdsCompaccess
+  compaccess-held =
+      within-has (one placeOfCompaccess) (union (a .privileges) (one placeOfCompaccess)) (within-union-right (a .privileges) (one placeOfCompaccess)) placeOfCompaccess
+      (one-has placeOfCompaccess placeOfCompaccess)
 
   pub compaccess-reads : (im : List ℕ) (tag : ℕ) → mayRead im a tag ≡ true → mayRead im (withCompaccess a) tag ≡ true
   compaccess-reads im tag = may-read-more a (withCompaccess a) (compaccess-more .reading) im tag

@@ -16,8 +16,3 @@ or-mono false false c d f g e = absurd (true≢false (sym e))
 pub cond-mono : (t : Bool) {a b c d : Bool} → (a ≡ true → c ≡ true) → (b ≡ true → d ≡ true) → cond t a b ≡ true → cond t c d ≡ true
 cond-mono true f g e = f e
 cond-mono false f g e = g e
-
--- who may do all is not asked further
-pub asked-all : (known all tests : Bool) → all ≡ true → true ≡ cond known (all || tests) all
-asked-all true all tests e = rw e
-asked-all false all tests e = sym e

@@ -25,7 +25,7 @@ allowed (Refused r) = false
 
 -- ---- a row label beside a session
 -- its groups lie in the session's write groups
-unfoldable pub rowGroupsRule : Rights → ℕ → Bool
+abbrev pub rowGroupsRule : Rights → ℕ → Bool
 rowGroupsRule rights groups = within groups (rights .writeGroups)
 
 -- the row label has level ≤ the session's, compartments and groups inside the session's write sets

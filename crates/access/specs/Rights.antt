@@ -1,4 +1,4 @@
--- What a user's record and a session label give together. It is found once for a call and then asked of each row's label.
+-- What a user's record and a session label give together. It is found once for a session label and then asked of each row's label.
 use Prim.Native.Nat.{ℕ}
 use mathlib.Core.Bool.{Bool, _&&_}
 use mathlib.Core.List.{List}

@@ -9,8 +9,9 @@ ghost use Rattle.records.specs.Rules.{Counted};
 ghost use Rattle.hierarchy.specs.Below.{Tabled};
 ghost use Rattle.labels.specs.Label.{marksOf};
 ghost use Rattle.access.specs.Rights.{rightsOf, rightsAt, between};
-ghost use Rattle.access.specs.NewLabels.{sessionGroupsRule, rowInside, sessionLabelAnswer, rowLabelAnswer};
+ghost use Rattle.access.specs.NewLabels.{sessionGroupsRule, rowGroupsRule, rowInside, sessionLabelAnswer, rowLabelAnswer};
 use crate::rights::View;
+use crate::rights::is_between;
 use hierarchy::table;
 use hierarchy::table::Table;
 use image::faults::Checked;
@@ -20,20 +21,20 @@ use refusals::Refusal;
 use sets::groups::Groups;
 use sets::word;
 
-fn is_between(lowest: u8, highest: u8, level: u8) -> bool
-    ensures { λ r. ⌜ r ≡ between lowest highest level ⌝ }
+// Do the row label's groups lie inside the session's write groups?
+fn row_groups_ok(view: View, groups: Groups) -> bool
+    ensures { λ r. ⌜ r ≡ rowGroupsRule (rightsOf view) (placesOf groups) ⌝ }
 {
-    (lowest <= level) & (level <= highest)
+    groups.within(view.write_groups)
 }
 
 // Is the row label no higher than the session's level, with compartments and groups inside the session's write sets?
 fn row_inside(view: View, row: Label) -> bool
     ensures { λ r. ⌜ r ≡ rowInside (rightsOf view) (marksOf row) ⌝ }
 {
-    let groups = row.groups;
     (row.level <= view.level)
         & word::within(row.compartments, view.write_compartments)
-        & groups.within(view.write_groups)
+        & row_groups_ok(view, row.groups)
 }
 
 // Is the level between the user's minimum and maximum?
@@ -94,14 +95,13 @@ pub fn session_label_answer(
 pub fn row_label_answer(view: View, new: Label) -> Checked
     ensures { λ r. ⌜ r ≡ rowLabelAnswer (rightsOf view) (marksOf new) ⌝ }
 {
-    let groups = new.groups;
     if !is_between(view.minimum, view.level, new.level) {
         return Checked::Refused(Refusal::LevelNotAllowed);
     }
     if !word::within(new.compartments, view.write_compartments) {
         return Checked::Refused(Refusal::CompartmentsNotAllowed);
     }
-    if !groups.within(view.write_groups) {
+    if !row_groups_ok(view, new.groups) {
         return Checked::Refused(Refusal::GroupsNotAllowed);
     }
     Checked::Accepted

@@ -1,17 +1,24 @@
-// What a user's record and a session label give together: found once for a call.
+// What a user's record and a session label give together: found once for each session label.
 ghost use Prim.Native.Nat.{_<_};
 ghost use mathlib.Core.Path.{_≡_};
 ghost use Rattle.header.specs.Layout.{users};
 ghost use Rattle.records.specs.Rules.{Counted};
 ghost use Rattle.hierarchy.specs.Below.{Tabled};
 ghost use Rattle.labels.specs.Label.{marksOf};
-ghost use Rattle.access.specs.Rights.{rightsOf, rightsAt};
+ghost use Rattle.access.specs.Rights.{rightsOf, rightsAt, between};
 use hierarchy::table;
 use hierarchy::table::Table;
 use labels::label::Label;
 use records::users;
 use sets::groups::Groups;
 use sets::word;
+
+// lowest ≤ level ≤ highest
+pub fn is_between(lowest: u8, highest: u8, level: u8) -> bool
+    ensures { λ r. ⌜ r ≡ between lowest highest level ⌝ }
+{
+    (lowest <= level) & (level <= highest)
+}
 
 pub struct View {
     // The session's level and compartments, and what lies below its groups.

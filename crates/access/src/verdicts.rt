@@ -3,10 +3,12 @@ ghost use Prim.Native.Nat.{_<_};
 ghost use mathlib.Core.Path.{_≡_};
 ghost use Rattle.header.specs.Layout.{labels};
 ghost use Rattle.records.specs.Rules.{Counted};
+ghost use Rattle.image.specs.Check.{IsAccepted};
 ghost use Rattle.labels.specs.Label.{marksOf};
 ghost use Rattle.access.specs.Rights.{rightsOf};
-ghost use Rattle.access.specs.Verdicts.{readsAll, writesAll, holdsCompaccess, readTests, writeSetsRule, writeTests, labelAt, mayRead, mayWrite};
+ghost use Rattle.access.specs.Verdicts.{readsAll, writesAll, holdsCompaccess, readLevelRule, readGroupsRule, readTests, readsLabel, writeSetsRule, writeTests, writesLabel, labelAt, mayRead, mayWrite};
 use crate::rights::View;
+use crate::rights::is_between;
 use header::layout;
 use image::given::label_of_tag;
 use labels::label::Label;
@@ -34,18 +36,38 @@ fn holds_compaccess(view: View) -> bool
     word::has(view.privileges as u64, 2)
 }
 
-// Is a row of that label readable, where neither READ nor FULL is held?
-pub fn read_tests(view: View, row: Label) -> bool
-    ensures { λ r. ⌜ r ≡ readTests (rightsOf view) (marksOf row) ⌝ }
+// Row level ≤ session level: the minimum never stops reading.
+fn read_level(view: View, row: Label) -> bool
+    ensures { λ r. ⌜ r ≡ readLevelRule (rightsOf view) (marksOf row) ⌝ }
+{
+    row.level <= view.level
+}
+
+// The row has no groups, or one of them lies below the session's.
+fn read_groups(view: View, row: Label) -> bool
+    ensures { λ r. ⌜ r ≡ readGroupsRule (rightsOf view) (marksOf row) ⌝ }
 {
     let groups = row.groups;
-    let below = view.below_groups;
+    groups.is_empty() | groups.meets(view.below_groups)
+}
+
+// Is a row of that label readable by level, groups and compartments, or by COMPACCESS?
+fn read_tests(view: View, row: Label) -> bool
+    ensures { λ r. ⌜ r ≡ readTests (rightsOf view) (marksOf row) ⌝ }
+{
     let compaccess = holds_compaccess(view);
-    let level = row.level <= view.level;
-    let group = groups.is_empty() | groups.meets(below);
-    let compartment = word::within(row.compartments, view.compartments);
-    (level & group & compartment)
-        | (compaccess & level & !word::is_empty(row.compartments) & compartment)
+    let level = read_level(view, row);
+    let groups = read_groups(view, row);
+    let compartments = word::within(row.compartments, view.compartments);
+    (level & groups & compartments)
+        | (compaccess & level & !word::is_empty(row.compartments) & compartments)
+}
+
+// Is a row of that label readable?
+pub fn reads_label(view: View, row: Label) -> bool
+    ensures { λ r. ⌜ r ≡ readsLabel (rightsOf view) (marksOf row) ⌝ }
+{
+    reads_all(view) | read_tests(view, row)
 }
 
 // Do the sets let the row be written? A row with groups asks for the session's compartments only.
@@ -59,15 +81,22 @@ fn write_sets(view: View, row: Label) -> bool
     groups.meets(view.write_groups) & word::within(row.compartments, view.compartments)
 }
 
-// Is a row of that label writable, where FULL is not held?
-pub fn write_tests(view: View, row: Label) -> bool
+// Is a row of that label writable by level and sets, or by COMPACCESS?
+fn write_tests(view: View, row: Label) -> bool
     ensures { λ r. ⌜ r ≡ writeTests (rightsOf view) (marksOf row) ⌝ }
 {
     let compaccess = holds_compaccess(view);
     let sets = write_sets(view, row);
     let written = word::within(row.compartments, view.write_compartments);
-    let level = (view.minimum <= row.level) & (row.level <= view.level);
+    let level = is_between(view.minimum, view.level, row.level);
     (level & sets) | (compaccess & level & !word::is_empty(row.compartments) & written)
+}
+
+// Is a row of that label writable?
+pub fn writes_label(view: View, row: Label) -> bool
+    ensures { λ r. ⌜ r ≡ writesLabel (rightsOf view) (marksOf row) ⌝ }
+{
+    writes_all(view) | write_tests(view, row)
 }
 
 // The label of the k-th label record.
@@ -82,32 +111,26 @@ pub fn label_at(image: &[u8], k: usize) -> Label
     }
 }
 
-// READ and FULL see every row, tag 0 and unknown tags too.
+// The tag's label decides; READ and FULL see tag 0 and unknown tags too.
 pub fn may_read(image: &[u8], view: View, tag: u32) -> bool
-    requires { ⌜ Counted (now image) ⌝ }
+    requires { ⌜ IsAccepted (now image) ⌝ }
     ensures { λ r. ⌜ r ≡ mayRead (now (image .entry)) (rightsOf view) tag ⌝ }
 {
-    if reads_all(view) {
-        return true;
-    }
     let k = label_of_tag(image, tag);
     if k < layout::labels(image) {
-        return read_tests(view, label_at(image, k));
+        return reads_label(view, label_at(image, k));
     }
-    false
+    reads_all(view)
 }
 
-// FULL writes every row, tag 0 and unknown tags too.
+// The tag's label decides; FULL writes tag 0 and unknown tags too.
 pub fn may_write(image: &[u8], view: View, tag: u32) -> bool
-    requires { ⌜ Counted (now image) ⌝ }
+    requires { ⌜ IsAccepted (now image) ⌝ }
     ensures { λ r. ⌜ r ≡ mayWrite (now (image .entry)) (rightsOf view) tag ⌝ }
 {
-    if writes_all(view) {
-        return true;
-    }
     let k = label_of_tag(image, tag);
     if k < layout::labels(image) {
-        return write_tests(view, label_at(image, k));
+        return writes_label(view, label_at(image, k));
     }
-    false
+    writes_all(view)
 }

@@ -1,37 +1,53 @@
--- Merges beside dominance: HUU is at least as high as both labels and has the compartments of both; LII is no higher than either and
--- has no compartments but those of both. Assumes nothing.
-use Prim.Native.Nat.{_≤_}
-use mathlib.Core.Path.{_≡_}
-use mathlib.Core.Bool.{true}
-use mathlib.Core.List.{[], _∷_}
+-- Merges beside dominance: HUU dominates both labels; LII is dominated by both in level and compartments. Assumes nothing.
+use Prim.Native.Nat.{ℕ}
+use mathlib.Core.Path.{_≡_, refl}
+use mathlib.Core.Bool.{Bool, true, false, _||_}
+use mathlib.Core.List.{List, [], _∷_}
 use native.Mathlib.Nat.{le-max-left, le-max-right, min-le-left, min-le-right}
-use Rattle.sets.specs.Sets.{within}
-use Rattle.sets.proofs.Within.{within-union-left, within-union-right, intersection-within-left, intersection-within-right}
+use borrow.Author.Tests.{le-leb}
+use Rattle.sets.specs.Sets.{union, empty, within, meets}
+use Rattle.sets.proofs.Within.{within-refl, within-union-left, within-union-right, intersection-within-left, intersection-within-right}
+use Rattle.sets.proofs.Meets.{empty-place, place-meets, meets-mono}
 use Rattle.labels.specs.Label.{Marks}
-use Rattle.dominance.specs.TwoLabels.{letterH, letterL, letterU, letterI, mergeLevels, mergeSets, mergedLabel}
+use Rattle.dominance.specs.TwoLabels.{dominatesLevel, dominatesCompartments, dominatesGroups, dominates, letterH, letterL, letterU, letterI, mergeLevels, mergeSets, lettersRule, mergedLabel, label, mergeOf}
 
--- the first is at least as high as the second and has its compartments
-pub record Covers (a b : Marks) : Type 0 where
-  pub level : b .level ≤ a .level
-  pub compartments : within (b .compartments) (a .compartments) ≡ true
+abbrev pub huu : List ℕ
+huu = letterH ∷ letterU ∷ letterU ∷ []
+
+abbrev pub lii : List ℕ
+lii = letterL ∷ letterI ∷ letterI ∷ []
+
+-- groups among others pass the group test against them
+pub groups-among : (s u : ℕ) → within s u ≡ true → dominatesGroups u s ≡ true
+unfolding dominatesGroups
+groups-among s u w = at (empty s) refl
+  where
+    at : (t : Bool) → empty s ≡ t → (t || meets s u) ≡ true
+    at true e = refl
+    at false e =
+        let p = empty-place s e in
+        meets-mono s s s u (within-refl s) w (place-meets s s (p .0) (p .1) (p .1))
 
 module _ (a b : Marks) where
-  abbrev pub highest : Marks
-  highest = mergedLabel a b (letterH ∷ letterU ∷ letterU ∷ [])
+  pub huu-merges : mergeOf a b huu ≡ label (mergedLabel a b huu)
+  unfolding mergeOf lettersRule
+  huu-merges = refl
 
-  abbrev pub lowest : Marks
-  lowest = mergedLabel a b (letterL ∷ letterI ∷ letterI ∷ [])
+  pub lii-merges : mergeOf a b lii ≡ label (mergedLabel a b lii)
+  unfolding mergeOf lettersRule
+  lii-merges = refl
 
-  pub highest-covers : Covers highest a × Covers highest b
-  unfolding mergedLabel mergeLevels mergeSets
-  highest-covers = (
-    record { level = le-max-left (a .level) (b .level); compartments = within-union-left (a .compartments) (b .compartments) },
-    record { level = le-max-right (a .level) (b .level); compartments = within-union-right (a .compartments) (b .compartments) },
+  pub huu-dominates : (dominates (mergedLabel a b huu) a ≡ true) × (dominates (mergedLabel a b huu) b ≡ true)
+  unfolding dominates dominatesLevel dominatesCompartments mergedLabel mergeLevels mergeSets
+  huu-dominates = (
+    rw (le-leb _ _ (le-max-left (a .level) (b .level)), within-union-left (a .compartments) (b .compartments)) (groups-among (a .groups) (union (a .groups) (b .groups)) (within-union-left (a .groups) (b .groups))),
+    rw (le-leb _ _ (le-max-right (a .level) (b .level)), within-union-right (a .compartments) (b .compartments)) (groups-among (b .groups) (union (a .groups) (b .groups)) (within-union-right (a .groups) (b .groups))),
   )
 
-  pub lowest-covered : Covers a lowest × Covers b lowest
-  unfolding mergedLabel mergeLevels mergeSets
-  lowest-covered = (
-    record { level = min-le-left (a .level) (b .level); compartments = intersection-within-left (a .compartments) (b .compartments) },
-    record { level = min-le-right (a .level) (b .level); compartments = intersection-within-right (a .compartments) (b .compartments) },
-  )
+  pub lii-dominated-first : (dominatesLevel a (mergedLabel a b lii) ≡ true) × (dominatesCompartments a (mergedLabel a b lii) ≡ true)
+  unfolding dominatesLevel dominatesCompartments mergedLabel mergeLevels mergeSets
+  lii-dominated-first = (le-leb _ _ (min-le-left (a .level) (b .level)), intersection-within-left (a .compartments) (b .compartments))
+
+  pub lii-dominated-second : (dominatesLevel b (mergedLabel a b lii) ≡ true) × (dominatesCompartments b (mergedLabel a b lii) ≡ true)
+  unfolding dominatesLevel dominatesCompartments mergedLabel mergeLevels mergeSets
+  lii-dominated-second = (le-leb _ _ (min-le-right (a .level) (b .level)), intersection-within-right (a .compartments) (b .compartments))

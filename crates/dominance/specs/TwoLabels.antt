@@ -13,14 +13,22 @@ use Rattle.dominance.specs.declared.merging.Merged.{Merged}
 use Rattle.dominance.specs.declared.merging.Merged.the-variants as merged
 
 -- ---- dominance
+-- label 1's level is at least as high
+unfoldable pub dominatesLevel : Marks → Marks → Bool
+dominatesLevel a b = leb (b .level) (a .level)
+
+-- it has all compartments of label 2
+unfoldable pub dominatesCompartments : Marks → Marks → Bool
+dominatesCompartments a b = within (b .compartments) (a .compartments)
+
 -- label 2 has no groups or shares one
 unfoldable pub dominatesGroups : ℕ → ℕ → Bool
 dominatesGroups groups1 groups2 = empty groups2 || meets groups2 groups1
 
--- label 1's level is at least as high, it has all compartments of 2, and 2 has no groups or shares one
+-- all three
 unfoldable pub dominates : Marks → Marks → Bool
 dominates a b =
-    leb (b .level) (a .level) && within (b .compartments) (a .compartments) && dominatesGroups (a .groups) (b .groups)
+    dominatesLevel a b && dominatesCompartments a b && dominatesGroups (a .groups) (b .groups)
 
 unfoldable pub sameLabel : Marks → Marks → Bool
 sameLabel a b = eqb (a .level) (b .level) && eqb (a .compartments) (b .compartments) && eqb (a .groups) (b .groups)

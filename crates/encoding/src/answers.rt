@@ -1,4 +1,4 @@
-// The number that tells a refusal.
+// The numbers that tell a refusal and a verdict.
 ghost use Prim.Native.Nat.{_^_, _<_};
 ghost use mathlib.Core.Path.{_≡_};
 ghost use Rattle.refusals.specs.Refusals.{placeOf, answerOf};

@@ -1,5 +1,7 @@
 -- What holds of sessions, for the crates above.
 --     Accepting  when a lent session is accepted
 --     Passing    an opened session and a changed session always pass 19
+--     Bounded    what a session may read is readable at the maximum read label
 pub mod Accepting
 pub mod Passing
+pub mod Bounded

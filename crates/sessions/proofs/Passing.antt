@@ -72,16 +72,16 @@ module _ (im : List ℕ) (acc : IsAccepted im) (u : ℕ) (here : u < users im) w
 
 -- ---- an opened session
 -- what an opening is, as a session or not
-abbrev sessionIn : SessionMarks → Opening → SessionMarks
-sessionIn other (session s) = s
-sessionIn other (refused r) = other
+abbrev openedOr : SessionMarks → Opening → SessionMarks
+openedOr other (session s) = s
+openedOr other (refused r) = other
 
 abbrev isSession : Opening → Bool
 isSession (session s) = true
 isSession (refused r) = false
 
 session-tells : (s t : SessionMarks) → session s ≡ session t → s ≡ t
-session-tells s t e = ap (sessionIn s) e
+session-tells s t e = ap (openedOr s) e
 
 refused-not-session : (r : Refusal) (s : SessionMarks) → refused r ≡ session s → ⊥
 refused-not-session r s e = true≢false (sym (ap isSession e))

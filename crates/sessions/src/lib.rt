@@ -85,7 +85,7 @@ impl Session {
         let found = lent_rights(image, &mut table, self);
         match found {
             Lent::At(view) => verdict_of(verdicts::may_write(image, view, tag)),
-            Lent::Refused(refusal) => Verdict::Refused(refusal),
+            Lent::Refused(r) => Verdict::Refused(r),
         }
     }
 }

@@ -1,4 +1,4 @@
-use Rattle.dominance.specs.TwoLabels.{dominatesGroups}
+use Rattle.dominance.specs.TwoLabels.{dominatesLevel, dominatesCompartments, dominatesGroups}
 use Rattle.dominance.specs.TwoLabels as two
 use borrow.Author.Needs.{needs}
 use Rattle.dominance.proofs.dominates.Statement.{statement}
@@ -14,7 +14,7 @@ meets-requires : tie.Need-meets-requires
 meets-requires c κs = search needs
 
 returns : tie.Need-returns
-unfolding two.dominates dominatesGroups
+unfolding two.dominates dominatesLevel dominatesCompartments dominatesGroups
 returns c = rw (c .before .before .within .ensures, c .before .is-empty .ensures, c .meets .ensures)
 
 pub dominates-spec : {M : Type 1} → statement M

@@ -1,6 +1,6 @@
 use mathlib.Core.Path.{sym, _∙_}
 use borrow.Author.Tests.{not-true, not-false}
-use Rattle.access.specs.NewLabels.{rowLabelAnswer, rowGroupsRule}
+use Rattle.access.specs.NewLabels.{rowLabelAnswer}
 use borrow.Author.Needs.{needs}
 use Rattle.access.proofs.new_labels.row_label_answer.Statement.{statement}
 use Rattle.access.proofs.new_labels.row_label_answer.Tie as tie
@@ -19,16 +19,16 @@ returns-2 : tie.Need-returns-2
 unfolding rowLabelAnswer
 returns-2 c = rw (sym (c .before .before .before .is-between .ensures) ∙ not-false _ (c .before .before .if1 .left), sym (c .before .within .ensures) ∙ not-true _ (c .if2 .taken))
 
-within-requires-2 : tie.Need-within-requires-2
-within-requires-2 c κs = search needs
+row-groups-ok-requires : tie.Need-row-groups-ok-requires
+row-groups-ok-requires c κs = search needs
 
 returns-3 : tie.Need-returns-3
-unfolding rowLabelAnswer rowGroupsRule
-returns-3 c = rw (sym (c .before .before .before .before .before .is-between .ensures) ∙ not-false _ (c .before .before .before .before .if1 .left), sym (c .before .before .before .within .ensures) ∙ not-false _ (c .before .before .if2 .left), sym (c .before .within2 .ensures) ∙ not-true _ (c .if3 .taken))
+unfolding rowLabelAnswer
+returns-3 c = rw (sym (c .before .before .before .before .before .is-between .ensures) ∙ not-false _ (c .before .before .before .before .if1 .left), sym (c .before .before .before .within .ensures) ∙ not-false _ (c .before .before .if2 .left), sym (c .before .row-groups-ok .ensures) ∙ not-true _ (c .if3 .taken))
 
 returns-4 : tie.Need-returns-4
-unfolding rowLabelAnswer rowGroupsRule
-returns-4 c = rw (sym (c .before .before .before .before .before .is-between .ensures) ∙ not-false _ (c .before .before .before .before .if1 .left), sym (c .before .before .before .within .ensures) ∙ not-false _ (c .before .before .if2 .left), sym (c .before .within2 .ensures) ∙ not-false _ (c .if3 .left))
+unfolding rowLabelAnswer
+returns-4 c = rw (sym (c .before .before .before .before .before .is-between .ensures) ∙ not-false _ (c .before .before .before .before .if1 .left), sym (c .before .before .before .within .ensures) ∙ not-false _ (c .before .before .if2 .left), sym (c .before .row-groups-ok .ensures) ∙ not-false _ (c .if3 .left))
 
 pub row-label-answer-spec : {M : Type 1} → statement M
 row-label-answer-spec =
@@ -38,6 +38,6 @@ row-label-answer-spec =
     returns
     within-requires
     returns-2
-    within-requires-2
+    row-groups-ok-requires
     returns-3
     returns-4)

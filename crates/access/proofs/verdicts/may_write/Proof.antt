@@ -3,56 +3,50 @@ use Rattle.header.specs.Layout.{labels}
 use borrow.Author.Tests.{lt-ltb, le-ltb}
 use native.Mathlib.Omega.{arith}
 use Prim.Native.Nat.{_≤_, _<_}
-use Rattle.access.proofs.Tests.{asked-all}
+use Rattle.image.proofs.Accepted.{accepted-counted}
 use Rattle.header.proofs.Inside.{header-inside}
-use mathlib.Core.Path.{sym, _∙_}
-use Rattle.access.specs.Verdicts.{writesLabel, knownTag, mayWrite}
+use Rattle.access.specs.Verdicts.{knownTag, mayWrite}
 use borrow.Author.Needs.{needs}
 use Rattle.access.proofs.verdicts.may_write.Statement.{statement}
 use Rattle.access.proofs.verdicts.may_write.Tie as tie
 
+label-of-tag-requires : tie.Need-label-of-tag-requires
+label-of-tag-requires c κs = accepted-counted _ (c .before .pre)
+
+labels-requires : tie.Need-labels-requires
+labels-requires c κs = header-inside _ (accepted-counted _ (c .before .before .pre) .fitted)
+
+label-at-requires : tie.Need-label-at-requires
+label-at-requires c κs = (accepted-counted _ (c .before .before .before .before .pre), omega arith)
+
+writes-label-requires : tie.Need-writes-label-requires
+writes-label-requires c κs = search needs
+
+returns : tie.Need-returns
+unfolding mayWrite knownTag
+returns c =
+    let a = c .before .before .before .before .before .before .args in
+    let h : labelOfTag (a .image .now) (a .tag) < labels (a .image .now) = omega arith in
+    rw (lt-ltb _ _ h, c .writes-label .ensures, c .before .label-at .ensures, c .before .before .before .before .label-of-tag .ensures)
+
 writes-all-requires : tie.Need-writes-all-requires
 writes-all-requires c κs = search needs
 
-returns : tie.Need-returns
-unfolding mayWrite writesLabel
-returns c = asked-all (knownTag _ _) _ _ (sym (c .before .writes-all .ensures) ∙ c .if1 .taken)
-
-label-of-tag-requires : tie.Need-label-of-tag-requires
-label-of-tag-requires c κs = search needs
-
-labels-requires : tie.Need-labels-requires
-labels-requires c κs = header-inside _ (c .before .before .before .before .pre .fitted)
-
-label-at-requires : tie.Need-label-at-requires
-label-at-requires c κs = search needs
-
-write-tests-requires : tie.Need-write-tests-requires
-write-tests-requires c κs = search needs
-
 returns-2 : tie.Need-returns-2
-unfolding mayWrite writesLabel knownTag
-returns-2 c =
-    let a = c .before .before .before .before .before .before .before .before .args in
-    let h : labelOfTag (a .image .now) (a .tag) < labels (a .image .now) = omega arith in
-    rw (lt-ltb _ _ h, sym (c .before .before .before .before .before .before .writes-all .ensures) ∙ c .before .before .before .before .before .if1 .left, c .write-tests .ensures, c .before .label-at .ensures, c .before .before .before .before .label-of-tag .ensures)
-
-returns-3 : tie.Need-returns-3
 unfolding mayWrite knownTag
-returns-3 c =
-    let a = c .before .before .before .before .before .before .args in
+returns-2 c =
+    let a = c .before .before .before .before .before .args in
     let h : labels (a .image .now) ≤ labelOfTag (a .image .now) (a .tag) = omega arith in
-    rw (le-ltb _ _ h, sym (c .before .before .before .before .writes-all .ensures) ∙ c .before .before .before .if1 .left)
+    rw (le-ltb _ _ h) (c .writes-all .ensures)
 
 pub may-write-spec : {M : Type 1} → statement M
 may-write-spec =
     tie.close
     (tie.spec
-    writes-all-requires
-    returns
     label-of-tag-requires
     labels-requires
     label-at-requires
-    write-tests-requires
-    returns-2
-    returns-3)
+    writes-label-requires
+    returns
+    writes-all-requires
+    returns-2)

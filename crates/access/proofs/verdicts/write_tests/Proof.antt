@@ -12,12 +12,15 @@ write-sets-requires c κs = search needs
 within-requires : tie.Need-within-requires
 within-requires c κs = search needs
 
+is-between-requires : tie.Need-is-between-requires
+is-between-requires c κs = search needs
+
 is-empty-requires : tie.Need-is-empty-requires
 is-empty-requires c κs = search needs
 
 returns : tie.Need-returns
 unfolding writeTests compaccessWrites writeLevelRule writeCompartmentsRule
-returns c = rw (c .is-empty .ensures, c .before .before .before .before .before .within .ensures, c .before .before .before .before .before .before .write-sets .ensures, c .before .before .before .before .before .before .before .holds-compaccess .ensures)
+returns c = rw (c .is-empty .ensures, c .before .is-between .ensures, c .before .before .within .ensures, c .before .before .before .write-sets .ensures, c .before .before .before .before .holds-compaccess .ensures)
 
 pub write-tests-spec : {M : Type 1} → statement M
 write-tests-spec =
@@ -26,5 +29,6 @@ write-tests-spec =
     holds-compaccess-requires
     write-sets-requires
     within-requires
+    is-between-requires
     is-empty-requires
     returns)

@@ -1,5 +1,4 @@
 use Rattle.sessions.specs.Asking.{mayReadOf}
-use Rattle.image.proofs.Accepted.{accepted-counted}
 use Rattle.sessions.proofs.Accepting.{lent-accepted, lent-at, lent-refused}
 use borrow.Author.Needs.{needs}
 use Rattle.sessions.proofs.session.Session.may_read.Statement.{statement}
@@ -12,7 +11,7 @@ enum-known-found : tie.Need-enum-known-found
 enum-known-found c = search needs
 
 may-read-requires : tie.Need-may-read-requires
-may-read-requires c κs = accepted-counted _ (lent-accepted _ _ (lent-at _ _ _ _ _ (c .before .found .given .1) (c .before .before .before .lent-rights .ensures) .0))
+may-read-requires c κs = lent-accepted _ _ (lent-at _ _ _ _ _ (c .before .found .given .1) (c .before .before .before .lent-rights .ensures) .0)
 
 verdict-of-requires : tie.Need-verdict-of-requires
 verdict-of-requires c κs = search needs
