@@ -1,4 +1,5 @@
 pub mod Accepted
+mod Halves
 pub mod Place
 pub mod Placed
 pub mod Policy

@@ -6,26 +6,46 @@ ghost use Rattle.fields.specs.Names.{sameName};
 ghost use Rattle.header.specs.Layout.{users, userRecord};
 ghost use Rattle.records.specs.Fields.{userName};
 ghost use Rattle.records.specs.Rules.{Counted};
-ghost use Rattle.image.specs.Lookup.{labelOfTag, userOfName};
+ghost use Rattle.image.specs.Check.{IsAccepted};
+ghost use Rattle.image.specs.Lookup.{Split, labelOfTag, userOfName};
 use fields::names::same_name;
 use header::layout;
 use records::labels;
 use records::users;
 
+// The first label record whose tag is not below the given one; the number of labels where all are below. Tags rise
+// strictly, so the range is halved.
+fn first_not_below(image: &[u8], tag: u32) -> usize
+    requires { ⌜ IsAccepted (now image) ⌝ }
+    ensures { λ r. ⌜ Split (now (image .entry)) tag r ⌝ }
+{
+    let mut low = 0;
+    let mut high = layout::labels(image);
+    while low < high {
+        let middle = low + (high - low) / 2;
+        if labels::tag(image, middle) < tag {
+            low = middle + 1;
+        } else {
+            high = middle;
+        }
+    }
+    low
+}
+
 // The label record that carries the tag; the number of labels where none does.
 pub fn label_of_tag(image: &[u8], tag: u32) -> usize
-    requires { ⌜ Counted (now image) ⌝ }
+    requires { ⌜ IsAccepted (now image) ⌝ }
     ensures { λ r. ⌜ r ≡ labelOfTag (now (image .entry)) tag ⌝ }
 {
     let count = layout::labels(image);
-    let mut k = 0;
-    while k < count {
-        if labels::tag(image, k) == tag {
-            return k;
-        }
-        k += 1;
+    let k = first_not_below(image, tag);
+    if count <= k {
+        return count;
     }
-    k
+    if labels::tag(image, k) == tag {
+        return k;
+    }
+    count
 }
 
 fn is_user(image: &[u8], u: usize, name: &[u8]) -> bool

@@ -11,7 +11,7 @@ use Rattle.access.proofs.verdicts.may_write.Statement.{statement}
 use Rattle.access.proofs.verdicts.may_write.Tie as tie
 
 label-of-tag-requires : tie.Need-label-of-tag-requires
-label-of-tag-requires c κs = accepted-counted _ (c .before .pre)
+label-of-tag-requires c κs = c .before .pre
 
 labels-requires : tie.Need-labels-requires
 labels-requires c κs = header-inside _ (accepted-counted _ (c .before .before .pre) .fitted)
