@@ -14,6 +14,7 @@ use Rattle.image.specs.declared.faults.Checked.the-variants.{Accepted, Refused}
 use Rattle.image.specs.Check.{checkOf, IsAccepted}
 use Rattle.image.specs.Lookup.{componentIndex, hasComponent}
 use Rattle.labels.specs.Label.{Marks}
+use Rattle.labels.specs.Text.{comma, colon}
 use Rattle.printing.specs.declared.printing.Printed.{Printed}
 use Rattle.printing.specs.declared.printing.Printed.the-variants as printed
 
@@ -23,7 +24,7 @@ nameAt im class place = componentName (componentRecord im (componentIndex im cla
 
 -- what a place adds to a list: where the set has it, a comma and the component's name
 unfoldable pub entryAt : List ℕ → ℕ → ℕ → ℕ → List ℕ
-entryAt im class set k = cond (has set k) (44 ∷ nameAt im class k) []
+entryAt im class set k = cond (has set k) (comma ∷ nameAt im class k) []
 
 -- the names of those of the n places from k on that the set has, a comma before each
 unfoldable pub listed : List ℕ → ℕ → ℕ → ℕ → ℕ → List ℕ
@@ -36,7 +37,7 @@ listText im class count set = drop 1 (listed im class set count 0)
 
 -- a colon and a list
 unfoldable pub section : List ℕ → ℕ → ℕ → ℕ → List ℕ
-section im class count set = 58 ∷ listText im class count set
+section im class count set = colon ∷ listText im class count set
 
 -- LEVEL, LEVEL:list, LEVEL:list:list or LEVEL::list
 unfoldable pub textOf : List ℕ → Marks → List ℕ
