@@ -7,16 +7,13 @@ use native.Mathlib.Nat.{zero-add, le-trans}
 use borrow.Author.Tests.{le-leb, lt-leb}
 use lib.ListN.{length, drop}
 use Rattle.refusals.specs.declared.Refusal.the-variants.{NoComponent, Room}
+use Rattle.buffers.proofs.Pasted.{front}
 use Rattle.image.specs.Check.{IsAccepted}
 use Rattle.labels.specs.Label.{Marks}
 use Rattle.printing.specs.declared.printing.Printed.the-variants as printed
-use Rattle.printing.specs.Print.{textOf, labelExists, acceptedAnswer, printOf, pasted, Written}
+use Rattle.printing.specs.Print.{textOf, labelExists, acceptedAnswer, printOf}
+use Rattle.buffers.specs.Pasting.{pasted, Written}
 use Rattle.printing.proofs.Whole.{text-short}
-
--- what is written to the front leaves the text and then the bytes that follow it
-front : (b text : List ℕ) → pasted b 0 text ≡ text ++ drop (length text) b
-unfolding pasted
-front b text = rw zero-add
 
 module _ (im : List ℕ) (m : Marks) (b : List ℕ) where
   pub answer-lacks : labelExists im m ≡ false → (printed.Refused NoComponent, b) ≡ acceptedAnswer im m b

@@ -1,6 +1,5 @@
 -- Laws that several proofs use, and what the crates above may cite.
 pub mod Listed
-pub mod Pasted
 pub mod Written
 pub mod Sections
 pub mod Whole

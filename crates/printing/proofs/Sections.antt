@@ -5,8 +5,9 @@ use mathlib.Core.List.{List, [], _∷_, _++_}
 use native.Mathlib.Omega.{arith}
 use lib.ListN.{length, take, drop, set, length-append, length-drop}
 use lib.Seq.{length-take-le, set-append-left, set-at}
-use Rattle.printing.specs.Print.{listed, listText, section, pasted, Written}
-use Rattle.printing.proofs.Pasted.{pasted-none, pasted-byte}
+use Rattle.printing.specs.Print.{listed, listText, section}
+use Rattle.buffers.specs.Pasting.{pasted, Written}
+use Rattle.buffers.proofs.Pasted.{pasted-none, pasted-byte}
 
 colon-length : (t : List ℕ) → length (58 ∷ drop 1 t) ≡ suc (length t - 1)
 colon-length t = ap suc (length-drop 1 t)

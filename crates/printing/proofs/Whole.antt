@@ -14,9 +14,10 @@ use Rattle.image.specs.Check.{IsAccepted}
 use Rattle.image.specs.Lookup.{hasComponent}
 use Rattle.image.proofs.Accepted.{accepted-counted}
 use Rattle.labels.specs.Label.{Marks}
-use Rattle.printing.specs.Print.{nameAt, section, textOf, labelExists, pasted, Named, Written}
+use Rattle.printing.specs.Print.{nameAt, section, textOf, labelExists, Named}
+use Rattle.buffers.specs.Pasting.{pasted, Written}
 use Rattle.printing.proofs.Listed.{name-short, listed-short}
-use Rattle.printing.proofs.Pasted.{pasted-after, pasted-length}
+use Rattle.buffers.proofs.Pasted.{pasted-after, pasted-length}
 use Rattle.printing.proofs.Sections.{section-length}
 
 -- ---- the components are there

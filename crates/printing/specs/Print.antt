@@ -70,15 +70,6 @@ unfoldable pub printOf : List ℕ → Marks → List ℕ → Printed × List ℕ
 printOf im m buffer = unlessRefused (checkOf im) (acceptedAnswer im m buffer) buffer
 
 -- ---- what the parts of print do
--- the buffer with the text written over its bytes from `at` on
-unfoldable pub pasted : List ℕ → ℕ → List ℕ → List ℕ
-pasted buffer at text = take at buffer ++ text ++ drop (at + length text) buffer
-
--- what writing a text at `at` leaves: the buffer, and where the text ends
-pub record Written (buffer : List ℕ) (at : ℕ) (text after : List ℕ) (end : ℕ) : Type 0 where
-  pub bytes : after ≡ pasted buffer at text
-  pub stop : end ≡ at + length text
-
 -- what code may take for granted where it lists names: the image is accepted and has the first places of the class, 64 at most
 pub record Named (im : List ℕ) (class count : ℕ) : Type 0 where
   pub accepted : IsAccepted im

@@ -9,7 +9,9 @@ ghost use Rattle.header.specs.Layout.{compartments, groups};
 ghost use Rattle.records.specs.Rules.{Counted};
 ghost use Rattle.sets.specs.Groups.{placesOf};
 ghost use Rattle.labels.specs.Label.{marksOf};
-ghost use Rattle.printing.specs.Print.{nameAt, entryAt, listed, section, textOf, labelExists, acceptedAnswer, Named, Written};
+ghost use Rattle.printing.specs.Print.{nameAt, entryAt, listed, section, textOf, labelExists, acceptedAnswer, Named};
+ghost use Rattle.buffers.specs.Pasting.{Written};
+use buffers::put;
 use header::layout;
 use image::lookup;
 use labels::label::Label;
@@ -54,14 +56,6 @@ fn list_length(image: &[u8], class: u8, count: usize, set: Groups) -> usize
         k += 1;
     }
     n
-}
-
-// Writes the text over the buffer's bytes from `at` on, and tells where it ends.
-fn put(text: &[u8], buffer: &mut [u8], at: usize) -> usize
-    requires { ⌜ at + length (now text) ≤ length (now buffer) ⌝ }
-    ensures { λ r. ⌜ Written (now (buffer .entry)) at (now (text .entry)) (now (buffer .exit)) r ⌝ }
-{
-    at + bytes::copy(text, &mut buffer[at..])
 }
 
 // Writes what a place adds to a list.

@@ -4,7 +4,8 @@ use native.Mathlib.Omega.{arith}
 use borrow.Author.Tests.{not-true, not-false}
 use lib.ListN.{length-set}
 use Rattle.printing.proofs.Listed.{entry-lacks}
-use Rattle.printing.proofs.Written.{written-none, entry-room, written-entry}
+use Rattle.buffers.proofs.Left.{written-none}
+use Rattle.printing.proofs.Written.{entry-room, written-entry}
 use Rattle.printing.proofs.printing.write_entry.Statement.{statement}
 use Rattle.printing.proofs.printing.write_entry.Tie as tie
 

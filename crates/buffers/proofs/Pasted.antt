@@ -2,12 +2,12 @@
 use Prim.Native.Nat.{ℕ, suc, _+_, _-_, _≤_, _<_}
 use mathlib.Core.Path.{_≡_, refl, sym, ap, ap₂, _∙_}
 use mathlib.Core.List.{List, [], _∷_, _++_, append-assoc, append-nil}
-use native.Mathlib.Nat.{add-zero, add-assoc}
+use native.Mathlib.Nat.{zero-add, add-zero, add-assoc, le-of-eq}
 use native.Mathlib.Numerals.{add-one}
 use native.Mathlib.Omega.{arith}
-use lib.ListN.{length, take, drop, set, length-append, length-drop, take-append-drop}
-use lib.Seq.{length-take-le, drop-drop, take-at, drop-at, set-split, append-snoc}
-use Rattle.printing.specs.Print.{pasted}
+use lib.ListN.{length, take, drop, set, length-append, length-drop, take-append-drop, drop-of-length-le}
+use lib.Seq.{take-all, take-length, length-take-le, drop-drop, take-at, drop-at, set-split, append-snoc}
+use Rattle.buffers.specs.Pasting.{pasted, Written}
 
 -- nothing is written
 pub pasted-none : (b : List ℕ) (e : ℕ) → pasted b e [] ≡ b
@@ -57,3 +57,23 @@ pasted-byte b e v h = rw add-one (append-snoc (take e b) v (drop (suc e) b) ∙ 
 pub byte-after : (b : List ℕ) (e v : ℕ) (y : List ℕ) → e < length b → pasted (set b e v) (e + 1) y ≡ pasted b e (v ∷ y)
 byte-after b e v y h =
     ap (λ (s : List ℕ). pasted s (e + 1) y) (sym (pasted-byte b e v h)) ∙ pasted-after b e (v ∷ []) (omega arith) y
+
+-- a text copied to the front of what lies from a on
+pub put-part : (xs text ys : List ℕ) (a : ℕ) → a + length text ≤ length xs
+    → ys ≡ take (length text) text ++ drop (length text) (take (length xs - a) (drop a xs))
+    → take a xs ++ (ys ++ drop (length xs - a) (drop a xs)) ≡ pasted xs a text
+unfolding pasted
+put-part xs text ys a fits e =
+    let l : length (drop a xs) ≤ length xs - a = le-of-eq (length-drop a xs) in
+    let whole : ys ≡ text ++ drop (a + length text) xs =
+    e
+    ∙ ap₂ (λ (s t : List ℕ). s ++ drop (length text) t) (take-length text) (take-all (length xs - a) (drop a xs) l)
+    ∙ ap (λ (t : List ℕ). text ++ t) (drop-drop (length text) a xs) in
+    ap (λ (t : List ℕ). take a xs ++ t)
+    (ap₂ (λ (s t : List ℕ). s ++ t) whole (drop-of-length-le (drop a xs) l) ∙ append-nil (text ++ drop (a + length text) xs))
+    ∙ sym (append-assoc (take a xs) text (drop (a + length text) xs))
+
+-- what is written to the front leaves the text and then the bytes that follow it
+pub front : (b text : List ℕ) → pasted b 0 text ≡ text ++ drop (length text) b
+unfolding pasted
+front b text = rw zero-add

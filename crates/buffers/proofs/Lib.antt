@@ -1,0 +1,3 @@
+-- Laws that several proofs use, and what the crates above may cite.
+pub mod Pasted
+pub mod Left

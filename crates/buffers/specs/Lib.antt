@@ -1,0 +1,2 @@
+-- Text written over the bytes of a lent buffer.
+pub mod Pasting
