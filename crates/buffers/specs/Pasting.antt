@@ -4,6 +4,10 @@ use mathlib.Core.Path.{_≡_}
 use mathlib.Core.List.{List, _++_}
 use lib.ListN.{length, take, drop}
 
+-- the text at the buffer's front; later bytes stay
+abbrev pub atFront : List ℕ → List ℕ → List ℕ
+atFront text buffer = text ++ drop (length text) buffer
+
 -- the buffer with the text written over its bytes from `at` on
 unfoldable pub pasted : List ℕ → ℕ → List ℕ → List ℕ
 pasted buffer at text = take at buffer ++ text ++ drop (at + length text) buffer

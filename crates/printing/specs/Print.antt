@@ -4,7 +4,8 @@ use mathlib.Core.Path.{_≡_}
 use mathlib.Core.Bool.{Bool, true, cond, _&&_}
 use mathlib.Core.List.{List, [], _∷_, _++_}
 use lib.Dec.{leb, ltb}
-use lib.ListN.{length, take, drop}
+use lib.ListN.{length, drop}
+use Rattle.buffers.specs.Pasting.{atFront}
 use Rattle.sets.specs.Sets.{has, empty, within, allBelow}
 use Rattle.refusals.specs.declared.Refusal.the-variants.{NoComponent, Room}
 use Rattle.header.specs.Layout.{levels, compartments, groups, componentRecord}
@@ -55,7 +56,7 @@ labelExists im m =
 -- 13 where the text is longer than the buffer. A print that is done reports its length and changes only its own bytes
 abbrev pub whenRoom : List ℕ → List ℕ → Printed × List ℕ
 whenRoom text buffer =
-    cond (leb (length text) (length buffer)) (printed.Done (length text), text ++ drop (length text) buffer) (printed.Refused Room, buffer)
+    cond (leb (length text) (length buffer)) (printed.Done (length text), atFront text buffer) (printed.Refused Room, buffer)
 
 -- where the image is accepted: 18 first
 unfoldable pub acceptedAnswer : List ℕ → Marks → List ℕ → Printed × List ℕ

@@ -1,3 +1,4 @@
 pub mod Sample
 pub mod Texts
 pub mod Mara
+pub mod HiddenInstance

@@ -1,2 +1,3 @@
 -- The sample co-operative of document 01.
 pub mod Cooperative
+pub mod TwoTables

@@ -15,7 +15,7 @@ pub struct Changed {
     pub answer: Checked,
 }
 
-// 1, 2, 3, 19 where there is no verdict.
+// Yes, no, or the refusal where there is no verdict.
 pub enum Verdict {
     Yes,
     No,

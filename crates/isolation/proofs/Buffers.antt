@@ -1,0 +1,79 @@
+-- What a buffer held before a read shows in no answer. Assumes nothing.
+use Prim.Native.Nat.{ℕ, _*_}
+use mathlib.Core.Path.{_≡_, refl, sym, ap, _∙_}
+use mathlib.Core.Bool.{Bool, true, false, cond}
+use mathlib.Core.List.{List, [], _∷_, _++_, flatten, map}
+use lib.Dec.{leb}
+use lib.ListN.{length, drop, replicate, length-replicate}
+use lib.Seq.{take-at}
+use Rattle.refusals.specs.declared.Refusal.the-variants.{Room}
+use Rattle.image.specs.declared.faults.Checked.{Checked}
+use Rattle.image.specs.declared.faults.Checked.the-variants as checked
+use Rattle.image.specs.Check.{onChecked}
+use Rattle.sessions.specs.Session.{SessionMarks, sessionRights}
+use Rattle.rows.specs.Table.{rowsOf, rowReadable, readableRows, tableAnswer}
+use Rattle.rows.specs.Reading.{handedOut, readRowsOf}
+use Rattle.rows.specs.declared.answers.RowsRead.{RowsRead}
+use Rattle.rows.specs.declared.answers.RowsRead.the-variants.{Done, Refused}
+use Rattle.rows.proofs.Standing.{AllWide, rows-wide}
+use Rattle.isolation.specs.Calls.{Call, opening, settingLabel, settingRowLabel, onRows, reading, updating}
+use Rattle.isolation.specs.Calls.{Answer, rowsHanded, State, lentSession, bytesRead, rowStep, step, run}
+use Rattle.isolation.specs.Claim.{bufferZeroed, Alike}
+use Rattle.isolation.proofs.Keeping.{kept-wide}
+use Rattle.isolation.proofs.Shapes.{flatten-length}
+use Rattle.isolation.proofs.Agree.{table-accepted}
+
+-- ---- one read
+-- what a caller sees of a read
+abbrev shown : ℕ → RowsRead × List ℕ → Answer
+shown w result = rowsHanded (result .0) (bytesRead (result .0) w (result .1))
+
+-- rows of one width: all bytes that are shown were written
+rows-shown : (w : ℕ) (rows : List (List ℕ)) → AllWide w rows → (buffer : List ℕ)
+    → shown w (handedOut rows buffer)
+    ≡ cond (leb (length (flatten rows)) (length buffer)) (rowsHanded (Done (length rows)) (flatten rows)) (rowsHanded (Refused Room) [])
+unfolding handedOut
+rows-shown w rows a buffer = at (leb (length (flatten rows)) (length buffer))
+  where
+    at : (t : Bool)
+        → shown w (cond t (Done (length rows), flatten rows ++ drop (length (flatten rows)) buffer) (Refused Room, buffer))
+        ≡ cond t (rowsHanded (Done (length rows)) (flatten rows)) (rowsHanded (Refused Room) [])
+    at true =
+        ap (rowsHanded (Done (length rows)))
+        (take-at (flatten rows) (drop (length (flatten rows)) buffer) (length rows * w) (flatten-length w rows a))
+    at false = refl
+
+pub buffers-alike : (im : List ℕ) (s : SessionMarks) (table : List ℕ) (w : ℕ) (buffer1 buffer2 : List ℕ) → length buffer1 ≡ length buffer2
+    → shown w (readRowsOf im s table w buffer1) ≡ shown w (readRowsOf im s table w buffer2)
+unfolding readRowsOf
+buffers-alike im s table w buffer1 buffer2 same = at (tableAnswer im s w table) refl
+  where
+    at : (c : Checked) → tableAnswer im s w table ≡ c
+        → shown w (onChecked c (λ r. (Refused r, buffer1)) (handedOut (readableRows im (sessionRights im s) w table) buffer1))
+        ≡ shown w (onChecked c (λ r. (Refused r, buffer2)) (handedOut (readableRows im (sessionRights im s) w table) buffer2))
+    at checked.Accepted e =
+        let rows = readableRows im (sessionRights im s) w table in
+        let wide : AllWide w rows = unfold readableRows in
+        kept-wide (rowReadable im (sessionRights im s)) w (rowsOf w table) (rows-wide w table (table-accepted im s w table e .1)) in
+        rows-shown w rows wide buffer1 ∙ (rw same) ∙ sym (rows-shown w rows wide buffer2)
+    at (checked.Refused r) e = refl
+
+-- ---- a sequence
+step-alike : (im : List ℕ) (state : State) (call : Call) → step im state call ≡ step im state (bufferZeroed call)
+unfolding step rowStep
+step-alike im state (opening name) = refl
+step-alike im state (settingLabel lending text) = refl
+step-alike im state (settingRowLabel lending text) = refl
+step-alike im state (onRows lending w (reading buffer)) =
+    ap (λ (a : Answer). (state, a))
+    (buffers-alike im (lentSession state lending) (state .table) w buffer (replicate (length buffer) 0) (sym (length-replicate (length buffer) 0)))
+step-alike im state (onRows lending w (updating n payload)) = refl
+
+run-alike : (im : List ℕ) (calls : List Call) (state : State) → run im state calls ≡ run im state (map bufferZeroed calls)
+unfolding run
+run-alike im [] state = refl
+run-alike im (call ∷ calls) state = rw (step-alike im state call, run-alike im calls (step im state (bufferZeroed call) .0))
+
+pub runs-equal : (im : List ℕ) (calls1 calls2 : List Call) → Alike calls1 calls2 → (state : State) → run im state calls1 ≡ run im state calls2
+runs-equal im calls1 calls2 e state =
+    run-alike im calls1 state ∙ ap (run im state) e ∙ sym (run-alike im calls2 state)

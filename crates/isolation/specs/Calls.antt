@@ -1,0 +1,91 @@
+-- A sequence of calls on one table: openings, label changes, reads and updates, all lent the one image. Each step is what the public
+-- call of that kind answers.
+use Prim.Native.Nat.{ℕ, _*_}
+use mathlib.Core.List.{List, [], _∷_}
+use lib.ListN.{take}
+use Rattle.image.specs.declared.faults.Checked.{Checked}
+use Rattle.sessions.specs.Session.{SessionMarks}
+use Rattle.sessions.specs.Opening.{Opening, session, refused, openOf}
+use Rattle.sessions.specs.Changes.{setLabelOf, setRowLabelOf}
+use Rattle.rows.specs.Reading.{readRowsOf}
+use Rattle.rows.specs.Updating.{updateRowOf}
+use Rattle.rows.specs.declared.answers.RowsRead.{RowsRead}
+use Rattle.rows.specs.declared.answers.RowsRead.the-variants.{Done, Refused}
+
+-- ---- what is called
+-- the session that a call works on: the one returned last, or any other
+pub data Lending : Type 0 where
+  last : Lending
+  other : SessionMarks → Lending
+
+-- a read with its buffer as it was before; an update with n and a payload
+pub data RowCall : Type 0 where
+  reading : List ℕ → RowCall
+  updating : ℕ → List ℕ → RowCall
+
+-- an opening with a user name; a change of either label with a text; a row call with a width
+pub data Call : Type 0 where
+  opening : List ℕ → Call
+  settingLabel : Lending → List ℕ → Call
+  settingRowLabel : Lending → List ℕ → Call
+  onRows : Lending → ℕ → RowCall → Call
+
+-- ---- what a caller sees of it
+-- an opening's or a label change's session; a read's count with the first count times width bytes of its buffer; whether another row
+-- call was done; each refusal, which has its number and offset
+pub data Answer : Type 0 where
+  opened : Opening → Answer
+  relabelled : SessionMarks → Checked → Answer
+  rowsHanded : RowsRead → List ℕ → Answer
+  rowDone : Checked → Answer
+
+-- what stands between two calls: the table, and the session returned last. Before any is returned it is one that is given
+pub record State : Type 0 where
+  pub table : List ℕ
+  pub session : SessionMarks
+
+-- ---- one call
+-- the session that is lent to it
+abbrev pub lentSession : State → Lending → SessionMarks
+lentSession state last = state .session
+lentSession state (other s) = s
+
+-- a refused opening returns no session
+abbrev pub sessionAfter : Opening → SessionMarks → SessionMarks
+sessionAfter (session s) before = s
+sessionAfter (refused r) before = before
+
+-- the first count times width bytes of the buffer after a read
+abbrev pub bytesRead : RowsRead → ℕ → List ℕ → List ℕ
+bytesRead (Done count) width buffer = take (count * width) buffer
+bytesRead (Refused r) width buffer = []
+
+-- a row call: the table after it, and its answer
+unfoldable pub rowStep : List ℕ → SessionMarks → List ℕ → ℕ → RowCall → List ℕ × Answer
+rowStep im s table width (reading buffer) =
+    let result = readRowsOf im s table width buffer in (table, rowsHanded (result .0) (bytesRead (result .0) width (result .1)))
+rowStep im s table width (updating n payload) =
+    let result = updateRowOf im s table width n payload in (result .1, rowDone (result .0))
+
+-- any call: what stands after it, and its answer
+unfoldable pub step : List ℕ → State → Call → State × Answer
+step im state (opening name) =
+    let answer = openOf im name in
+    (record { table = state .table; session = sessionAfter answer (state .session) }, opened answer)
+step im state (settingLabel lending text) =
+    let result = setLabelOf im (lentSession state lending) text in
+    (record { table = state .table; session = result .0 }, relabelled (result .0) (result .1))
+step im state (settingRowLabel lending text) =
+    let result = setRowLabelOf im (lentSession state lending) text in
+    (record { table = state .table; session = result .0 }, relabelled (result .0) (result .1))
+step im state (onRows lending width call) =
+    let result = rowStep im (lentSession state lending) (state .table) width call in
+    (record { table = result .0; session = state .session }, result .1)
+
+-- ---- the whole sequence: what stands after it, and all answers in order
+unfoldable pub run : List ℕ → State → List Call → State × List Answer
+run im state [] = (state, [])
+run im state (call ∷ calls) =
+    let first = step im state call in
+    let rest = run im (first .0) calls in
+    (rest .0, first .1 ∷ rest .1)

@@ -1,0 +1,94 @@
+-- Demand 3, whole: hidden rows stay hidden. Two tables that agree on what a user could ever read give that user equal answers over any
+-- sequence of openings, label changes, reads and updates, and agree on it again at the end; every other row keeps its bytes and place.
+use Prim.Native.Nat.{ℕ, _<_}
+use mathlib.Core.Path.{_≡_}
+use mathlib.Core.Bool.{Bool, true, false, not, _&&_, _||_}
+use mathlib.Core.List.{List, [], _∷_, map}
+use lib.Dec.{eqb}
+use lib.ListN.{length, replicate, getD}
+use Rattle.image.specs.declared.faults.Checked.the-variants.{Accepted}
+use Rattle.access.specs.Verdicts.{readableAtMaximum}
+use Rattle.sessions.specs.Session.{SessionMarks}
+use Rattle.rows.specs.Table.{rowsOf, rowTag, kept, widthRule, tableShape}
+use Rattle.isolation.specs.Calls.{Lending, RowCall, reading, updating, Call, opening, settingLabel, settingRowLabel, onRows, State, lentSession, step, run}
+
+-- ---- what the user at place u could ever read
+abbrev pub everReadable : List ℕ → ℕ → List ℕ → Bool
+everReadable im u row = readableAtMaximum im u (rowTag row)
+
+-- the list: of whole rows, tags too, in table order, those readable at the maximum read label
+unfoldable pub listAtMaximum : List ℕ → ℕ → ℕ → List ℕ → List (List ℕ)
+listAtMaximum im u width table = kept (everReadable im u) (rowsOf width table)
+
+-- ---- the calls are that user's
+-- a session is a user's if it names that user's place; 19 may still refuse it
+abbrev pub ownSession : ℕ → SessionMarks → Bool
+ownSession u s = eqb (s .user) u
+
+-- every row call names the row width or one outside 5..512
+abbrev pub ownWidth : ℕ → ℕ → Bool
+ownWidth width named = eqb named width || not (widthRule named)
+
+-- a call that works on a session gets one of that user's; an opening takes any name
+unfoldable pub ownCall : ℕ → ℕ → State → Call → Bool
+ownCall u width state (opening name) = true
+ownCall u width state (settingLabel lending text) = ownSession u (lentSession state lending)
+ownCall u width state (settingRowLabel lending text) = ownSession u (lentSession state lending)
+ownCall u width state (onRows lending named call) = ownSession u (lentSession state lending) && ownWidth width named
+
+-- so does each call of the sequence, on what stands before it
+unfoldable pub ownCalls : List ℕ → ℕ → ℕ → State → List Call → Bool
+ownCalls im u width state [] = true
+ownCalls im u width state (call ∷ calls) = ownCall u width state call && ownCalls im u width (step im state call .0) calls
+
+-- ---- two sequences are alike: equal but for what the reads' buffers held before
+abbrev pub rowBufferZeroed : RowCall → RowCall
+rowBufferZeroed (reading buffer) = reading (replicate (length buffer) 0)
+rowBufferZeroed (updating n payload) = updating n payload
+
+-- the call with a read's buffer zeroed
+abbrev pub bufferZeroed : Call → Call
+bufferZeroed (opening name) = opening name
+bufferZeroed (settingLabel lending text) = settingLabel lending text
+bufferZeroed (settingRowLabel lending text) = settingRowLabel lending text
+bufferZeroed (onRows lending width call) = onRows lending width (rowBufferZeroed call)
+
+abbrev pub Alike : List Call → List Call → Type 0
+Alike calls1 calls2 = map bufferZeroed calls1 ≡ map bufferZeroed calls2
+
+-- ---- the claim
+-- a table and the session that counts as the last one before any is returned, the same in both runs
+abbrev pub started : List ℕ → SessionMarks → State
+started table s = record { table = table; session = s }
+
+-- The paper also has a well-formed image and a user who exists and has neither READ nor FULL. The claim needs none of these: a bad
+-- image refuses every call alike; a session of no user is refused 19; with READ or FULL every row is in the list, so the tables are equal
+pub record Premises (im : List ℕ) (u width : ℕ) (table1 table2 : List ℕ) (start : SessionMarks) (calls1 calls2 : List Call) : Type 0 where
+  -- 12 refuses neither table with the row width
+  pub table1-accepted : tableShape width table1 ≡ Accepted
+  pub table2-accepted : tableShape width table2 ≡ Accepted
+  pub lists-equal : listAtMaximum im u width table1 ≡ listAtMaximum im u width table2
+  pub calls-own : ownCalls im u width (started table1 start) calls1 ≡ true
+  pub calls-alike : Alike calls1 calls2
+
+-- the table after the sequence
+abbrev pub tableAfter : List ℕ → List ℕ → SessionMarks → List Call → List ℕ
+tableAfter im table start calls = run im (started table start) calls .0 .table
+
+-- every row that was outside the list keeps its bytes and its place, counted from 0 among all rows; the table keeps its length
+pub record HiddenKept (im : List ℕ) (u width : ℕ) (before after : List ℕ) : Type 0 where
+  pub same-length : length after ≡ length before
+  pub same-rows : (k : ℕ) → k < length (rowsOf width before) → everReadable im u (getD (rowsOf width before) k []) ≡ false
+      → getD (rowsOf width after) k [] ≡ getD (rowsOf width before) k []
+
+pub record Claim (im : List ℕ) (u width : ℕ) (table1 table2 : List ℕ) (start : SessionMarks) (calls1 calls2 : List Call) : Type 0 where
+  pub answers-equal : run im (started table1 start) calls1 .1 ≡ run im (started table2 start) calls2 .1
+  pub final-lists-equal : listAtMaximum im u width (tableAfter im table1 start calls1) ≡ listAtMaximum im u width (tableAfter im table2 start calls2)
+  pub hidden-kept1 : HiddenKept im u width table1 (tableAfter im table1 start calls1)
+  pub hidden-kept2 : HiddenKept im u width table2 (tableAfter im table2 start calls2)
+
+-- hidden rows stay hidden
+abbrev pub HiddenRows : Type 0
+HiddenRows =
+    (im : List ℕ) (u width : ℕ) (table1 table2 : List ℕ) (start : SessionMarks) (calls1 calls2 : List Call)
+    → Premises im u width table1 table2 start calls1 calls2 → Claim im u width table1 table2 start calls1 calls2

@@ -1,0 +1,10 @@
+-- Laws that several proofs use, and what the crates above may cite.
+pub mod Standing
+pub mod Scanning
+pub mod Adding
+pub mod Wide
+pub mod Finding
+pub mod Replacing
+pub mod Answered
+pub mod Giving
+pub mod Nth

@@ -1,0 +1,34 @@
+-- What the parts of the row calls do, one row at a time.
+use Prim.Native.Nat.{ℕ, zero, suc, _+_}
+use mathlib.Core.Path.{_≡_}
+use mathlib.Core.Bool.{Bool, true, cond}
+use mathlib.Core.List.{List, [], _∷_}
+use lib.ListN.{length}
+use Rattle.access.specs.Rights.{Rights, rightsOf}
+use Rattle.image.specs.Check.{IsAccepted}
+use Rattle.image.specs.declared.faults.Checked.the-variants as checked
+use Rattle.sessions.specs.Session.{SessionMarks, sessionRights}
+use Rattle.sessions.specs.declared.given.Lent.{Lent}
+use Rattle.sessions.specs.declared.given.Lent.the-variants.{At, Refused}
+use Rattle.rows.specs.Table.{rowReadable, tableRule, tableAnswer}
+
+-- what a row adds to a read: its bytes where it is readable
+unfoldable pub rowBytes : List ℕ → Rights → List ℕ → List ℕ
+rowBytes im rights row = cond (rowReadable im rights row) row []
+
+-- the offset of the n-th row that passes the test; the length of all rows where there is none
+unfoldable pub offsetOf : (List ℕ → Bool) → ℕ → List (List ℕ) → ℕ
+offsetOf test n [] = 0
+offsetOf test zero (row ∷ rows) = cond (test row) 0 (length row + offsetOf test zero rows)
+offsetOf test (suc n) (row ∷ rows) = length row + cond (test row) (offsetOf test n rows) (offsetOf test (suc n) rows)
+
+-- what code may take for granted once image, session and table are accepted
+pub record Asked (im : List ℕ) (width : ℕ) (table : List ℕ) : Type 0 where
+  pub accepted : IsAccepted im
+  pub whole : tableRule width table ≡ true
+
+-- what the code finds of a lent session and table: what the session gives its user, or the refusal
+abbrev pub TableGives : List ℕ → SessionMarks → ℕ → List ℕ → Lent → Type 0
+TableGives im s width table (At view) =
+    (tableAnswer im s width table ≡ checked.Accepted) × (Asked im width table × (rightsOf view ≡ sessionRights im s))
+TableGives im s width table (Refused r) = tableAnswer im s width table ≡ checked.Refused r

@@ -1,0 +1,8 @@
+// What row reads answer.
+use refusals::Refusal;
+
+// How many rows were read; or 1, 2, 3, 19, 12, 13.
+pub enum RowsRead {
+    Done(usize),
+    Refused(Refusal),
+}

@@ -1,0 +1,124 @@
+// A table's rows under a session: reads, updates and masked reads. Every call checks the image, the session and the table's shape.
+pub mod answers;
+mod masking;
+mod reading;
+mod scan;
+mod updating;
+
+ghost use mathlib.Core.Path.{_≡_};
+ghost use Rattle.sessions.specs.Session.{sessionOf};
+ghost use Rattle.rows.specs.Table.{tableRule};
+ghost use Rattle.rows.specs.Reading.{readRowsOf};
+ghost use Rattle.rows.specs.Updating.{updateRowOf};
+ghost use Rattle.rows.specs.Masked.{maskedVerdictOf, maskedPart};
+ghost use Rattle.rows.specs.Scan.{TableGives};
+use answers::RowsRead;
+use image::faults::Checked;
+use refusals::Refusal;
+use sessions::answers::Verdict;
+use sessions::given::Lent;
+use sessions::given::lent_rights;
+use sessions::session::Session;
+
+// A width is 5 to 512, and the table's length a multiple of it.
+fn table_ok(table: &[u8], width: usize) -> bool
+    ensures { λ r. ⌜ r ≡ tableRule width (now (table .entry)) ⌝ }
+{
+    if !((5 <= width) & (width <= 512)) {
+        return false;
+    }
+    table.len() % width == 0
+}
+
+// What the session gives its user; or 1, 2, 3, 19, 12.
+fn table_rights(image: &[u8], session: Session, table: &[u8], width: usize) -> Lent
+    ensures { λ r. ⌜ TableGives (now (image .entry)) (sessionOf session) width (now (table .entry)) r ⌝ }
+{
+    let mut ancestors = [0u64; 64];
+    let found = lent_rights(image, &mut ancestors, session);
+    match found {
+        Lent::At(view) => {
+            if !table_ok(table, width) {
+                return Lent::Refused(Refusal::TableShape);
+            }
+            Lent::At(view)
+        }
+        Lent::Refused(refusal) => Lent::Refused(refusal),
+    }
+}
+
+// Copies the rows that the session may read to the front of the buffer, whole and in table order, and tells how many. Refusals: 1, 2, 3,
+// 19, 12, 13; the buffer is then as it was.
+pub fn read(
+    image: &[u8],
+    session: Session,
+    table: &[u8],
+    width: usize,
+    buffer: &mut [u8],
+) -> RowsRead
+    ensures { λ r. ⌜ (r, now (buffer .exit)) ≡ readRowsOf (now (image .entry)) (sessionOf session) (now (table .entry)) width (now (buffer .entry)) ⌝ }
+{
+    let found = table_rights(image, session, table, width);
+    match found {
+        Lent::At(view) => reading::read_accepted(image, view, table, width, buffer),
+        Lent::Refused(refusal) => RowsRead::Refused(refusal),
+    }
+}
+
+// Replaces the payload of the n-th row, from 0, among those that the session may read. Refusals: 1, 2, 3, 19, 12, 16, 14, 15; the table is
+// then as it was.
+pub fn update(
+    image: &[u8],
+    session: Session,
+    table: &mut [u8],
+    width: usize,
+    n: usize,
+    payload: &[u8],
+) -> Checked
+    ensures { λ r. ⌜ (r, now (table .exit)) ≡ updateRowOf (now (image .entry)) (sessionOf session) (now (table .entry)) width n (now (payload .entry)) ⌝ }
+{
+    let found = table_rights(image, session, table, width);
+    match found {
+        Lent::At(view) => updating::update_accepted(image, view, table, width, n, payload),
+        Lent::Refused(refusal) => Checked::Refused(refusal),
+    }
+}
+
+// May the session read the row at that place, from 0, among all rows? It tells how `masked_read` ends. Refusals: 1, 2, 3, 19, 12, 14.
+pub fn masked_verdict(
+    image: &[u8],
+    session: Session,
+    table: &[u8],
+    width: usize,
+    place: usize,
+) -> Verdict
+    ensures { λ r. ⌜ r ≡ maskedVerdictOf (now (image .entry)) (sessionOf session) (now (table .entry)) width place ⌝ }
+{
+    let found = table_rights(image, session, table, width);
+    match found {
+        Lent::At(view) => masking::place_verdict(image, view, table, width, place),
+        Lent::Refused(refusal) => Verdict::Refused(refusal),
+    }
+}
+
+// The payload of the row at that place if the session may read it, otherwise the mask; an empty part where `masked_verdict` refuses.
+pub fn masked_read<'a>(
+    image: &[u8],
+    session: Session,
+    table: &'a [u8],
+    width: usize,
+    place: usize,
+    mask: &'a [u8],
+) -> &'a [u8]
+    ensures { λ r. ⌜ (r .ptr, now r) ≡ maskedPart (now (image .entry)) (sessionOf session) (table .entry) width place (mask .entry) ⌝ }
+{
+    let verdict = masked_verdict(image, session, table, width, place);
+    match verdict {
+        Verdict::Yes => {
+            let at = place * width;
+            &table[at + 4..at + width]
+        }
+        Verdict::No => mask,
+        Verdict::Refused(_refusal) => &mask[0..0],
+    }
+}

@@ -1,0 +1,122 @@
+// Rows of a table that is accepted, one after the other.
+ghost use Prim.Native.Nat.{_+_, _-_, _≤_};
+ghost use mathlib.Core.Path.{_≡_};
+ghost use mathlib.Core.Bool.{cond};
+ghost use mathlib.Core.List.{flatten};
+ghost use lib.ListN.{length};
+ghost use Rattle.image.specs.Check.{IsAccepted};
+ghost use Rattle.access.specs.Rights.{rightsOf};
+ghost use Rattle.buffers.specs.Pasting.{Written};
+ghost use Rattle.rows.specs.Table.{rowsOf, rowReadable, rowWritable, readableRows};
+ghost use Rattle.rows.specs.Scan.{rowBytes, offsetOf, Asked};
+use access::rights::View;
+use access::verdicts;
+use buffers::put;
+use fields::numbers::number4;
+
+// The row's tag decides.
+pub fn is_readable(image: &[u8], view: View, row: &[u8]) -> bool
+    requires { ⌜ IsAccepted (now image) × (4 ≤ length (now row)) ⌝ }
+    ensures { λ r. ⌜ r ≡ rowReadable (now (image .entry)) (rightsOf view) (now (row .entry)) ⌝ }
+{
+    verdicts::may_read(image, view, number4(row, 0))
+}
+
+pub fn is_writable(image: &[u8], view: View, row: &[u8]) -> bool
+    requires { ⌜ IsAccepted (now image) × (4 ≤ length (now row)) ⌝ }
+    ensures { λ r. ⌜ r ≡ rowWritable (now (image .entry)) (rightsOf view) (now (row .entry)) ⌝ }
+{
+    verdicts::may_write(image, view, number4(row, 0))
+}
+
+// How many bytes a row adds to a read.
+fn row_length(image: &[u8], view: View, row: &[u8]) -> usize
+    requires { ⌜ IsAccepted (now image) × (4 ≤ length (now row)) ⌝ }
+    ensures { λ r. ⌜ r ≡ length (rowBytes (now (image .entry)) (rightsOf view) (now (row .entry))) ⌝ }
+{
+    if is_readable(image, view, row) {
+        return row.len();
+    }
+    0
+}
+
+// How many bytes the readable rows have.
+pub fn readable_length(image: &[u8], view: View, table: &[u8], width: usize) -> usize
+    requires { ⌜ Asked (now image) width (now table) ⌝ }
+    ensures { λ r. ⌜ r ≡ length (flatten (readableRows (now (image .entry)) (rightsOf view) width (now (table .entry)))) ⌝ }
+{
+    let mut n = 0;
+    let mut at = 0;
+    while at < table.len() {
+        let end = at + width;
+        n += row_length(image, view, &table[at..end]);
+        at = end;
+    }
+    n
+}
+
+// Writes what a row adds to a read over the buffer's bytes from `at` on, and tells where it ends.
+fn copy_row(image: &[u8], view: View, row: &[u8], buffer: &mut [u8], at: usize) -> usize
+    requires { ⌜ IsAccepted (now image) × (4 ≤ length (now row)) ⌝ }
+    requires { ⌜ at + length (rowBytes (now image) (rightsOf view) (now row)) ≤ length (now buffer) ⌝ }
+    ensures { λ r. ⌜ Written (now (buffer .entry)) at (rowBytes (now (image .entry)) (rightsOf view) (now (row .entry))) (now (buffer .exit)) r ⌝ }
+{
+    if is_readable(image, view, row) {
+        return put(row, buffer, at);
+    }
+    at
+}
+
+// Writes the readable rows to the front of the buffer, and tells where they end.
+pub fn copy_readable(
+    image: &[u8],
+    view: View,
+    table: &[u8],
+    width: usize,
+    buffer: &mut [u8],
+) -> usize
+    requires { ⌜ Asked (now image) width (now table) ⌝ }
+    requires { ⌜ length (flatten (readableRows (now image) (rightsOf view) width (now table))) ≤ length (now buffer) ⌝ }
+    ensures { λ r. ⌜ Written (now (buffer .entry)) 0 (flatten (readableRows (now (image .entry)) (rightsOf view) width (now (table .entry)))) (now (buffer .exit)) r ⌝ }
+{
+    let mut to = 0;
+    let mut at = 0;
+    while at < table.len() {
+        let end = at + width;
+        to = copy_row(image, view, &table[at..end], buffer, to);
+        at = end;
+    }
+    to
+}
+
+// How many readable rows are still to be passed after a row.
+fn left_after(left: usize, readable: bool) -> usize
+    ensures { λ r. ⌜ r ≡ cond readable (left - 1) left ⌝ }
+{
+    if !readable {
+        return left;
+    }
+    if left == 0 {
+        return 0;
+    }
+    left - 1
+}
+
+// The offset of the n-th readable row; the table's length where there is none.
+pub fn nth_readable(image: &[u8], view: View, table: &[u8], width: usize, n: usize) -> usize
+    requires { ⌜ Asked (now image) width (now table) ⌝ }
+    ensures { λ r. ⌜ r ≡ offsetOf (rowReadable (now (image .entry)) (rightsOf view)) n (rowsOf width (now (table .entry))) ⌝ }
+{
+    let mut left = n;
+    let mut at = 0;
+    while at < table.len() {
+        let end = at + width;
+        let readable = is_readable(image, view, &table[at..end]);
+        if readable & (left == 0) {
+            return at;
+        }
+        left = left_after(left, readable);
+        at = end;
+    }
+    at
+}

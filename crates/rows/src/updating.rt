@@ -1,0 +1,37 @@
+// Updating a row of a table that is accepted.
+ghost use mathlib.Core.Path.{_≡_};
+ghost use Rattle.access.specs.Rights.{rightsOf};
+ghost use Rattle.rows.specs.Updating.{updateWith};
+ghost use Rattle.rows.specs.Scan.{Asked};
+use crate::scan::is_writable;
+use crate::scan::nth_readable;
+use access::rights::View;
+use buffers::put;
+use image::faults::Checked;
+use refusals::Refusal;
+
+// 16, 14, 15; otherwise the payload of the n-th readable row is replaced.
+pub fn update_accepted(
+    image: &[u8],
+    view: View,
+    table: &mut [u8],
+    width: usize,
+    n: usize,
+    payload: &[u8],
+) -> Checked
+    requires { ⌜ Asked (now image) width (now table) ⌝ }
+    ensures { λ r. ⌜ (r, now (table .exit)) ≡ updateWith (now (image .entry)) (rightsOf view) (now (table .entry)) width n (now (payload .entry)) ⌝ }
+{
+    if payload.len() != width - 4 {
+        return Checked::Refused(Refusal::PayloadLength);
+    }
+    let at = nth_readable(image, view, table, width, n);
+    if table.len() <= at {
+        return Checked::Refused(Refusal::NoRow);
+    }
+    if !is_writable(image, view, &table[at..at + width]) {
+        return Checked::Refused(Refusal::RowNotWritable);
+    }
+    put(payload, table, at + 4);
+    Checked::Accepted
+}

@@ -1,0 +1,79 @@
+-- Two tables of the sample co-operative that differ only in rows hidden from MARA, and a sequence of her calls: an instance of the
+-- claim that hidden rows stay hidden.
+use Prim.Native.Nat.{ℕ}
+use mathlib.Core.List.{List, [], _∷_, flatten}
+use lib.ListN.{replicate}
+use Rattle.labels.specs.Label.{Marks}
+use Rattle.sessions.specs.Session.{SessionMarks}
+use Rattle.isolation.specs.Calls.{last, other, reading, updating, Call, opening, settingLabel, onRows}
+
+-- ---- two tables of width 6
+-- a row: a tag below 256, and two bytes of payload
+abbrev pub row : ℕ → ℕ → ℕ → List ℕ
+row tag a b = tag ∷ 0 ∷ 0 ∷ 0 ∷ a ∷ b ∷ []
+
+-- what MARA could ever read of either: two rows of CREW:KILN:DOCK and one of OPEN
+abbrev pub seen : List (List ℕ)
+seen = row 10 65 66 ∷ row 30 67 68 ∷ row 10 69 70 ∷ []
+
+-- with one row of CREW::WORKS and one of tag 0
+abbrev pub rows1 : List (List ℕ)
+rows1 = row 10 65 66 ∷ row 20 1 2 ∷ row 30 67 68 ∷ row 10 69 70 ∷ row 0 3 4 ∷ []
+
+-- with two rows of CREW::WORKS, one of tag 0 and one of tag 77, which no label has, at other places
+abbrev pub rows2 : List (List ℕ)
+rows2 = row 77 9 9 ∷ row 10 65 66 ∷ row 30 67 68 ∷ row 20 7 8 ∷ row 0 5 6 ∷ row 10 69 70 ∷ row 20 5 6 ∷ []
+
+unfoldable pub table1 : List ℕ
+table1 = flatten rows1
+
+unfoldable pub table2 : List ℕ
+table2 = flatten rows2
+
+-- ---- MARA's sessions
+abbrev marks : ℕ → ℕ → ℕ → Marks
+marks l c g = record { level = l; compartments = c; groups = g }
+
+-- VAULT:KILN:DOCK with row label CREW:KILN:DOCK
+abbrev pub vaulted : SessionMarks
+vaulted = record { user = 0; label = marks 2 1 4; row = marks 1 1 4 }
+
+-- OPEN, below her minimum level: 19 refuses it
+abbrev pub tooLow : SessionMarks
+tooLow = record { user = 0; label = marks 0 0 0; row = marks 1 1 4 }
+
+-- before any session is returned: no user has place 9
+abbrev pub noSession : SessionMarks
+noSession = record { user = 9; label = marks 0 0 0; row = marks 0 0 0 }
+
+-- ---- her calls
+-- MARA
+abbrev pub nameMara : List ℕ
+nameMara = 77 ∷ 65 ∷ 82 ∷ 65 ∷ []
+
+-- MARK: no user has that name
+abbrev pub nameMark : List ℕ
+nameMark = 77 ∷ 65 ∷ 82 ∷ 75 ∷ []
+
+-- VAULT:KILN:DOCK
+abbrev pub labelVault : List ℕ
+labelVault = 86 ∷ 65 ∷ 85 ∷ 76 ∷ 84 ∷ 58 ∷ 75 ∷ 73 ∷ 76 ∷ 78 ∷ 58 ∷ 68 ∷ 79 ∷ 67 ∷ 75 ∷ []
+
+-- CREW:GLAZE:NORTH
+abbrev pub labelGlaze : List ℕ
+labelGlaze = 67 ∷ 82 ∷ 69 ∷ 87 ∷ 58 ∷ 71 ∷ 76 ∷ 65 ∷ 90 ∷ 69 ∷ 58 ∷ 78 ∷ 79 ∷ 82 ∷ 84 ∷ 72 ∷ []
+
+-- the bytes that the reads' buffers held before, 20 each, are all that differs between two such sequences
+abbrev pub calls : ℕ → List Call
+calls byte =
+    opening nameMara
+    ∷ opening nameMark
+    ∷ onRows last 6 (reading (replicate 20 byte))
+    ∷ onRows last 6 (updating 2 (88 ∷ 89 ∷ []))
+    ∷ onRows last 6 (updating 1 (88 ∷ 89 ∷ []))
+    ∷ settingLabel last labelVault
+    ∷ settingLabel last labelGlaze
+    ∷ onRows last 4 (reading (replicate 20 byte))
+    ∷ onRows (other tooLow) 6 (reading (replicate 20 byte))
+    ∷ onRows last 6 (reading (replicate 20 byte))
+    ∷ []
