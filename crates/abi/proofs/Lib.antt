@@ -1,3 +1,4 @@
 pub mod Lending
 pub mod Told
 pub mod WideSessions
+pub mod Rows

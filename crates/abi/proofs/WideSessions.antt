@@ -79,7 +79,7 @@ module _ (im bytes : List ℕ) where
       at true e = absurd (wide _ _ refl refl (sym (ap (λ (t : Bool). t && eqb (high (part bytes 8 48)) 0 && eqb (high (part bytes 56 48)) 0) one) ∙ unfit) e)
       at false e = refl
 
-  unfit-lent : oneUser bytes ≡ true → sessionFits bytes ≡ false → lentAnswer im (sessionIn bytes) ≡ onChecked (checkOf im) Refused (Refused SessionRules)
+  pub unfit-lent : oneUser bytes ≡ true → sessionFits bytes ≡ false → lentAnswer im (sessionIn bytes) ≡ onChecked (checkOf im) Refused (Refused SessionRules)
   unfolding lentAnswer
   unfit-lent one unfit = at (checkOf im) refl
     where

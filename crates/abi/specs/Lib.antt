@@ -2,4 +2,5 @@
 pub mod Answers
 pub mod Labels
 pub mod Sessions
+pub mod Tables
 pub mod TwoLabels

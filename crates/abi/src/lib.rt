@@ -5,6 +5,7 @@ ghost use Rattle.refusals.specs.Refusals.{placeOf};
 ghost use Rattle.abi.specs.Answers.{afterCheck, checkAnswer, nameSpan};
 ghost use Rattle.abi.specs.Labels.{parseAnswer, printAnswer};
 ghost use Rattle.abi.specs.Sessions.{openAnswer, setLabelAnswer, setRowLabelAnswer, mayReadAnswer, mayWriteAnswer};
+ghost use Rattle.abi.specs.Tables.{readAnswer, updateAnswer, maskedAnswer};
 ghost use Rattle.abi.specs.TwoLabels.{dominatesAnswer, strictlyDominatesAnswer, mergeAnswer};
 use dominance::merging::Merged;
 use encoding::answers::refused;
@@ -16,6 +17,7 @@ use image::lookup;
 use labels::answers::Parsed;
 use printing::printing::Printed;
 use refusals::Refusal;
+use rows::answers::RowsRead;
 use sessions::answers::Opened;
 
 // Is the image accepted? Done: 0.
@@ -148,6 +150,74 @@ pub extern "C" fn brawnesk_may_write(image: &[u8], session: &[u8; 104], tag: u32
         return after_check(image, Refusal::SessionRules);
     }
     verdict_code(bytes104::session_in(session).may_write(image, tag))
+}
+
+// Copies the rows that the session may read to the front of `out`. Done: how many.
+#[no_mangle]
+pub extern "C" fn brawnesk_read(
+    image: &[u8],
+    session: &[u8; 104],
+    table: &[u8],
+    width: usize,
+    out: &mut [u8],
+) -> u64
+    ensures { λ r. ⌜ (r, now (out .exit)) ≡ readAnswer (now (image .entry)) (now (session .entry)) (now (table .entry)) width (now (out .entry)) ⌝ }
+{
+    if !bytes104::session_fits(session) {
+        return after_check(image, Refusal::SessionRules);
+    }
+    let answer = rows::read(image, bytes104::session_in(session), table, width, out);
+    match answer {
+        RowsRead::Done(count) => count as u64,
+        RowsRead::Refused(r) => refused(r),
+    }
+}
+
+// Replaces the payload of the n-th row, from 0, among those that the session may read. Done: 0.
+#[no_mangle]
+pub extern "C" fn brawnesk_update(
+    image: &[u8],
+    session: &[u8; 104],
+    table: &mut [u8],
+    width: usize,
+    n: usize,
+    payload: &[u8],
+) -> u64
+    ensures { λ r. ⌜ (r, now (table .exit)) ≡ updateAnswer (now (image .entry)) (now (session .entry)) (now (table .entry)) width n (now (payload .entry)) ⌝ }
+{
+    if !bytes104::session_fits(session) {
+        return after_check(image, Refusal::SessionRules);
+    }
+    let answer = rows::update(
+        image,
+        bytes104::session_in(session),
+        table,
+        width,
+        n,
+        payload,
+    );
+    match answer {
+        Checked::Accepted => 0,
+        Checked::Refused(r) => refused(r),
+    }
+}
+
+// Is the row at that place, from 0, among all rows handed out? Done: 1, its payload, at place × width + 4; 0, the mask.
+#[no_mangle]
+pub extern "C" fn brawnesk_masked(
+    image: &[u8],
+    session: &[u8; 104],
+    table: &[u8],
+    width: usize,
+    place: usize,
+    _mask: &[u8],
+) -> u64
+    ensures { λ r. ⌜ r ≡ maskedAnswer (now (image .entry)) (now (session .entry)) (now (table .entry)) width place ⌝ }
+{
+    if !bytes104::session_fits(session) {
+        return after_check(image, Refusal::SessionRules);
+    }
+    verdict_code(rows::masked_verdict(image, bytes104::session_in(session), table, width, place))
 }
 
 // Does label 1 dominate label 2? 1 yes, 0 no.
