@@ -62,7 +62,12 @@ impl CallTally {
             Answer::Done(0) => "no".to_string(),
             Answer::Done(_) => "yes".to_string(),
         };
-        *self.0.entry((call, outcome)).or_default() += 1;
+        self.count(call, outcome);
+    }
+
+    /// Counts an outcome by its own name.
+    pub fn count(&mut self, call: &'static str, outcome: impl Into<String>) {
+        *self.0.entry((call, outcome.into())).or_default() += 1;
     }
 
     pub fn times(&self, call: &'static str, outcome: &str) -> usize {

@@ -44,6 +44,7 @@ macro_rules! functions {
 
         $(
             #[cfg(no_library)]
+            #[allow(clippy::too_many_arguments)]
             unsafe fn $name($(_: $type),*) -> u64 {
                 panic!("{ABSENT}")
             }
@@ -91,6 +92,38 @@ functions! {
     );
     fn brawnesk_may_read(image: *const u8, length: usize, session: *const u8, tag: u32);
     fn brawnesk_may_write(image: *const u8, length: usize, session: *const u8, tag: u32);
+    fn brawnesk_read(
+        image: *const u8,
+        length: usize,
+        session: *const u8,
+        table: *const u8,
+        table_length: usize,
+        width: usize,
+        out: *mut u8,
+        out_length: usize,
+    );
+    fn brawnesk_update(
+        image: *const u8,
+        length: usize,
+        session: *const u8,
+        table: *mut u8,
+        table_length: usize,
+        width: usize,
+        n: usize,
+        payload: *const u8,
+        payload_length: usize,
+    );
+    fn brawnesk_masked(
+        image: *const u8,
+        length: usize,
+        session: *const u8,
+        table: *const u8,
+        table_length: usize,
+        width: usize,
+        place: usize,
+        mask: *const u8,
+        mask_length: usize,
+    );
     fn brawnesk_dominates(first: *const u8, second: *const u8);
     fn brawnesk_strictly_dominates(first: *const u8, second: *const u8);
     fn brawnesk_merge(
@@ -167,6 +200,59 @@ pub fn may_read(image: &[u8], session: &[u8; SESSION], tag: u32) -> Answer {
 pub fn may_write(image: &[u8], session: &[u8; SESSION], tag: u32) -> Answer {
     let (image, length) = (image.as_ptr(), image.len());
     Answer::decode(unsafe { brawnesk_may_write(image, length, session.as_ptr(), tag) })
+}
+
+/// `brawnesk_read`: when done, the count of the rows at the front of `out`.
+pub fn read(
+    image: &[u8],
+    session: &[u8; SESSION],
+    table: &[u8],
+    width: usize,
+    out: &mut [u8],
+) -> Answer {
+    let (image, length) = (image.as_ptr(), image.len());
+    let (table, rows) = (table.as_ptr(), table.len());
+    let (out, room) = (out.as_mut_ptr(), out.len());
+    let session = session.as_ptr();
+    Answer::decode(unsafe { brawnesk_read(image, length, session, table, rows, width, out, room) })
+}
+
+/// `brawnesk_update`: when done, row n of the readable ones has the payload.
+pub fn update(
+    image: &[u8],
+    session: &[u8; SESSION],
+    table: &mut [u8],
+    width: usize,
+    n: usize,
+    payload: &[u8],
+) -> Answer {
+    let (image, length) = (image.as_ptr(), image.len());
+    let (table, rows) = (table.as_mut_ptr(), table.len());
+    let (payload, size) = (payload.as_ptr(), payload.len());
+    let session = session.as_ptr();
+    Answer::decode(unsafe {
+        brawnesk_update(image, length, session, table, rows, width, n, payload, size)
+    })
+}
+
+/// `brawnesk_masked`: when done, 1 for the payload, which is at place * width + 4, and 0 for the mask.
+pub fn masked(
+    image: &[u8],
+    session: &[u8; SESSION],
+    table: &[u8],
+    width: usize,
+    place: usize,
+    mask: &[u8],
+) -> Answer {
+    let (image, length) = (image.as_ptr(), image.len());
+    let (table, rows) = (table.as_ptr(), table.len());
+    let (mask, size) = (mask.as_ptr(), mask.len());
+    let session = session.as_ptr();
+    Answer::decode(unsafe {
+        brawnesk_masked(
+            image, length, session, table, rows, width, place, mask, size,
+        )
+    })
 }
 
 /// `brawnesk_dominates`: 1 for yes and 0 for no.

@@ -1,17 +1,19 @@
 //! Tests of the compiled library against a second implementation, the model, which follows
 //! document 01 and shares no code with the library.
 //!
-//! - `model`: the rules of an image, of label text, of sessions, of verdicts and of two labels, as the
-//!   document states them.
+//! - `model`: the rules of an image, of label text, of sessions, of verdicts, of tables and of two
+//!   labels, as the document states them.
 //! - `builder`: well-formed policies and their images.
 //! - `damage`: for each rule of an image, a change that breaks it.
 //! - `cases`: images by seed, for comparing.
 //! - `texts`: label texts and labels by seed, for comparing.
 //! - `walk`: calls on sessions by seed, for comparing.
+//! - `tables`: calls on rows by seed, for comparing.
+//! - `hidden`: two tables with different hidden rows, and one sequence of calls on each, by seed.
 //! - `pairs`: two labels and merge letters by seed, for comparing.
 //! - `vectors`: cases with outside answers.
 //! - `ffi`: the compiled library.
-//! - `calls`: calls as values, for the library and for the model.
+//! - `calls`, `row_calls`: calls as values, for the library and for the model.
 //! - `compare`: the answers of both.
 
 pub mod builder;
@@ -20,9 +22,12 @@ pub mod cases;
 pub mod compare;
 pub mod damage;
 pub mod ffi;
+pub mod hidden;
 pub mod model;
 pub mod pairs;
 pub mod rng;
+pub mod row_calls;
+pub mod tables;
 pub mod texts;
 pub mod vectors;
 pub mod walk;

@@ -1,12 +1,13 @@
-//! The rules of a policy image, of label text, of sessions, of verdicts and of two labels, written
-//! from document 01 section by section, without a thought for speed. Nothing here is shared with the
-//! library or with the builder of images.
+//! The rules of a policy image, of label text, of sessions, of verdicts, of tables and of two labels,
+//! written from document 01 section by section, without a thought for speed. Nothing here is shared
+//! with the library or with the builder of images.
 
 mod groups;
 mod label;
 mod layout;
 mod records;
 mod session;
+mod table;
 mod text;
 mod two_labels;
 mod user;
@@ -15,9 +16,10 @@ mod verdict;
 pub use label::Label;
 pub use layout::Image;
 pub use session::{open, set_label, set_row_label, Session};
+pub use table::{masked, read, update, Masked};
 pub use text::{parse, print, print_within};
 pub use two_labels::{dominates, merge, strictly_dominates};
-pub use verdict::{may_read, may_write};
+pub use verdict::{may_read, may_read_at_maximum, may_write};
 
 use layout::{Kind, Run, BLOCK};
 
@@ -46,8 +48,16 @@ pub enum Refusal {
     Groups,
     /// 11: the row label would stand outside the new write sets or above the new level.
     RowLabel,
+    /// 12: a width isn't 5..512, or the table's length isn't a multiple of it.
+    Width,
     /// 13: the result is longer than its buffer.
     Room,
+    /// 14: no row n.
+    Row,
+    /// 15: row n isn't writable.
+    RowWrite,
+    /// 16: a payload's length isn't width minus 4.
+    Payload,
     /// 17: merge letters aren't three of those allowed.
     Letters,
     /// 18: a lent label, or a class and place, names a component that the policy lacks.
@@ -70,7 +80,11 @@ impl Refusal {
             Refusal::Compartments => 9,
             Refusal::Groups => 10,
             Refusal::RowLabel => 11,
+            Refusal::Width => 12,
             Refusal::Room => 13,
+            Refusal::Row => 14,
+            Refusal::RowWrite => 15,
+            Refusal::Payload => 16,
             Refusal::Letters => 17,
             Refusal::Component => 18,
             Refusal::Session => 19,

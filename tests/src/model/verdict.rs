@@ -7,19 +7,39 @@ use super::session::{user_of, Session};
 use super::user::{Privilege, User};
 use super::Refusal;
 
-/// Whether the session may read a row with the tag. "READ (reading only) and FULL (both) see every
-/// row, tag 0 and unknown tags too. Otherwise those two tags are denied."
+/// Whether the session may read a row with the tag.
 pub fn may_read(image: &Image, session: &Session, tag: u32) -> Result<bool, Refusal> {
     let user = user_of(image, session)?;
+    Ok(reads(image, &user, &session.label, tag))
+}
+
+/// "The maximum read label is the user's maximum level with the read compartments and read groups;
+/// what is readable at it follows the same rules, COMPACCESS included." A user is given by its place;
+/// where there is none, nothing is readable.
+pub fn may_read_at_maximum(image: &Image, user: usize, tag: u32) -> bool {
+    let Some(user) = User::at(image, user) else {
+        return false;
+    };
+    let maximum = Label {
+        level: user.maximum,
+        compartments: user.read.compartments.clone(),
+        groups: user.read.groups.clone(),
+    };
+    reads(image, &user, &maximum, tag)
+}
+
+/// Reading at a session label. "READ (reading only) and FULL (both) see every row, tag 0 and unknown
+/// tags too. Otherwise those two tags are denied."
+fn reads(image: &Image, user: &User, label: &Label, tag: u32) -> bool {
     if user.has(Privilege::Read) || user.has(Privilege::Full) {
-        return Ok(true);
+        return true;
     }
     let Some(row) = label_with(image, tag) else {
-        return Ok(false);
+        return false;
     };
     let by_compartments =
-        user.has(Privilege::CompAccess) && is_readable_by_compartments(&session.label, &row);
-    Ok(by_compartments || is_readable(image, &session.label, &row))
+        user.has(Privilege::CompAccess) && is_readable_by_compartments(label, &row);
+    by_compartments || is_readable(image, label, &row)
 }
 
 /// Whether the session may write a row with the tag.

@@ -2,11 +2,13 @@
 //! opened, changed and asked, whole and broken, with the policy's image and with damaged ones.
 
 mod breaks;
+mod bytes;
 mod policy;
 mod tally;
 mod wishes;
 
 pub use breaks::Break;
+pub use bytes::{label_at, spoil_unused, LABEL_AT, ROW_AT};
 pub use policy::policy;
 pub use tally::WalkTally;
 
@@ -14,14 +16,11 @@ use crate::builder::{letters, to_image, Label, Policy};
 use crate::calls::Call;
 use crate::damage::{Damage, Draft};
 use crate::ffi::{Answer, SESSION};
-use crate::model;
+use crate::model::{self, Image, Refusal};
 use crate::rng::Rng;
 use crate::texts;
+use bytes::set_bit;
 use wishes::View;
-
-/// Where the session label and the row label begin in a session.
-pub const LABEL_AT: usize = 8;
-pub const ROW_AT: usize = 56;
 
 /// How many sessions a walk remembers.
 const REMEMBERED: usize = 8;
@@ -49,10 +48,7 @@ pub fn each_call(seed: u64, count: usize, mut see: impl FnMut(&Step)) {
         let lent = walk.session();
         let call = walk.call(&lent);
         let mut session = lent;
-        let answer = call.by_model(&checked[image], &mut session);
-        if !call.is_verdict() && answer == Answer::Done(0) {
-            walk.keep(session);
-        }
+        let answer = walk.go(&call, &checked[image], &mut session);
         see(&Step {
             image: &images[image],
             lent,
@@ -65,25 +61,53 @@ pub fn each_call(seed: u64, count: usize, mut see: impl FnMut(&Step)) {
     }
 }
 
-struct Walk {
-    policy: Policy,
-    rng: Rng,
+/// A way through the sessions of a policy's users.
+pub struct Walk {
+    pub policy: Policy,
+    pub rng: Rng,
     /// Sessions that calls handed out.
     sessions: Vec<[u8; SESSION]>,
 }
 
 impl Walk {
-    fn new(seed: u64) -> Walk {
+    pub fn new(seed: u64) -> Walk {
         let mut rng = Rng::new(seed);
+        Walk::of(policy(&mut rng), rng)
+    }
+
+    pub fn of(policy: Policy, rng: Rng) -> Walk {
         Walk {
-            policy: policy(&mut rng),
+            policy,
             rng,
             sessions: Vec::new(),
         }
     }
 
+    /// Makes some calls on the image, so that there are sessions to remember.
+    pub fn wander(&mut self, image: &Result<Image, Refusal>, calls: usize) {
+        for _ in 0..calls {
+            let mut session = self.session();
+            let call = self.call(&session);
+            self.go(&call, image, &mut session);
+        }
+    }
+
+    /// The model's answer. A session that is handed out is remembered.
+    fn go(
+        &mut self,
+        call: &Call,
+        image: &Result<Image, Refusal>,
+        session: &mut [u8; SESSION],
+    ) -> Answer {
+        let answer = call.by_model(image, session);
+        if !call.is_verdict() && answer == Answer::Done(0) {
+            self.keep(*session);
+        }
+        answer
+    }
+
     /// The policy's image, and damaged ones that are refused by 1, by 2 and by 3.
-    fn images(&mut self) -> Vec<Vec<u8>> {
+    pub fn images(&mut self) -> Vec<Vec<u8>> {
         let mut images = vec![to_image(&self.policy)];
         for number in 1..=3 {
             images.push(damaged(&self.policy, number, &mut self.rng));
@@ -91,7 +115,7 @@ impl Walk {
         images
     }
 
-    fn image(&mut self) -> usize {
+    pub fn image(&mut self) -> usize {
         match self.rng.index(16) {
             0 => self.rng.range(1, 3),
             _ => 0,
@@ -100,7 +124,7 @@ impl Walk {
 
     /// Mostly one that was handed out; some are broken then, or given to another user. Bytes that are
     /// not looked at often hold anything.
-    fn session(&mut self) -> [u8; SESSION] {
+    pub fn session(&mut self) -> [u8; SESSION] {
         let rng = &mut self.rng;
         if self.sessions.is_empty() || rng.once_in(40) {
             return noise(self.policy.users.len(), rng);
@@ -125,15 +149,23 @@ impl Walk {
                 Call::Open(self.name())
             }
             0..=2 => Call::Open(self.name()),
-            3..=7 => Call::SetLabel(self.text(session, wishes::session_label)),
-            8..=11 => Call::SetRowLabel(self.text(session, wishes::row_label)),
+            3..=7 => self.new_label(session),
+            8..=11 => self.new_row_label(session),
             12..=15 => Call::MayRead(self.tag()),
             _ => Call::MayWrite(self.tag()),
         }
     }
 
+    pub fn new_label(&mut self, session: &[u8; SESSION]) -> Call {
+        Call::SetLabel(self.text(session, wishes::session_label))
+    }
+
+    pub fn new_row_label(&mut self, session: &[u8; SESSION]) -> Call {
+        Call::SetRowLabel(self.text(session, wishes::row_label))
+    }
+
     /// Mostly a user's name, else one near it or one that can be no user's.
-    fn name(&mut self) -> Vec<u8> {
+    pub fn name(&mut self) -> Vec<u8> {
         let rng = &mut self.rng;
         let Some(user) = rng.place(0, self.policy.users.len()) else {
             return letters(rng.range(0, 40), rng).into_bytes();
@@ -179,7 +211,7 @@ impl Walk {
     }
 
     /// Mostly a known tag; else 0, one over all tags, any, or one bit from a known one.
-    fn tag(&mut self) -> u32 {
+    pub fn tag(&mut self) -> u32 {
         let rng = &mut self.rng;
         let known = match rng.place(0, self.policy.labels.len()) {
             Some(place) => self.policy.labels[place].tag,
@@ -201,7 +233,7 @@ impl Walk {
         self.sessions[self.rng.index(REMEMBERED)] = session;
     }
 
-    fn privileges(&self, session: &[u8; SESSION]) -> Option<u8> {
+    pub fn privileges(&self, session: &[u8; SESSION]) -> Option<u8> {
         let user = self.policy.users.get(usize::from(session[0]))?;
         Some(user.privileges)
     }
@@ -236,31 +268,4 @@ fn noise(users: usize, rng: &mut Rng) -> [u8; SESSION] {
         session[..2].fill(rng.index(users.max(1)) as u8);
     }
     session
-}
-
-/// Any bytes where none is looked at.
-pub fn spoil_unused(session: &mut [u8; SESSION], rng: &mut Rng) {
-    session[2..LABEL_AT].fill_with(|| rng.byte());
-    for label in [LABEL_AT, ROW_AT] {
-        session[label..label + 4].fill_with(|| rng.byte());
-        session[label + 5..label + 8].fill_with(|| rng.byte());
-    }
-}
-
-/// The label at an offset of a session, with groups up to 64.
-pub fn label_at(session: &[u8; SESSION], at: usize) -> Label {
-    let set = |at: usize| {
-        let bytes = session[at..at + 8].iter().rev();
-        bytes.fold(0, |set, &byte| set << 8 | u64::from(byte))
-    };
-    Label {
-        tag: 0,
-        level: session[at + 4],
-        compartments: set(at + 8),
-        groups: set(at + 16),
-    }
-}
-
-fn set_bit(session: &mut [u8; SESSION], at: usize, place: usize) {
-    session[at + place / 8] |= 1 << (place % 8);
 }

@@ -1,0 +1,37 @@
+//! The parts of a session in its bytes.
+
+use crate::builder::Label;
+use crate::ffi::SESSION;
+use crate::rng::Rng;
+
+/// Where the session label and the row label begin in a session.
+pub const LABEL_AT: usize = 8;
+pub const ROW_AT: usize = 56;
+
+/// Any bytes where none is looked at.
+pub fn spoil_unused(session: &mut [u8; SESSION], rng: &mut Rng) {
+    session[2..LABEL_AT].fill_with(|| rng.byte());
+    for label in [LABEL_AT, ROW_AT] {
+        session[label..label + 4].fill_with(|| rng.byte());
+        session[label + 5..label + 8].fill_with(|| rng.byte());
+    }
+}
+
+/// The label at an offset of a session, with groups up to 64.
+pub fn label_at(session: &[u8; SESSION], at: usize) -> Label {
+    let set = |at: usize| {
+        let bytes = session[at..at + 8].iter().rev();
+        bytes.fold(0, |set, &byte| set << 8 | u64::from(byte))
+    };
+    Label {
+        tag: 0,
+        level: session[at + 4],
+        compartments: set(at + 8),
+        groups: set(at + 16),
+    }
+}
+
+/// Adds a place to the set that begins at an offset.
+pub fn set_bit(session: &mut [u8; SESSION], at: usize, place: usize) {
+    session[at + place / 8] |= 1 << (place % 8);
+}

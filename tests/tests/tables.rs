@@ -1,0 +1,261 @@
+//! The compiled calls on a table's rows against the model: reading, updating and masked reading.
+//!
+//! A wrong answer names its seed; `BRAWNESK_SEED=<seed> cargo test --release` compares that seed alone.
+
+use brawnesk_tests::builder::{sample, to_image};
+use brawnesk_tests::compare::{one_seed, seeds};
+use brawnesk_tests::ffi::{self, Answer, SESSION};
+use brawnesk_tests::model;
+use brawnesk_tests::rng::Rng;
+use brawnesk_tests::row_calls::{Lent, RowCall};
+use brawnesk_tests::tables::numbers::bytes;
+use brawnesk_tests::tables::{by_hand, each_row_call, row, RowTally};
+use brawnesk_tests::walk::{policy, spoil_unused, Break};
+use std::hint::black_box;
+
+const POLICIES: u64 = 2_000;
+const CALLS_EACH: usize = 40;
+
+/// Asks the library. The image, a payload and a mask have to stay as they are; what else is lent is
+/// looked at by the caller.
+fn ask(image: &[u8], call: &RowCall, lent: &mut Lent) -> Answer {
+    let (own_image, own_call) = (image.to_vec(), call.clone());
+    let answer = own_call.by_library(black_box(&own_image), black_box(lent));
+    assert!(*black_box(&own_image) == *image, "{call:?}: image changed");
+    assert!(*black_box(&own_call) == *call, "{call:?}: part changed");
+    answer
+}
+
+/// Asks both. The answer and every lent byte have to be the model's.
+fn compare(image: &[u8], call: &RowCall, lent: &Lent, case: &str) -> Answer {
+    let (mut given, mut wanted) = (lent.clone(), lent.clone());
+    let answer = ask(image, call, &mut given);
+    let expected = call.by_model(&model::accepted(image), &mut wanted);
+    assert_eq!(answer, expected, "{case}: {call:?}");
+    assert_eq!(given.difference(&wanted), None, "{case}: {call:?}");
+    answer
+}
+
+#[test]
+fn the_library_agrees_with_the_model() {
+    let mut tally = RowTally::default();
+    for seed in seeds(0..POLICIES) {
+        each_row_call(seed, CALLS_EACH, |step| {
+            let call = &step.call;
+            let mut given = step.lent.clone();
+            let answer = ask(step.image, call, &mut given);
+            assert_eq!(answer, step.answer, "seed {seed}: {call:?}");
+            let difference = given.difference(&step.after);
+            assert_eq!(difference, None, "seed {seed}: {call:?}");
+            tally.add(step);
+        });
+    }
+    println!("{tally:?}");
+    if one_seed().is_none() {
+        tally.assert_varied(50);
+    }
+}
+
+#[test]
+fn answers_by_hand() {
+    by_hand::check(&ask);
+}
+
+/// Each call with arguments that are wrong, but which 19 comes before.
+fn wrong_calls() -> [RowCall; 3] {
+    [
+        RowCall::Read { width: 0 },
+        RowCall::Update {
+            width: 513,
+            n: usize::MAX,
+            payload: Vec::new(),
+        },
+        RowCall::Masked {
+            width: usize::MAX,
+            place: usize::MAX,
+            mask: Vec::new(),
+        },
+    ]
+}
+
+/// Whatever is broken, each call refuses the session before it looks at the table.
+#[test]
+fn broken_sessions_are_refused() {
+    let refused = Answer::Refused {
+        number: 19,
+        place: 0,
+    };
+    for seed in seeds(0..400) {
+        let mut rng = Rng::new(seed);
+        let policy = policy(&mut rng);
+        let image = to_image(&policy);
+        for user in policy.users.iter().take(4) {
+            let mut session = [0; SESSION];
+            ffi::open(&image, user.name.as_bytes(), &mut session);
+            for way in Break::ALL {
+                let mut lent = Lent {
+                    session,
+                    table: bytes(30, &mut rng),
+                    buffer: bytes(30, &mut rng),
+                };
+                if way.apply(&policy, &mut lent.session, &mut rng).is_none() {
+                    continue;
+                }
+                spoil_unused(&mut lent.session, &mut rng);
+                for call in wrong_calls() {
+                    let answer = compare(&image, &call, &lent, &format!("{way:?}, seed {seed}"));
+                    assert_eq!(answer, refused, "seed {seed}: {way:?}, {call:?}");
+                }
+            }
+        }
+    }
+}
+
+/// MARA's session, rows of these tags, and a buffer that holds them all.
+fn maras(tags: &[u32], width: usize) -> Lent {
+    let mut rng = Rng::new(width as u64);
+    let mut session = [0; SESSION];
+    let opened = ffi::open(&to_image(&sample()), b"MARA", &mut session);
+    assert_eq!(opened, Answer::Done(0));
+    let table: Vec<u8> = tags
+        .iter()
+        .flat_map(|&tag| row(tag, width, &mut rng))
+        .collect();
+    Lent {
+        session,
+        buffer: bytes(table.len(), &mut rng),
+        table,
+    }
+}
+
+/// Each call at a width, on rows 0 to 3.
+fn calls(width: usize, payload: usize) -> Vec<RowCall> {
+    let row_calls = |at: usize| {
+        let update = RowCall::Update {
+            width,
+            n: at,
+            payload: vec![7; payload],
+        };
+        let masked = RowCall::Masked {
+            width,
+            place: at,
+            mask: vec![9; 3],
+        };
+        [update, masked]
+    };
+    let read = RowCall::Read { width };
+    (0..4).flat_map(row_calls).chain([read]).collect()
+}
+
+/// Every bit of MARA's session, turned, with every call.
+#[test]
+fn every_bit_of_a_session() {
+    let image = to_image(&sample());
+    let lent = maras(&[20, 10, 30], 9);
+    for bit in 0..8 * SESSION {
+        let mut lent = lent.clone();
+        lent.session[bit / 8] ^= 1 << (bit % 8);
+        for call in calls(9, 5) {
+            compare(&image, &call, &lent, &format!("bit {bit}"));
+        }
+    }
+}
+
+/// Every bit of a known tag, turned: the tag is then unknown.
+#[test]
+fn every_bit_of_a_tag() {
+    let image = to_image(&sample());
+    for tag in [10, 20, 30] {
+        let turned = (0..32).map(|bit| tag ^ 1 << bit);
+        let tags: Vec<u32> = turned.chain([tag]).collect();
+        let lent = maras(&tags, 5);
+        let answer = compare(&image, &RowCall::Read { width: 5 }, &lent, "every bit");
+        // 10 and 30 differ in two bits, and from 20 in more.
+        let readable = u64::from(tag != 20);
+        assert_eq!(answer, Answer::Done(readable), "tag {tag}");
+        for n in 0..2 {
+            let update = RowCall::Update {
+                width: 5,
+                n,
+                payload: vec![n as u8],
+            };
+            compare(&image, &update, &lent, "every bit");
+        }
+    }
+}
+
+/// Every width from 0 on, with a table that has whole rows of it and with one byte more or less.
+#[test]
+fn every_width() {
+    let image = to_image(&sample());
+    for width in 0..=1_030 {
+        let whole = maras(&[30, 0, 10], width.max(5));
+        for length in [0, 3 * width, 3 * width + 1, (3 * width).saturating_sub(1)] {
+            let mut lent = whole.clone();
+            lent.table.resize(length, 0);
+            for payload in [width.saturating_sub(4), width] {
+                for call in calls(width, payload) {
+                    compare(&image, &call, &lent, &format!("length {length}"));
+                }
+            }
+        }
+    }
+}
+
+/// Bytes that begin at any address, with others around them.
+struct Shifted {
+    shift: usize,
+    length: usize,
+    bytes: Vec<u8>,
+}
+
+impl Shifted {
+    fn new(shift: usize, inner: &[u8]) -> Shifted {
+        let mut bytes = vec![0xa5; inner.len() + 8];
+        bytes[shift..shift + inner.len()].copy_from_slice(inner);
+        Shifted {
+            shift,
+            length: inner.len(),
+            bytes,
+        }
+    }
+
+    fn inner(&mut self) -> &mut [u8] {
+        &mut self.bytes[self.shift..][..self.length]
+    }
+
+    fn assert_around(&self) {
+        let (before, rest) = self.bytes.split_at(self.shift);
+        let around = [before, &rest[self.length..]].concat();
+        assert_eq!(around, [0xa5; 8]);
+    }
+}
+
+/// Images, sessions, tables, buffers, payloads and masks may begin anywhere.
+#[test]
+fn alignment_does_not_matter() {
+    let lent = maras(&[20, 10, 0, 30], 7);
+    for shift in 0..8 {
+        let mut image = Shifted::new(shift, &to_image(&sample()));
+        let mut session = Shifted::new(7 - shift, &lent.session);
+        let mut table = Shifted::new(shift, &lent.table);
+        let mut buffer = Shifted::new((shift + 3) % 8, &[0; 14]);
+        let mut part = Shifted::new((shift + 5) % 8, b"new");
+        let (image, part) = (image.inner(), part.inner());
+        let lent_session: &[u8; SESSION] = (&*session.inner())
+            .try_into()
+            .expect("as many bytes as a session has");
+        let rows = table.inner();
+        let update = ffi::update(image, lent_session, rows, 7, 0, part);
+        assert_eq!(update, Answer::Done(0));
+        assert_eq!(rows[11..14], *b"new");
+        let masked = ffi::masked(image, lent_session, rows, 7, 3, part);
+        assert_eq!(masked, Answer::Done(1));
+        let read = ffi::read(image, lent_session, rows, 7, buffer.inner());
+        assert_eq!(read, Answer::Done(2));
+        assert_eq!(*buffer.inner(), [&rows[7..14], &rows[21..]].concat());
+        for lent in [&session, &table, &buffer] {
+            lent.assert_around();
+        }
+    }
+}
