@@ -19,8 +19,7 @@ use Rattle.rows.proofs.Standing.{AllWide, rows-wide}
 use Rattle.isolation.specs.Calls.{Call, opening, settingLabel, settingRowLabel, onRows, reading, updating}
 use Rattle.isolation.specs.Calls.{Answer, rowsHanded, State, lentSession, bytesRead, rowStep, step, run}
 use Rattle.isolation.specs.Claim.{bufferZeroed, Alike}
-use Rattle.isolation.proofs.Keeping.{kept-wide}
-use Rattle.isolation.proofs.Shapes.{flatten-length}
+use Rattle.rows.proofs.Wide.{kept-wide, flatten-length}
 use Rattle.isolation.proofs.Agree.{table-accepted}
 
 -- ---- one read

@@ -5,15 +5,6 @@ use mathlib.Core.Bool.{Bool, true, false, true≢false}
 use mathlib.Core.List.{List, [], _∷_}
 use Rattle.rows.specs.Table.{kept}
 use Rattle.rows.specs.Updating.{changedNth}
-use Rattle.rows.proofs.Standing.{AllWide}
-
-pub kept-wide : (test : List ℕ → Bool) (w : ℕ) (rows : List (List ℕ)) → AllWide w rows → AllWide w (kept test rows)
-kept-wide test w [] a = a
-kept-wide test w (row ∷ rows) a = at (test row) refl (kept-wide test w rows (a .1))
-  where
-    at : (t : Bool) → test row ≡ t → AllWide w (kept test rows) → AllWide w (kept test (row ∷ rows))
-    at true e later = simp e (a .0, later)
-    at false e later = simp e later
 
 -- ---- a narrow test: every row that passes it passes a wide one too
 abbrev pub Inside : (List ℕ → Bool) → (List ℕ → Bool) → Type 0

@@ -1,34 +1,19 @@
 -- Lengths of rows and tables. Assumes nothing.
-use Prim.Native.Nat.{ℕ, zero, suc, _*_, _/_, _≤_}
-use mathlib.Core.Path.{_≡_, refl, sym, ap, _∙_}
+use Prim.Native.Nat.{ℕ, _*_, _≤_}
+use mathlib.Core.Path.{_≡_, sym, ap, _∙_}
 use mathlib.Core.Bool.{true}
-use mathlib.Core.List.{List, [], _∷_, flatten}
-use native.Mathlib.Nat.{zero-mul, suc-mul}
+use mathlib.Core.List.{List}
 use native.Mathlib.Omega.{arith}
-use lib.ListN.{length, take, drop, length-append}
+use lib.ListN.{length, take, length-append}
 use lib.Seq.{length-take-le}
-use Rattle.rows.specs.Table.{firstRows, rowsOf, withRows, payloadLength, withPayload, tableRule}
+use Rattle.rows.specs.Table.{rowsOf, withRows, payloadLength, withPayload, tableRule}
+use Rattle.rows.proofs.Wide.{flatten-length, rows-count}
 use Rattle.rows.proofs.Standing.{AllWide, table-means, flat-whole, rows-wide}
 
 -- ---- tables
--- the bytes of n rows of one width
-pub flatten-length : (w : ℕ) (rows : List (List ℕ)) → AllWide w rows → length (flatten rows) ≡ length rows * w
-unfolding flatten
-flatten-length w [] a = sym (zero-mul w)
-flatten-length w (row ∷ rows) a =
-    let later : length (flatten rows) ≡ length rows * w = flatten-length w rows (a .1) in
-    let here : length row ≡ w = a .0 in
-    length-append row (flatten rows) ∙ omega (arith, suc-mul (length rows) w)
-
-first-count : (w n : ℕ) (bytes : List ℕ) → length (firstRows w n bytes) ≡ n
-unfolding firstRows
-first-count w zero bytes = refl
-first-count w (suc n) bytes = ap suc (first-count w n (drop w bytes))
-
 -- the number of rows and 12 look at the length only
 pub count-by-length : (w : ℕ) (table other : List ℕ) → length other ≡ length table → length (rowsOf w other) ≡ length (rowsOf w table)
-unfolding rowsOf
-count-by-length w table other e = first-count w (length other / w) other ∙ (rw e) ∙ sym (first-count w (length table / w) table)
+count-by-length w table other e = rows-count w other ∙ (rw e) ∙ sym (rows-count w table)
 
 pub rule-by-length : (w : ℕ) (table other : List ℕ) → length other ≡ length table → tableRule w other ≡ tableRule w table
 unfolding tableRule

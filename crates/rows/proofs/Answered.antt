@@ -3,12 +3,13 @@ use Prim.Native.Nat.{ℕ, zero, suc, _+_, _-_, _*_, _/_, _≤_, _<_}
 use mathlib.Core.Path.{_≡_, refl, sym, ap, ap₂, _∙_}
 use mathlib.Core.Bool.{Bool, true, false, true≢false, cond}
 use mathlib.Core.List.{List, [], _∷_, flatten}
-use native.Mathlib.Nat.{zero-add, zero-mul, suc-mul, mul-div-cancel, div-mul-le-self, mul-le-mul, le-refl, le-trans, add-sub-cancel-left}
+use native.Mathlib.Nat.{sub-zero, zero-sub, zero-add, zero-mul, suc-mul, mul-div-cancel, div-mul-le-self, mul-le-mul, le-refl, le-trans, add-sub-cancel-left}
 use native.Mathlib.Omega.{arith}
 use borrow.Author.Tests.{eq-eqb, ne-eqb, lt-ltb, le-ltb, ltb-true}
 use lib.Dec.{leb, ltb}
 use lib.ListN.{length, take, drop, getD, length-drop}
-use lib.Seq.{drop-drop, length-take-le}
+use lib.Seq.{take-nil, drop-drop, length-take-le}
+use Rattle.fields.specs.Bytes.{part}
 use Rattle.refusals.specs.declared.Refusal.the-variants.{Room, PayloadLength, NoRow, RowNotWritable, TableShape}
 use Rattle.image.specs.declared.faults.Checked.{Checked}
 use Rattle.image.specs.declared.faults.Checked.the-variants as checked
@@ -21,7 +22,7 @@ use Rattle.sessions.specs.declared.answers.Verdict.{Verdict}
 use Rattle.sessions.specs.declared.answers.Verdict.the-variants as verdict
 use Rattle.buffers.specs.Pasting.{pasted, Written}
 use Rattle.buffers.proofs.Pasted.{front}
-use Rattle.rows.specs.Table.{firstRows, rowsOf, rowReadable, rowWritable, readableRows, tableRule, tableAnswer}
+use Rattle.rows.specs.Table.{firstRows, rowsOf, rowPayload, payloadOffset, payloadLength, rowReadable, rowWritable, readableRows, tableRule, tableAnswer}
 use Rattle.rows.specs.Reading.{handedOut}
 use Rattle.rows.specs.Updating.{nthRowAnswer, tableUpdated, updateWith}
 use Rattle.rows.specs.Masked.{placeVerdict, maskedVerdictOf}
@@ -89,6 +90,19 @@ module _ (w : ℕ) (table : List ℕ) (place : ℕ) (h : place < length table / 
   pub place-row : getD (rowsOf w table) place [] ≡ take w (drop (place * w) table)
   unfolding rowsOf
   place-row = first-nth w (length table / w) table place h
+
+drop-take : (m n : ℕ) (l : List ℕ) → drop m (take n l) ≡ take (n - m) (drop m l)
+drop-take zero n l = rw sub-zero
+drop-take (suc m) zero l = rw zero-sub
+drop-take (suc m) (suc n) [] = sym (take-nil (suc n - suc m))
+drop-take (suc m) (suc n) (x ∷ l) = drop-take m n l ∙ ap (λ (k : ℕ). take k (drop m l)) (let e : n - m ≡ suc n - suc m = omega arith in e)
+
+-- what `masked_read` hands out of the table is the payload of the row at that place
+pub masked-payload : (w : ℕ) (table : List ℕ) (place : ℕ) → place < length table / w
+    → rowPayload (getD (rowsOf w table) place []) ≡ part table (payloadOffset w place) (payloadLength w)
+masked-payload w table place h =
+    ap rowPayload (place-row w table place h) ∙ drop-take 4 w (drop (place * w) table)
+    ∙ ap (take (w - 4)) (drop-drop 4 (place * w) table)
 
 pub place-tagged : (w : ℕ) (table : List ℕ) → tableRule w table ≡ true → (place : ℕ) → place < length table / w
     → 4 ≤ length (take (place * w + w - place * w) (drop (place * w) table))
