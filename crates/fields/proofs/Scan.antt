@@ -3,7 +3,7 @@ use Prim.Native.Nat.{ℕ, zero, suc, _+_, _-_, _≤_, _<_}
 use mathlib.Core.Path.{_≡_, refl, sym, ap, _∙_, subst}
 use mathlib.Core.Bool.{Bool, true, false, cond}
 use mathlib.Core.Logic.{⊎-elim}
-use native.Mathlib.Nat.{add-zero, le-refl, eq-or-lt-of-le}
+use native.Mathlib.Nat.{add-zero, zero-add, add-suc, suc-add, le-refl, eq-or-lt-of-le}
 use native.Mathlib.Numerals.{add-one}
 use native.Mathlib.Omega.{arith}
 use borrow.Author.Tests.{eqb-true}
@@ -86,3 +86,56 @@ module _ (rule : ℕ → Bool) where
     pub loop-end : e ≤ i → firstBad rule (e - i) i ≡ w → i ≡ w
     unfolding firstBad
     loop-end l inv = let z : e - i ≡ 0 = omega arith in (rw z at inv)
+
+  -- ---- the first m of the places, then n more
+  bad-in-first : (m n k : ℕ) → firstBad rule m k < k + m → firstBad rule (m + n) k ≡ firstBad rule m k
+  unfolding firstBad
+  bad-in-first zero n k l = absurd (omega arith)
+  bad-in-first (suc m) n k l = rw suc-add (at (rule k) l (bad-in-first m n (suc k)))
+    where
+      at : (t : Bool) → cond t (firstBad rule m (suc k)) k < k + suc m
+          → (firstBad rule m (suc k) < suc k + m → firstBad rule (m + n) (suc k) ≡ firstBad rule m (suc k))
+          → cond t (firstBad rule (m + n) (suc k)) k ≡ cond t (firstBad rule m (suc k)) k
+      at true h later = later (omega arith)
+      at false h later = refl
+
+  bad-after-first : (m n k : ℕ) → k + m ≤ firstBad rule m k → firstBad rule (m + n) k ≡ firstBad rule n (k + m)
+  unfolding firstBad
+  bad-after-first zero n k l = rw (zero-add, add-zero)
+  bad-after-first (suc m) n k l = rw (suc-add, add-suc, ← suc-add) (at (rule k) l (bad-after-first m n (suc k)))
+    where
+      at : (t : Bool) → k + suc m ≤ cond t (firstBad rule m (suc k)) k
+          → (suc k + m ≤ firstBad rule m (suc k) → firstBad rule (m + n) (suc k) ≡ firstBad rule n (suc k + m))
+          → cond t (firstBad rule (m + n) (suc k)) k ≡ firstBad rule n (suc k + m)
+      at true h later = later (omega arith)
+      at false h later = absurd (omega arith)
+
+  -- a loop that runs over the places from i up to e in parts, here the part up to t, which gives j
+  module _ (e i t j w : ℕ) (low : i ≤ t) (high : t ≤ e) (inv : firstBad rule (e - i) i ≡ w) (part : j ≡ firstBad rule (t - i) i) where
+    parted : firstBad rule (t - i + (e - t)) i ≡ w
+    parted = let q : t - i + (e - t) ≡ e - i = omega arith in rw q inv
+
+    pub part-bad : j < t → j ≡ w
+    part-bad l = part ∙ sym (bad-in-first (t - i) (e - t) i (omega arith)) ∙ parted
+
+    pub part-good : t ≤ j → firstBad rule (e - t) t ≡ w
+    part-good l =
+        let q : i + (t - i) ≡ t = omega arith in
+        ap (firstBad rule (e - t)) (sym q) ∙ sym (bad-after-first (t - i) (e - t) i (omega arith)) ∙ parted
+
+  -- places counted from s on
+  pub bad-shift : (s n k : ℕ) → firstBad rule n (s + k) ≡ s + firstBad (λ q. rule (s + q)) n k
+  unfolding firstBad
+  bad-shift s zero k = refl
+  bad-shift s (suc n) k = at (rule (s + k)) (bad-shift s n (suc k))
+    where
+      at : (t : Bool) → firstBad rule n (s + suc k) ≡ s + firstBad (λ q. rule (s + q)) n (suc k)
+          → cond t (firstBad rule n (suc (s + k))) (s + k) ≡ s + cond t (firstBad (λ q. rule (s + q)) n (suc k)) k
+      at true ih = rw add-suc at ih
+      at false ih = refl
+
+-- two rules that are the same at every place
+pub bad-same : (f g : ℕ → Bool) → ((i : ℕ) → f i ≡ g i) → (n k : ℕ) → firstBad f n k ≡ firstBad g n k
+unfolding firstBad
+bad-same f g h zero k = refl
+bad-same f g h (suc n) k = rw (h k, bad-same f g h n (suc k))

@@ -6,7 +6,7 @@ ghost use Rattle.fields.specs.Names.{nameByte, allNameBytes, nameIn, nam
 use crate::numbers::all_zero;
 
 // A..Z, 0..9 and underscore; most are letters, so those leave first.
-fn name_byte(x: u8) -> bool
+pub fn name_byte(x: u8) -> bool
     ensures { λ r. ⌜ r ≡ nameByte x ⌝ }
 {
     if (65 <= x) & (x <= 90) {

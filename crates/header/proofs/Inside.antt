@@ -1,5 +1,5 @@
 -- Every record that the counts name lies inside a fitted image. Assumes nothing.
-use Prim.Native.Nat.{ℕ, _+_, _≤_, _<_}
+use Prim.Native.Nat.{ℕ, _+_, _-_, _*_, _%_, _≤_, _<_}
 use mathlib.Core.Path.{_≡_}
 use mathlib.Core.List.{List}
 use native.Mathlib.Omega.{arith}
@@ -15,6 +15,11 @@ module _ (im : List ℕ) (fit : Fitted im) where
   pub component-inside : (i : ℕ) → i < components im → componentOffset i + 40 ≤ length im
   unfolding blocksNeeded firstUserBlock firstLabelBlock componentOffset
   component-inside i h = omega arith
+
+  -- where a record after the last one would begin
+  pub component-end : (i : ℕ) → i ≤ components im → componentOffset i < length im + 512
+  unfolding blocksNeeded firstUserBlock firstLabelBlock componentOffset
+  component-end i h = omega arith
 
   pub label-inside : (k : ℕ) → k < labels im → labelOffset im k + 24 ≤ length im
   unfolding blocksNeeded firstUserBlock labelOffset
@@ -35,3 +40,8 @@ module _ (im : List ℕ) (fit : Fitted im) where
   pub user-length : (u : ℕ) → u < users im → length (userRecord im u) ≡ 128
   unfolding userRecord
   user-length u h = part-length im (userOffset im u) 128 (user-inside u h)
+
+-- inside a block a component's record begins 40 bytes after the one before it
+pub same-block : (i j : ℕ) → i ≤ j → j < i + (12 - i % 12) → componentOffset i + 40 * (j - i) ≡ componentOffset j
+unfolding componentOffset
+same-block i j l h = omega arith

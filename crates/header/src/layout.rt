@@ -100,8 +100,8 @@ pub fn component_name_offset(i: usize) -> usize
     component_offset(i) + 2
 }
 
-// Where a component's record begins, and how many records its block has from it on: a walk from one record to the next
-// divides nothing.
+// Where a component's record begins, and how many records its block has from it on: a walk from block to block divides
+// nothing.
 pub struct RecordAt {
     pub at: usize,
     pub left: usize,
@@ -117,20 +117,14 @@ pub fn record_at(j: usize) -> RecordAt
     }
 }
 
-pub fn record_after(here: RecordAt, j: usize) -> RecordAt
+// The first record of the next block. Between the last of a block and it stand unused bytes, the check and the block's head.
+pub fn next_block(here: RecordAt, j: usize) -> RecordAt
     requires { ⌜ (componentOffset j < 2 ^ 63) × ((here .at ≡ componentOffset j) × (here .left ≡ 12 - j % 12)) ⌝ }
-    ensures { λ r. ⌜ (r .at ≡ componentOffset (j + 1)) × (r .left ≡ 12 - (j + 1) % 12) ⌝ }
+    ensures { λ r. ⌜ (r .at ≡ componentOffset (j + here .left)) × (r .left ≡ 12 - (j + here .left) % 12) ⌝ }
 {
-    if here.left == 1 {
-        RecordAt {
-            at: here.at + 72,
-            left: 12,
-        }
-    } else {
-        RecordAt {
-            at: here.at + 40,
-            left: here.left - 1,
-        }
+    RecordAt {
+        at: here.at + 40 * here.left + 32,
+        left: 12,
     }
 }
 
@@ -183,7 +177,7 @@ pub fn kind_byte(kind: Kind) -> u8
     }
 }
 
-fn lower(a: usize, b: usize) -> usize
+pub fn lower(a: usize, b: usize) -> usize
     ensures { λ r. ⌜ r ≡ min a b ⌝ }
 {
     if a < b { a } else { b }

@@ -1,16 +1,20 @@
--- A place below its class's count is a component of the policy. Assumes nothing.
-use Prim.Native.Nat.{ℕ, _≤_, _<_}
-use mathlib.Core.Path.{_≡_, refl}
+-- The components of a class: their number, and where they stand among all components. Assumes nothing.
+use Prim.Native.Nat.{ℕ, _+_, _-_, _≤_, _<_}
+use mathlib.Core.Path.{_≡_, refl, sym, ap, _∙_}
 use mathlib.Core.Bool.{Bool, true, false, cond}
 use mathlib.Core.List.{List}
+use native.Mathlib.Nat.{add-zero, add-sub-cancel-left}
 use native.Mathlib.Omega.{arith}
 use borrow.Author.Tests.{lt-ltb, eq-eqb, eqb-false}
 use lib.Dec.{eqb}
-use Rattle.header.specs.Layout.{levels, compartments, groups}
-use Rattle.records.specs.Rules.{Counted}
-use Rattle.image.specs.Lookup.{hasComponent}
-use Rattle.labels.specs.Parse.{classCount}
+use Rattle.fields.specs.Scan.{firstBad}
+use Rattle.fields.proofs.Scan.{bad-shift, bad-same}
+use Rattle.header.specs.Layout.{levels, compartments, groups, components}
+use Rattle.records.specs.Rules.{Counted, otherName}
+use Rattle.image.specs.Lookup.{hasComponent, componentIndex}
+use Rattle.labels.specs.Parse.{matches, classCount, placeOfName}
 
+-- a place below its class's count is a component of the policy
 pub class-has : (im : List ℕ) (class p : ℕ) → 1 ≤ class → class ≤ 3 → p < classCount im class → hasComponent im class p ≡ true
 unfolding hasComponent
 class-has im class p low high = at (eqb class 1) refl (eqb class 2) refl
@@ -31,3 +35,38 @@ class-limit im class k = at (eqb class 1) (eqb class 2)
     at true t = omega (arith, k .levelsLimit)
     at false true = k .compartmentsLimit
     at false false = k .groupsLimit
+
+-- ---- a class's components follow one another
+module _ (im : List ℕ) (class : ℕ) where
+  index-from : (p : ℕ) → componentIndex im class 0 + p ≡ componentIndex im class p
+  unfolding componentIndex
+  index-from p = at (eqb class 1) (eqb class 2)
+    where
+      at : (s t : Bool)
+          → cond s 0 (cond t (levels im + 0) (levels im + compartments im + 0)) + p
+          ≡ cond s p (cond t (levels im + p) (levels im + compartments im + p))
+      at true t = omega arith
+      at false true = omega arith
+      at false false = omega arith
+
+  pub class-inside : componentIndex im class 0 + classCount im class ≤ components im
+  unfolding componentIndex components
+  class-inside = at (eqb class 1) (eqb class 2)
+    where
+      at : (s t : Bool)
+          → cond s 0 (cond t (levels im + 0) (levels im + compartments im + 0)) + cond s (levels im) (cond t (compartments im) (groups im))
+          ≤ levels im + compartments im + groups im
+      at true t = omega arith
+      at false true = omega arith
+      at false false = omega arith
+
+  -- so the first of them that has the name, among all components, stands at its place in the class from their first on
+  pub place-found : (name : List ℕ) (s n r : ℕ) → s ≡ componentIndex im class 0 → n ≡ classCount im class
+      → r ≡ firstBad (otherName im name) (s + n - s) s → r ≡ s + placeOfName im class name
+  unfolding placeOfName matches otherName
+  place-found name s n r e d f =
+      f ∙ rw (add-sub-cancel-left, d, e)
+      (ap (firstBad (otherName im name) (classCount im class)) (sym (add-zero _))
+      ∙ bad-shift (otherName im name) (componentIndex im class 0) (classCount im class) 0
+      ∙ ap (λ (w : ℕ). componentIndex im class 0 + w)
+      (bad-same _ _ (λ p. ap (otherName im name) (index-from p)) (classCount im class) 0))

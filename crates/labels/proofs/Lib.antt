@@ -1,5 +1,6 @@
 -- Laws that several proofs use, and what the crates above may cite.
 pub mod Reading
+pub mod Runs
 pub mod Splitting
 pub mod Classes
 pub mod Naming

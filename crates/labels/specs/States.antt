@@ -3,10 +3,15 @@ use Prim.Native.Nat.{ℕ}
 use mathlib.Core.Bool.{Bool, true, false, cond}
 use mathlib.Core.List.{List, [], _∷_}
 use lib.Dec.{eqb}
+use Rattle.fields.specs.Bytes.{byteAt}
 use Rattle.fields.specs.Names.{nameByte}
 use Rattle.labels.specs.declared.shape.State.{State}
 use Rattle.labels.specs.declared.shape.State.the-variants.{Start, Level, Lists, First, FirstNext, Second, InSecond, Wrong}
 use Rattle.labels.specs.Text.{comma, colon}
+
+-- the byte at place i is one of a name
+abbrev pub nameByteAt : List ℕ → ℕ → Bool
+nameByteAt text i = nameByte (byteAt text i)
 
 abbrev pub afterNameByte : State → State
 afterNameByte Start = Level

@@ -1,9 +1,12 @@
 // The shape of label text, read byte by byte.
+ghost use Prim.Native.Nat.{_-_, _≤_};
 ghost use mathlib.Core.Path.{_≡_};
-ghost use Rattle.fields.specs.Names.{nameByte};
+ghost use lib.ListN.{length};
+ghost use Rattle.fields.specs.Scan.{firstBad};
 ghost use Rattle.labels.specs.Text.{shapeRule};
-ghost use Rattle.labels.specs.States.{afterNameByte, afterComma, afterColon, afterByte, afterAll, endsWell};
+ghost use Rattle.labels.specs.States.{nameByteAt, afterNameByte, afterComma, afterColon, afterByte, afterAll, endsWell};
 ghost use Rattle.labels.specs.declared.shape.State.the-variants.{Start};
+use fields::names::name_byte;
 
 // How far a reading has come. A name begins at Start, Lists, FirstNext and Second; Level, First and InSecond stand inside one.
 pub enum State {
@@ -19,12 +22,6 @@ pub enum State {
     InSecond,
     // No text that begins so has the shape.
     Wrong,
-}
-
-fn name_byte(x: u8) -> bool
-    ensures { λ r. ⌜ r ≡ nameByte x ⌝ }
-{
-    (65 <= x) & (x <= 90) | (48 <= x) & (x <= 57) | (x == 95)
 }
 
 fn after_name_byte(state: State) -> State
@@ -105,14 +102,36 @@ fn ends_well(state: State) -> bool
     }
 }
 
+// The first place from `at` on whose byte is of no name; the text's length where there is none.
+fn name_end(text: &[u8], at: usize) -> usize
+    requires { ⌜ at ≤ length (now text) ⌝ }
+    ensures { λ r. ⌜ r ≡ firstBad (nameByteAt (now (text .entry))) (length (now (text .entry)) - at) at ⌝ }
+{
+    let mut i = at;
+    while i < text.len() {
+        if !name_byte(text[i]) {
+            return i;
+        }
+        i += 1;
+    }
+    i
+}
+
+// A name's later bytes leave the state as its first one does, so they are passed over.
 fn after_all(text: &[u8]) -> State
     ensures { λ r. ⌜ r ≡ afterAll Start (now (text .entry)) ⌝ }
 {
     let mut state = State::Start;
     let mut i = 0;
     while i < text.len() {
-        state = after_byte(state, text[i]);
-        i += 1;
+        let x = text[i];
+        if name_byte(x) {
+            state = after_name_byte(state);
+            i = name_end(text, i + 1);
+        } else {
+            state = after_byte(state, x);
+            i += 1;
+        }
     }
     state
 }

@@ -36,6 +36,10 @@ unfoldable pub numericRule : List ℕ → ℕ → Bool
 numericRule im i =
     eqb i (classStart im i) || ltb (numericForm (componentRecord im (i - 1))) (numericForm (componentRecord im i))
 
+-- the component at j has another name
+unfoldable pub otherName : List ℕ → List ℕ → ℕ → Bool
+otherName im name j = not (sameName (componentName (componentRecord im j)) name)
+
 -- the components at j and i have different names
 unfoldable pub namesDiffer : List ℕ → ℕ → ℕ → Bool
 namesDiffer im i j = not (sameName (componentName (componentRecord im j)) (componentName (componentRecord im i)))

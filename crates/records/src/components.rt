@@ -1,12 +1,12 @@
 // The rules of a component record.
-ghost use Prim.Native.Nat.{_+_, _-_, _<_, _≤_};
+ghost use Prim.Native.Nat.{_+_, _-_, _%_, _<_, _≤_};
 ghost use mathlib.Core.Path.{_≡_};
 ghost use lib.ListN.{length};
 ghost use Rattle.fields.specs.Names.{sameName};
 ghost use Rattle.fields.specs.Scan.{firstBad};
 ghost use Rattle.header.specs.Layout.{components, Fitted, componentOffset, componentRecord};
 ghost use Rattle.records.specs.Fields.{componentNameLength, componentName, numericForm, parentOf};
-ghost use Rattle.records.specs.Rules.{classAt, classStart, parentRule, componentShape, numericRule, namesDiffer, newNameRule, componentRule};
+ghost use Rattle.records.specs.Rules.{classAt, classStart, parentRule, componentShape, numericRule, otherName, newNameRule, componentRule};
 use fields::names;
 use fields::numbers::all_zero;
 use fields::numbers::number2;
@@ -105,31 +105,55 @@ fn numeric_ok(image: &[u8], i: usize) -> bool
     numeric_form(image, i - 1) < numeric_form(image, i)
 }
 
-// Does the component at j, whose record begins at `at`, have that name?
+// Does the component at j, whose record begins at `at`, have that name? Most names differ in length. A stored length past
+// the field counts as 30, so the stored byte alone tells only of names shorter than that.
 fn is_named(image: &[u8], at: usize, j: usize, name: &[u8]) -> bool
     requires { ⌜ Fitted (now image) × ((j < components (now image)) × (at ≡ componentOffset j)) ⌝ }
     ensures { λ r. ⌜ r ≡ sameName (componentName (componentRecord (now (image .entry)) j)) (now (name .entry)) ⌝ }
 {
     let rec = &image[at..at + 40];
+    let n = rec[1] as usize;
+    if (n != name.len()) & (name.len() < 30) {
+        return false;
+    }
     names::same_name(names::name_in(&rec[1..32]), name)
 }
 
-// The first place from `start` on whose component has the name of the one at i; i where there is none before it.
-fn first_same_name(image: &[u8], start: usize, i: usize) -> usize
-    requires { ⌜ Fitted (now image) × ((i < components (now image)) × (start ≤ i)) ⌝ }
-    ensures { λ r. ⌜ r ≡ firstBad (namesDiffer (now (image .entry)) i) (i - start) start ⌝ }
+// The first place from `from` up to `to` whose component has that name; `to` where none has. Their records stand in one
+// block, the first of them at `first`.
+fn first_in_block(image: &[u8], first: usize, from: usize, to: usize, name: &[u8]) -> usize
+    requires { ⌜ Fitted (now image) × ((to ≤ components (now image)) × ((from ≤ to) × ((to ≤ from + (12 - from % 12)) × (first ≡ componentOffset from)))) ⌝ }
+    ensures { λ r. ⌜ r ≡ firstBad (otherName (now (image .entry)) (now (name .entry))) (to - from) from ⌝ }
 {
-    let name = component_name(image, i);
-    let mut here = layout::record_at(start);
-    let mut j = start;
-    while j < i {
-        if is_named(image, here.at, j, name) {
+    let mut at = first;
+    let mut j = from;
+    while j < to {
+        if is_named(image, at, j, name) {
             return j;
         }
-        here = layout::record_after(here, j);
+        at += 40;
         j += 1;
     }
     j
+}
+
+// The first place from `start` up to `end` whose component has that name; `end` where none has.
+pub fn first_named(image: &[u8], start: usize, end: usize, name: &[u8]) -> usize
+    requires { ⌜ Fitted (now image) × ((end ≤ components (now image)) × (start ≤ end)) ⌝ }
+    ensures { λ r. ⌜ r ≡ firstBad (otherName (now (image .entry)) (now (name .entry))) (end - start) start ⌝ }
+{
+    let mut here = layout::record_at(start);
+    let mut from = start;
+    while from < end {
+        let to = layout::lower(end, from + here.left);
+        let j = first_in_block(image, here.at, from, to, name);
+        if j < to {
+            return j;
+        }
+        here = layout::next_block(here, from);
+        from = to;
+    }
+    from
 }
 
 // Inside a class names differ.
@@ -137,7 +161,8 @@ fn new_name_ok(image: &[u8], i: usize) -> bool
     requires { ⌜ Fitted (now image) × (i < components (now image)) ⌝ }
     ensures { λ r. ⌜ r ≡ newNameRule (now (image .entry)) i ⌝ }
 {
-    first_same_name(image, class_start(image, i), i) == i
+    let start = class_start(image, i);
+    first_named(image, start, i, component_name(image, i)) == i
 }
 
 pub fn component_ok(image: &[u8], i: usize) -> bool

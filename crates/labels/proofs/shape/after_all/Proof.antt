@@ -1,11 +1,13 @@
-use Prim.Native.Nat.{_-_}
-use mathlib.Core.Path.{_≡_, refl}
+use Prim.Native.Nat.{_+_, _-_, _≤_}
+use mathlib.Core.Path.{_≡_, refl, sym, _∙_}
 use native.Mathlib.Omega.{arith}
 use borrow.Author.Needs.{needs}
 use lib.ListN.{length, drop}
+use Rattle.fields.proofs.Scan.{bad-from}
 use Rattle.labels.specs.declared.shape.State.the-variants.{Start}
-use Rattle.labels.specs.States.{afterAll}
+use Rattle.labels.specs.States.{nameByteAt, afterAll}
 use Rattle.labels.proofs.Reading.{after-step, after-done}
+use Rattle.labels.proofs.Runs.{name-step, run-step}
 use Rattle.labels.proofs.shape.after_all.Statement.{statement}
 use Rattle.labels.proofs.shape.after_all.Tie as tie
 
@@ -18,8 +20,34 @@ abbrev μ-loop : tie.MeasureT-loop
 loop-holds : tie.Need-loop-holds Inv-loop μ-loop
 loop-holds c = refl
 
-shared-slice-read-after-byte : tie.Need-shared-slice-read-after-byte Inv-loop μ-loop
-shared-slice-read-after-byte c = omega arith
+shared-slice-read-x : tie.Need-shared-slice-read-x Inv-loop μ-loop
+shared-slice-read-x c = omega arith
+
+name-byte-requires : tie.Need-name-byte-requires Inv-loop μ-loop
+name-byte-requires c κs = search needs
+
+after-name-byte-requires : tie.Need-after-name-byte-requires Inv-loop μ-loop
+after-name-byte-requires c κs = search needs
+
+add-name-end : tie.Need-add-name-end Inv-loop μ-loop
+add-name-end c = omega arith
+
+name-end-requires : tie.Need-name-end-requires Inv-loop μ-loop
+name-end-requires c κs = omega arith
+
+loop-less : tie.Need-loop-less Inv-loop μ-loop
+loop-less c =
+    let text = c .before .before .before .before .before .before .before .before .args .text .now in
+    let i = c .before .before .before .before .before .before .loop .i in
+    omega (arith, bad-from (nameByteAt text) (length text - (i + 1)) (i + 1))
+
+loop-again : tie.Need-loop-again Inv-loop μ-loop
+loop-again c =
+    let text = c .before .before .before .before .before .before .before .before .args .text .now in
+    let l = c .before .before .before .before .before .before .loop in
+    let first = name-step text (l .state) _ (l .i) (c .before .before .before .before .before .loop-test .taken) (sym (c .before .before .before .name-byte .ensures) ∙ c .before .before .if1 .taken) (l .inv) in
+    let inside : l .i + 1 ≤ length text = omega arith in
+    rw (c .before .after-name-byte .ensures) (run-step text (l .state) _ (l .i + 1) _ inside (c .name-end .ensures) first)
 
 after-byte-requires : tie.Need-after-byte-requires Inv-loop μ-loop
 after-byte-requires c κs = search needs
@@ -27,11 +55,11 @@ after-byte-requires c κs = search needs
 add-i : tie.Need-add-i Inv-loop μ-loop
 add-i c = omega arith
 
-loop-less : tie.Need-loop-less Inv-loop μ-loop
-loop-less c = omega arith
+loop-less-2 : tie.Need-loop-less-2 Inv-loop μ-loop
+loop-less-2 c = omega arith
 
-loop-again : tie.Need-loop-again Inv-loop μ-loop
-loop-again c = rw (c .after-byte .ensures) (after-step _ _ _ _ (c .before .before .loop-test .taken) (c .before .before .before .loop .inv))
+loop-again-2 : tie.Need-loop-again-2 Inv-loop μ-loop
+loop-again-2 c = rw (c .after-byte .ensures) (after-step _ _ _ _ (c .before .before .before .before .loop-test .taken) (c .before .before .before .before .before .loop .inv))
 
 returns : tie.Need-returns Inv-loop μ-loop
 returns c = after-done _ _ _ _ (c .loop-test .left) (c .before .loop .inv)
@@ -43,9 +71,15 @@ after-all-spec =
     Inv-loop
     μ-loop
     loop-holds
-    shared-slice-read-after-byte
-    after-byte-requires
-    add-i
+    shared-slice-read-x
+    name-byte-requires
+    after-name-byte-requires
+    add-name-end
+    name-end-requires
     loop-less
     loop-again
+    after-byte-requires
+    add-i
+    loop-less-2
+    loop-again-2
     returns)
