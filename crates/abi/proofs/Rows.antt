@@ -1,9 +1,11 @@
 -- What the C functions on tables need: sessions that do not fit, and places that fit 32 bits. Assumes nothing.
-use Prim.Native.Nat.{ℕ, _^_, _<_}
+use Prim.Native.Nat.{ℕ, _*_, _^_, _≤_, _<_}
 use mathlib.Core.Path.{_≡_, refl, subst}
 use mathlib.Core.Bool.{Bool, true, false, cond}
 use mathlib.Core.List.{List, [], flatten}
+use native.Mathlib.Nat.{mul-le-mul, le-refl}
 use native.Mathlib.Omega.{arith}
+use borrow.Author.Tests.{leb-true}
 use lib.Dec.{eqb, leb, ltb}
 use lib.ListN.{length, getD}
 use Rattle.buffers.specs.Pasting.{atFront}
@@ -24,6 +26,10 @@ use Rattle.rows.specs.Updating.{nthRowAnswer, updateWith, updateRowOf}
 use Rattle.rows.specs.Masked.{placeVerdict, maskedVerdictOf}
 use Rattle.rows.specs.declared.answers.RowsRead.{RowsRead}
 use Rattle.rows.specs.declared.answers.RowsRead.the-variants as read
+use Rattle.rows.proofs.Standing.{table-means}
+use Rattle.rows.proofs.Wide.{flatten-length}
+use Rattle.rows.proofs.Adding.{readable-wide}
+use Rattle.rows.proofs.Giving.{table-accepted}
 use Rattle.encoding.specs.Sessions.{sessionIn, oneUser, sessionFits, answerPlace}
 use Rattle.encoding.specs.Verdicts.{verdictPlace, verdictCode}
 use Rattle.abi.specs.Answers.{afterCheck}
@@ -148,3 +154,34 @@ module _ (im : List ℕ) (s : SessionMarks) (table : List ℕ) (w : ℕ) where
       at Accepted d =
           verdicts (ltb place (length (rowsOf w table))) (rowReadable im (sessionRights im s) (getD (rowsOf w table) place []))
       at (Refused q) d = table-told q d
+
+-- ---- a count is below 2 ^ 63, as a value of a call that is done has to be
+module _ (im : List ℕ) (s : SessionMarks) (table : List ℕ) (w : ℕ) where
+  abbrev countOf : RowsRead → ℕ
+  countOf (read.Done count) = count
+  countOf (read.Refused r) = 0
+
+  short : (n m : ℕ) → n * w ≤ m → 5 ≤ w → m < 2 ^ 64 → n < 2 ^ 63
+  short n m h low limit =
+      let five : n * 5 ≤ n * w = mul-le-mul (le-refl n) low in
+      omega (arith, five, h, limit)
+
+  pub count-below : (buffer : List ℕ) → length buffer < 2 ^ 64 → countOf (readRowsOf im s table w buffer .0) < 2 ^ 63
+  unfolding readRowsOf handedOut
+  count-below buffer limit = at (tableAnswer im s w table) refl
+    where
+      rows : List (List ℕ)
+      rows = readableRows im (sessionRights im s) w table
+
+      room : tableRule w table ≡ true → (t : Bool) → leb (length (flatten rows)) (length buffer) ≡ t → (done : List ℕ)
+          → countOf (cond {A = RowsRead × List ℕ} t (read.Done (length rows), done) (read.Refused Room, buffer) .0) < 2 ^ 63
+      room e true fits done =
+          let wide = flatten-length w rows (readable-wide im (sessionRights im s) w table e) in
+          let h : length rows * w ≤ length buffer = rw (← wide) (leb-true (length (flatten rows)) (length buffer) fits) in
+          short (length rows) (length buffer) h (table-means w table e .wide) limit
+      room e false fits done = omega arith
+
+      at : (c : Checked) → tableAnswer im s w table ≡ c
+          → countOf (onChecked {A = RowsRead × List ℕ} c (λ q. (read.Refused q, buffer)) (handedOut rows buffer) .0) < 2 ^ 63
+      at Accepted d = room (table-accepted im s w table d .1) (leb (length (flatten rows)) (length buffer)) refl (atFront (flatten rows) buffer)
+      at (Refused q) d = omega arith

@@ -35,7 +35,7 @@ abbrev pub updateAnswer : List ℕ → List ℕ → List ℕ → ℕ → ℕ →
 updateAnswer im bytes table width n payload =
     cond (oneUser bytes) (updateInto (updateRowOf im (sessionIn bytes) table width n payload)) (afterCheck im SessionRules, table)
 
--- ---- `brawnesk_masked`: 1 where the payload is handed out, 0 where the mask is
+-- ---- `brawnesk_masked`: 1 where the payload is handed out, which stands at `payloadOffset`; 0 where the mask is
 abbrev pub maskedAnswer : List ℕ → List ℕ → List ℕ → ℕ → ℕ → ℕ
 maskedAnswer im bytes table width place =
     cond (oneUser bytes) (verdictCode (maskedVerdictOf im (sessionIn bytes) table width place)) (afterCheck im SessionRules)

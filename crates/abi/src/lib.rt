@@ -202,7 +202,8 @@ pub extern "C" fn brawnesk_update(
     }
 }
 
-// Is the row at that place, from 0, among all rows handed out? Done: 1, its payload, at place × width + 4; 0, the mask.
+// Is the payload of the row at that place handed out? Places count from 0 among all rows. Done: 1, the payload, at place × width + 4; 0,
+// the mask, which is not looked at.
 #[no_mangle]
 pub extern "C" fn brawnesk_masked(
     image: &[u8],

@@ -1,2 +1,2 @@
--- Text written over the bytes of a lent buffer.
+-- Bytes written over those of a lent buffer.
 pub mod Pasting

@@ -1,4 +1,4 @@
--- Text written over the bytes of a lent buffer.
+-- Bytes, called a text here, written over those of a lent buffer.
 use Prim.Native.Nat.{ℕ, _+_}
 use mathlib.Core.Path.{_≡_}
 use mathlib.Core.List.{List, _++_}

@@ -1,18 +1,25 @@
 -- Laws of the scans over bytes and names. For each scan: what it gives where the loop that runs it stops, steps on and ends, from
 -- the loop's invariant, that what is left gives what the whole gives. Assumes nothing.
-use Prim.Native.Nat.{ℕ, suc, _+_, _-_, _≤_, _<_}
+use Prim.Native.Nat.{ℕ, zero, suc, _+_, _-_, _≤_, _<_}
 use mathlib.Core.Path.{_≡_, refl, sym, ap, _∙_}
 use mathlib.Core.Bool.{Bool, true, false, _&&_, _||_}
 use mathlib.Core.List.{List, [], _∷_}
-use native.Mathlib.Nat.{add-sub-cancel-left}
+use native.Mathlib.Nat.{sub-zero, zero-sub, add-sub-cancel-left}
 use native.Mathlib.Numerals.{add-one}
 use native.Mathlib.Omega.{arith}
 use borrow.Author.Tests.{lt-ltb, le-ltb, eq-eqb, ne-eqb}
 use lib.Dec.{eqb, ltb}
 use lib.ListN.{length, getD, take, drop, drop-of-length-le, length-take, length-drop}
-use lib.Seq.{drop-cons, getD-take, getD-drop}
+use lib.Seq.{take-nil, drop-cons, getD-take, getD-drop}
 use Rattle.fields.specs.Bytes.{all, part, byteAt}
 use Rattle.fields.specs.Names.{sameName, nameBefore}
+
+-- ---- the first n of a list, without the first m
+pub drop-take : (m n : ℕ) (s : List ℕ) → drop m (take n s) ≡ take (n - m) (drop m s)
+drop-take zero n s = rw sub-zero
+drop-take (suc m) zero s = rw zero-sub
+drop-take (suc m) (suc n) [] = sym (take-nil (suc n - suc m))
+drop-take (suc m) (suc n) (x ∷ s) = let e : n - m ≡ suc n - suc m = omega arith in drop-take m n s ∙ ap (λ (k : ℕ). take k (drop m s)) e
 
 -- ---- a part, as code takes it: from k up to k + n
 module _ (s : List ℕ) (k n : ℕ) where

@@ -22,7 +22,7 @@ pub enum Fault {
     Ring(usize),
 }
 
-// The answer of a check.
+// The answer of a check, and of other calls that either are done or are refused.
 pub enum Checked {
     Accepted,
     Refused(Refusal),

@@ -20,25 +20,11 @@ use Rattle.rows.specs.Reading.{handedOut, readRowsOf}
 use Rattle.rows.specs.Updating.{nthRowAnswer, updateWith, updateRowOf}
 use Rattle.rows.specs.declared.answers.RowsRead.the-variants as rowsRead
 use Rattle.isolation.specs.Claim.{listAtMaximum, ownWidth}
+use Rattle.rows.proofs.Giving.{table-accepted}
 use Rattle.isolation.proofs.Reach.{readable-equal}
 
 -- ---- what an accepted answer tells
-pub shape-accepted : (w : ℕ) (table : List ℕ) → tableShape w table ≡ Accepted → tableRule w table ≡ true
-shape-accepted w table = at (tableRule w table)
-  where
-    at : (t : Bool) → orRefuse t TableShape Accepted ≡ Accepted → t ≡ true
-    at true e = refl
-    at false e = absurd (refused-not TableShape e)
-
 module _ (im : List ℕ) (s : SessionMarks) (w : ℕ) (table : List ℕ) where
-  pub table-accepted : tableAnswer im s w table ≡ Accepted → (lentAnswer im s ≡ Accepted) × (tableRule w table ≡ true)
-  unfolding tableAnswer
-  table-accepted = at (lentAnswer im s)
-    where
-      at : (c : Checked) → onChecked c Refused (tableShape w table) ≡ Accepted → (c ≡ Accepted) × (tableRule w table ≡ true)
-      at Accepted e = (refl, shape-accepted w table e)
-      at (Refused r) e = absurd (refused-not r e)
-
   pub payload-fits : (n : ℕ) (payload : List ℕ) → nthRowAnswer im (sessionRights im s) table w n payload ≡ Accepted
       → length payload ≡ payloadLength w
   unfolding nthRowAnswer

@@ -13,7 +13,8 @@ use Rattle.rows.specs.Updating.{changedNth, nthRowAnswer, tableUpdated, updateW
 use Rattle.isolation.specs.Claim.{everReadable, ownWidth, HiddenKept}
 use Rattle.isolation.proofs.Shapes.{count-by-length}
 use Rattle.isolation.proofs.Updated.{updated-accepted, updated-list, updated-hidden}
-use Rattle.isolation.proofs.Agree.{table-accepted, payload-fits, Paired, accepted-width, table-answers-agree, nth-agrees}
+use Rattle.rows.proofs.Giving.{table-accepted}
+use Rattle.isolation.proofs.Agree.{payload-fits, Paired, accepted-width, table-answers-agree, nth-agrees}
 
 -- ---- keeping hidden rows, over several calls
 module _ (im : List ℕ) (u width : ℕ) where

@@ -19,8 +19,9 @@ use Rattle.rows.proofs.Standing.{AllWide, rows-wide}
 use Rattle.isolation.specs.Calls.{Call, opening, settingLabel, settingRowLabel, onRows, reading, updating}
 use Rattle.isolation.specs.Calls.{Answer, rowsHanded, State, lentSession, bytesRead, rowStep, step, run}
 use Rattle.isolation.specs.Claim.{bufferZeroed, Alike}
-use Rattle.rows.proofs.Wide.{kept-wide, flatten-length}
-use Rattle.isolation.proofs.Agree.{table-accepted}
+use Rattle.rows.proofs.Wide.{flatten-length}
+use Rattle.rows.proofs.Adding.{readable-wide}
+use Rattle.rows.proofs.Giving.{table-accepted}
 
 -- ---- one read
 -- what a caller sees of a read
@@ -52,8 +53,7 @@ buffers-alike im s table w buffer1 buffer2 same = at (tableAnswer im s w table) 
         ≡ shown w (onChecked c (λ r. (Refused r, buffer2)) (handedOut (readableRows im (sessionRights im s) w table) buffer2))
     at checked.Accepted e =
         let rows = readableRows im (sessionRights im s) w table in
-        let wide : AllWide w rows = unfold readableRows in
-        kept-wide (rowReadable im (sessionRights im s)) w (rowsOf w table) (rows-wide w table (table-accepted im s w table e .1)) in
+        let wide = readable-wide im (sessionRights im s) w table (table-accepted im s w table e .1) in
         rows-shown w rows wide buffer1 ∙ (rw same) ∙ sym (rows-shown w rows wide buffer2)
     at (checked.Refused r) e = refl
 

@@ -7,7 +7,8 @@ use Rattle.fields.proofs.Both.{both-left, both-right}
 use Rattle.sessions.specs.Session.{SessionMarks}
 use Rattle.isolation.specs.Calls.{Call, Answer, State, step, run}
 use Rattle.isolation.specs.Claim.{ownCall, ownCalls, listAtMaximum, HiddenKept, Claim, HiddenRows, started, tableAfter}
-use Rattle.isolation.proofs.Agree.{Paired, shape-accepted}
+use Rattle.rows.proofs.Giving.{shape-accepted}
+use Rattle.isolation.proofs.Agree.{Paired}
 use Rattle.isolation.proofs.Alike.{kept-refl, kept-trans}
 use Rattle.isolation.proofs.Next.{next}
 use Rattle.isolation.proofs.Buffers.{runs-equal}

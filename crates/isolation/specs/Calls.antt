@@ -35,7 +35,7 @@ pub data Call : Type 0 where
 -- call was done; each refusal, which has its number and offset
 pub data Answer : Type 0 where
   opened : Opening → Answer
-  relabelled : SessionMarks → Checked → Answer
+  labelSet : SessionMarks → Checked → Answer
   rowsHanded : RowsRead → List ℕ → Answer
   rowDone : Checked → Answer
 
@@ -74,10 +74,10 @@ step im state (opening name) =
     (record { table = state .table; session = sessionAfter answer (state .session) }, opened answer)
 step im state (settingLabel lending text) =
     let result = setLabelOf im (lentSession state lending) text in
-    (record { table = state .table; session = result .0 }, relabelled (result .0) (result .1))
+    (record { table = state .table; session = result .0 }, labelSet (result .0) (result .1))
 step im state (settingRowLabel lending text) =
     let result = setRowLabelOf im (lentSession state lending) text in
-    (record { table = state .table; session = result .0 }, relabelled (result .0) (result .1))
+    (record { table = state .table; session = result .0 }, labelSet (result .0) (result .1))
 step im state (onRows lending width call) =
     let result = rowStep im (lentSession state lending) (state .table) width call in
     (record { table = result .0; session = state .session }, result .1)

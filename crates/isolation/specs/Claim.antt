@@ -36,7 +36,7 @@ ownCall u width state (settingLabel lending text) = ownSession u (lentSession st
 ownCall u width state (settingRowLabel lending text) = ownSession u (lentSession state lending)
 ownCall u width state (onRows lending named call) = ownSession u (lentSession state lending) && ownWidth width named
 
--- so does each call of the sequence, on what stands before it
+-- each call of the sequence is that user's, on what stands before it
 unfoldable pub ownCalls : List ℕ → ℕ → ℕ → State → List Call → Bool
 ownCalls im u width state [] = true
 ownCalls im u width state (call ∷ calls) = ownCall u width state call && ownCalls im u width (step im state call .0) calls
@@ -61,8 +61,8 @@ Alike calls1 calls2 = map bufferZeroed calls1 ≡ map bufferZeroed calls2
 abbrev pub started : List ℕ → SessionMarks → State
 started table s = record { table = table; session = s }
 
--- The paper also has a well-formed image and a user who exists and has neither READ nor FULL. The claim needs none of these: a bad
--- image refuses every call alike; a session of no user is refused 19; with READ or FULL every row is in the list, so the tables are equal
+-- Demand 3 speaks of a well-formed image and of a user with neither READ nor FULL. The claim needs neither: a bad image refuses every
+-- call alike, and with READ or FULL every row is in the list, so the tables are equal. Where no user has place u, 19 refuses his sessions
 pub record Premises (im : List ℕ) (u width : ℕ) (table1 table2 : List ℕ) (start : SessionMarks) (calls1 calls2 : List Call) : Type 0 where
   -- 12 refuses neither table with the row width
   pub table1-accepted : tableShape width table1 ≡ Accepted

@@ -7,6 +7,7 @@ use native.Mathlib.Omega.{arith}
 use borrow.Author.Tests.{lt-ltb, le-ltb}
 use lib.ListN.{length, take, drop, length-take, length-drop}
 use lib.Pow.{pow-mono}
+use Rattle.fields.proofs.Laws.{drop-take}
 use Rattle.sets.specs.Sets.{none}
 use Rattle.sets.specs.Groups.{placesOf}
 use Rattle.sets.specs.declared.groups.Groups.{Groups}
@@ -30,17 +31,6 @@ first-word im k offset text n g e d =
     let h : placesOf g < 2 ^ compartments im = list-exists im 2 text offset (placesOf g) (sym d ∙ ap namesOf e) in
     let low : placesOf g < 2 ^ 64 = lt-of-lt-of-le h (pow-mono (k .compartmentsLimit)) in
     omega arith
-
--- what is left of the first bytes of a text
-take-nil : (k : ℕ) → _≡_ {A = List ℕ} [] (take k [])
-take-nil zero = refl
-take-nil (suc k) = refl
-
-drop-take : (at stop : ℕ) (s : List ℕ) → drop at (take stop s) ≡ take (stop - at) (drop at s)
-drop-take zero stop s = rw sub-zero
-drop-take (suc at) zero s = let z : 0 - suc at ≡ 0 = omega arith in rw z
-drop-take (suc at) (suc stop) [] = take-nil (suc stop - suc at)
-drop-take (suc at) (suc stop) (x ∷ xs) = let z : suc stop - suc at ≡ stop - at = omega arith in rw z (drop-take at stop xs)
 
 sets-step : (im : List ℕ) (level offset : ℕ) (first : List ℕ) (rest : List (List ℕ))
     → readSets im level offset (first ∷ rest) ≡ thenRead (readList im 2 offset first) (λ c. groupsAfter im level c (offset + length first + 1) rest)

@@ -11,7 +11,7 @@ ghost use Rattle.sets.specs.Groups.{placesOf};
 ghost use Rattle.labels.specs.Label.{marksOf};
 ghost use Rattle.printing.specs.Print.{nameAt, entryAt, listed, section, textOf, labelExists, acceptedAnswer, Named};
 ghost use Rattle.buffers.specs.Pasting.{Written};
-use buffers::put;
+use buffers::given::put;
 use header::layout;
 use image::lookup;
 use labels::label::Label;

@@ -9,8 +9,8 @@ use borrow.Author.Tests.{eqb-true}
 use lib.Dec.{eqb}
 use lib.ListN.{length, take, drop, length-append}
 use Rattle.access.specs.Rights.{Rights}
-use Rattle.rows.specs.Table.{rowsOf, rowReadable, kept, readableRows, tableRule}
-use Rattle.rows.specs.Scan.{rowBytes, offsetOf}
+use Rattle.rows.specs.Table.{offsetOf, rowsOf, rowReadable, kept, readableRows, tableRule}
+use Rattle.rows.specs.Scan.{rowBytes}
 use Rattle.fields.proofs.Both.{parts}
 use Rattle.rows.proofs.Standing.{AllWide, flat-whole, rows-wide}
 use Rattle.rows.proofs.Wide.{kept-wide}

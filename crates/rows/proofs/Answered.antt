@@ -3,13 +3,14 @@ use Prim.Native.Nat.{ℕ, zero, suc, _+_, _-_, _*_, _/_, _≤_, _<_}
 use mathlib.Core.Path.{_≡_, refl, sym, ap, ap₂, _∙_}
 use mathlib.Core.Bool.{Bool, true, false, true≢false, cond}
 use mathlib.Core.List.{List, [], _∷_, flatten}
-use native.Mathlib.Nat.{sub-zero, zero-sub, zero-add, zero-mul, suc-mul, mul-div-cancel, div-mul-le-self, mul-le-mul, le-refl, le-trans, add-sub-cancel-left}
+use native.Mathlib.Nat.{zero-add, zero-mul, suc-mul, mul-div-cancel, div-mul-le-self, mul-le-mul, le-refl, le-trans, add-sub-cancel-left}
 use native.Mathlib.Omega.{arith}
 use borrow.Author.Tests.{eq-eqb, ne-eqb, lt-ltb, le-ltb, ltb-true}
 use lib.Dec.{leb, ltb}
 use lib.ListN.{length, take, drop, getD, length-drop}
-use lib.Seq.{take-nil, drop-drop, length-take-le}
+use lib.Seq.{drop-drop, length-take-le}
 use Rattle.fields.specs.Bytes.{part}
+use Rattle.fields.proofs.Laws.{drop-take}
 use Rattle.refusals.specs.declared.Refusal.the-variants.{Room, PayloadLength, NoRow, RowNotWritable, TableShape}
 use Rattle.image.specs.declared.faults.Checked.{Checked}
 use Rattle.image.specs.declared.faults.Checked.the-variants as checked
@@ -22,7 +23,7 @@ use Rattle.sessions.specs.declared.answers.Verdict.{Verdict}
 use Rattle.sessions.specs.declared.answers.Verdict.the-variants as verdict
 use Rattle.buffers.specs.Pasting.{pasted, Written}
 use Rattle.buffers.proofs.Pasted.{front}
-use Rattle.rows.specs.Table.{firstRows, rowsOf, rowPayload, payloadOffset, payloadLength, rowReadable, rowWritable, readableRows, tableRule, tableAnswer}
+use Rattle.rows.specs.Table.{firstRows, rowsOf, rowOffset, rowPayload, payloadOffset, payloadLength, rowReadable, rowWritable, readableRows, tableRule, tableAnswer}
 use Rattle.rows.specs.Reading.{handedOut}
 use Rattle.rows.specs.Updating.{nthRowAnswer, tableUpdated, updateWith}
 use Rattle.rows.specs.Masked.{placeVerdict, maskedVerdictOf}
@@ -80,22 +81,16 @@ first-nth w (suc n) bytes (suc k) h =
     first-nth w n (drop w bytes) k l ∙ ap (take w) (drop-drop (k * w) w bytes ∙ ap (λ (m : ℕ). drop m bytes) s)
 
 module _ (w : ℕ) (table : List ℕ) (place : ℕ) (h : place < length table / w) where
-  pub place-inside : place * w + w ≤ length table
+  pub place-inside : rowOffset w place + w ≤ length table
   place-inside =
       let m : suc place * w ≤ length table / w * w = mul-le-mul (omega arith) (le-refl w) in
       let s = suc-mul place w in
       let d = div-mul-le-self (length table) w in
       omega arith
 
-  pub place-row : getD (rowsOf w table) place [] ≡ take w (drop (place * w) table)
+  pub place-row : getD (rowsOf w table) place [] ≡ take w (drop (rowOffset w place) table)
   unfolding rowsOf
   place-row = first-nth w (length table / w) table place h
-
-drop-take : (m n : ℕ) (l : List ℕ) → drop m (take n l) ≡ take (n - m) (drop m l)
-drop-take zero n l = rw sub-zero
-drop-take (suc m) zero l = rw zero-sub
-drop-take (suc m) (suc n) [] = sym (take-nil (suc n - suc m))
-drop-take (suc m) (suc n) (x ∷ l) = drop-take m n l ∙ ap (λ (k : ℕ). take k (drop m l)) (let e : n - m ≡ suc n - suc m = omega arith in e)
 
 -- what `masked_read` hands out of the table is the payload of the row at that place
 pub masked-payload : (w : ℕ) (table : List ℕ) (place : ℕ) → place < length table / w
@@ -105,7 +100,7 @@ masked-payload w table place h =
     ∙ ap (take (w - 4)) (drop-drop 4 (place * w) table)
 
 pub place-tagged : (w : ℕ) (table : List ℕ) → tableRule w table ≡ true → (place : ℕ) → place < length table / w
-    → 4 ≤ length (take (place * w + w - place * w) (drop (place * w) table))
+    → 4 ≤ length (take (rowOffset w place + w - rowOffset w place) (drop (rowOffset w place) table))
 place-tagged w table e place h =
     let inside = place-inside w table place h in
     let low = table-means w table e .wide in
@@ -119,7 +114,7 @@ module _ (im : List ℕ) (rights : Rights) (table : List ℕ) (w place : ℕ) wh
   place-none h = rw (rows-count w table, le-ltb place (length table / w) h)
 
   pub place-asked : place < length table / w → (granted : Bool)
-      → granted ≡ rowReadable im rights (take (place * w + w - place * w) (drop (place * w) table))
+      → granted ≡ rowReadable im rights (take (rowOffset w place + w - rowOffset w place) (drop (rowOffset w place) table))
       → verdictOf granted ≡ placeVerdict im rights table w place
   unfolding placeVerdict
   place-asked h granted g =
@@ -134,7 +129,7 @@ isYes (verdict.Refused r) = false
 -- where a row may be read, it stands inside the table
 pub record Readable (table : List ℕ) (w place : ℕ) : Type 0 where
   pub low : 5 ≤ w
-  pub inside : place * w + w ≤ length table
+  pub inside : rowOffset w place + w ≤ length table
 
 pub masked-readable : (im : List ℕ) (s : SessionMarks) (table : List ℕ) (w place : ℕ) → maskedVerdictOf im s table w place ≡ verdict.Yes
     → Readable table w place

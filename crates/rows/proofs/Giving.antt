@@ -1,18 +1,22 @@
 -- What a lent session and table give. Assumes nothing.
 use Prim.Native.Nat.{ℕ}
-use mathlib.Core.Path.{_≡_, subst}
-use mathlib.Core.Bool.{true, false}
+use mathlib.Core.Path.{_≡_, refl, subst}
+use mathlib.Core.Bool.{Bool, true, false}
 use mathlib.Core.List.{List}
 use Rattle.refusals.specs.declared.Refusal.{Refusal}
 use Rattle.refusals.specs.declared.Refusal.the-variants.{TableShape}
+use Rattle.image.specs.declared.faults.Checked.{Checked}
 use Rattle.image.specs.declared.faults.Checked.the-variants as checked
+use Rattle.image.specs.Check.{onChecked}
+use Rattle.image.proofs.Accepted.{refused-not}
+use Rattle.access.specs.NewLabels.{orRefuse}
 use Rattle.access.specs.Rights.{rightsOf}
 use Rattle.access.specs.declared.rights.View.{View}
 use Rattle.sessions.specs.Session.{SessionMarks, lentAnswer, sessionRights}
 use Rattle.sessions.specs.declared.given.Lent.{Lent}
 use Rattle.sessions.specs.declared.given.Lent.the-variants.{At, Refused}
 use Rattle.sessions.proofs.Accepting.{lent-accepted}
-use Rattle.rows.specs.Table.{tableRule, tableAnswer}
+use Rattle.rows.specs.Table.{tableRule, tableShape, tableAnswer}
 use Rattle.rows.specs.Scan.{TableGives}
 
 module _ (im : List ℕ) (s : SessionMarks) (w : ℕ) (table : List ℕ) where
@@ -37,3 +41,20 @@ module _ (im : List ℕ) (s : SessionMarks) (w : ℕ) (table : List ℕ) where
 
     pub table-refused : (r : Refusal) → l ≡ Refused r → TableGives im s w table l → tableAnswer im s w table ≡ checked.Refused r
     table-refused r e g = subst (λ (x : Lent). TableGives im s w table x) e g
+
+-- ---- what an accepted answer tells
+pub shape-accepted : (w : ℕ) (table : List ℕ) → tableShape w table ≡ checked.Accepted → tableRule w table ≡ true
+shape-accepted w table = at (tableRule w table)
+  where
+    at : (t : Bool) → orRefuse t TableShape checked.Accepted ≡ checked.Accepted → t ≡ true
+    at true e = refl
+    at false e = absurd (refused-not TableShape e)
+
+module _ (im : List ℕ) (s : SessionMarks) (w : ℕ) (table : List ℕ) where
+  pub table-accepted : tableAnswer im s w table ≡ checked.Accepted → (lentAnswer im s ≡ checked.Accepted) × (tableRule w table ≡ true)
+  unfolding tableAnswer
+  table-accepted = at (lentAnswer im s)
+    where
+      at : (c : Checked) → onChecked c checked.Refused (tableShape w table) ≡ checked.Accepted → (c ≡ checked.Accepted) × (tableRule w table ≡ true)
+      at checked.Accepted e = (refl, shape-accepted w table e)
+      at (checked.Refused r) e = absurd (refused-not r e)

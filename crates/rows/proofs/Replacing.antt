@@ -10,9 +10,8 @@ use lib.ListN.{length, take, drop, getD, length-append}
 use lib.Seq.{take-append-le, take-append-add, drop-append-add, drop-append-seam, take-at, drop-at}
 use Rattle.access.specs.Rights.{Rights}
 use Rattle.buffers.specs.Pasting.{pasted}
-use Rattle.rows.specs.Table.{rowsOf, withRows, withPayload, rowReadable, readableRows, tableRule}
+use Rattle.rows.specs.Table.{offsetOf, rowsOf, withRows, withPayload, rowReadable, readableRows, tableRule}
 use Rattle.rows.specs.Updating.{tableUpdated}
-use Rattle.rows.specs.Scan.{offsetOf}
 use Rattle.rows.proofs.Standing.{AllWide, table-means, flat-whole, rows-wide}
 use Rattle.rows.proofs.Wide.{flatten-append, wide-middle}
 use Rattle.rows.proofs.Finding.{Located, Missing, located}

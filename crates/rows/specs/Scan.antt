@@ -1,9 +1,8 @@
 -- What the parts of the row calls do, one row at a time.
-use Prim.Native.Nat.{ℕ, zero, suc, _+_}
+use Prim.Native.Nat.{ℕ}
 use mathlib.Core.Path.{_≡_}
-use mathlib.Core.Bool.{Bool, true, cond}
-use mathlib.Core.List.{List, [], _∷_}
-use lib.ListN.{length}
+use mathlib.Core.Bool.{true, cond}
+use mathlib.Core.List.{List, []}
 use Rattle.access.specs.Rights.{Rights, rightsOf}
 use Rattle.image.specs.Check.{IsAccepted}
 use Rattle.image.specs.declared.faults.Checked.the-variants as checked
@@ -16,19 +15,13 @@ use Rattle.rows.specs.Table.{rowReadable, tableRule, tableAnswer}
 unfoldable pub rowBytes : List ℕ → Rights → List ℕ → List ℕ
 rowBytes im rights row = cond (rowReadable im rights row) row []
 
--- the offset of the n-th row that passes the test; the length of all rows where there is none
-unfoldable pub offsetOf : (List ℕ → Bool) → ℕ → List (List ℕ) → ℕ
-offsetOf test n [] = 0
-offsetOf test zero (row ∷ rows) = cond (test row) 0 (length row + offsetOf test zero rows)
-offsetOf test (suc n) (row ∷ rows) = length row + cond (test row) (offsetOf test n rows) (offsetOf test (suc n) rows)
-
--- what code may take for granted once image, session and table are accepted
-pub record Asked (im : List ℕ) (width : ℕ) (table : List ℕ) : Type 0 where
+-- what code may take for granted once image and table are accepted
+pub record Usable (im : List ℕ) (width : ℕ) (table : List ℕ) : Type 0 where
   pub accepted : IsAccepted im
   pub whole : tableRule width table ≡ true
 
 -- what the code finds of a lent session and table: what the session gives its user, or the refusal
 abbrev pub TableGives : List ℕ → SessionMarks → ℕ → List ℕ → Lent → Type 0
 TableGives im s width table (At view) =
-    (tableAnswer im s width table ≡ checked.Accepted) × (Asked im width table × (rightsOf view ≡ sessionRights im s))
+    (tableAnswer im s width table ≡ checked.Accepted) × (Usable im width table × (rightsOf view ≡ sessionRights im s))
 TableGives im s width table (Refused r) = tableAnswer im s width table ≡ checked.Refused r

@@ -14,7 +14,7 @@ use Rattle.access.specs.NewLabels.{orRefuse}
 use Rattle.access.specs.Verdicts.{mayRead, mayWrite}
 use Rattle.sessions.specs.Session.{SessionMarks, lentAnswer}
 
--- ---- where rows stand: nothing but these definitions knows it
+-- ---- where rows stand: these definitions say it, and no other does
 -- the first n rows of a run of bytes
 unfoldable pub firstRows : ℕ → ℕ → List ℕ → List (List ℕ)
 firstRows width zero bytes = []
@@ -31,6 +31,12 @@ withRows width table rows = flatten rows
 -- the offset of the row at a place, from 0, among all rows
 abbrev pub rowOffset : ℕ → ℕ → ℕ
 rowOffset width place = place * width
+
+-- the offset of the n-th row that passes the test; the length of all rows where there is none
+unfoldable pub offsetOf : (List ℕ → Bool) → ℕ → List (List ℕ) → ℕ
+offsetOf test n [] = 0
+offsetOf test zero (row ∷ rows) = cond (test row) 0 (length row + offsetOf test zero rows)
+offsetOf test (suc n) (row ∷ rows) = length row + cond (test row) (offsetOf test n rows) (offsetOf test (suc n) rows)
 
 -- ---- a row
 -- the tag is the first 4 bytes

@@ -2,7 +2,7 @@
 ghost use mathlib.Core.Path.{_≡_};
 ghost use Rattle.access.specs.Rights.{rightsOf};
 ghost use Rattle.rows.specs.Masked.{placeVerdict};
-ghost use Rattle.rows.specs.Scan.{Asked};
+ghost use Rattle.rows.specs.Scan.{Usable};
 use crate::scan::is_readable;
 use access::rights::View;
 use refusals::Refusal;
@@ -10,7 +10,7 @@ use sessions::answers::Verdict;
 
 // 14 where there is no row at that place.
 pub fn place_verdict(image: &[u8], view: View, table: &[u8], width: usize, place: usize) -> Verdict
-    requires { ⌜ Asked (now image) width (now table) ⌝ }
+    requires { ⌜ Usable (now image) width (now table) ⌝ }
     ensures { λ r. ⌜ r ≡ placeVerdict (now (image .entry)) (rightsOf view) (now (table .entry)) width place ⌝ }
 {
     if table.len() / width <= place {

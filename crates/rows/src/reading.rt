@@ -6,7 +6,7 @@ ghost use lib.ListN.{length};
 ghost use Rattle.access.specs.Rights.{rightsOf};
 ghost use Rattle.rows.specs.Table.{readableRows};
 ghost use Rattle.rows.specs.Reading.{handedOut};
-ghost use Rattle.rows.specs.Scan.{Asked};
+ghost use Rattle.rows.specs.Scan.{Usable};
 use crate::answers::RowsRead;
 use crate::scan::copy_readable;
 use crate::scan::readable_length;
@@ -15,7 +15,7 @@ use refusals::Refusal;
 
 // Do that many bytes hold the readable rows? Where they hold the whole table, nothing has to be counted.
 fn has_room(image: &[u8], view: View, table: &[u8], width: usize, room: usize) -> bool
-    requires { ⌜ Asked (now image) width (now table) ⌝ }
+    requires { ⌜ Usable (now image) width (now table) ⌝ }
     ensures { λ r. ⌜ r ≡ leb (length (flatten (readableRows (now (image .entry)) (rightsOf view) width (now (table .entry))))) room ⌝ }
 {
     if table.len() <= room {
@@ -32,7 +32,7 @@ pub fn read_accepted(
     width: usize,
     buffer: &mut [u8],
 ) -> RowsRead
-    requires { ⌜ Asked (now image) width (now table) ⌝ }
+    requires { ⌜ Usable (now image) width (now table) ⌝ }
     ensures { λ r. ⌜ (r, now (buffer .exit)) ≡ handedOut (readableRows (now (image .entry)) (rightsOf view) width (now (table .entry))) (now (buffer .entry)) ⌝ }
 {
     if !has_room(image, view, table, width, buffer.len()) {

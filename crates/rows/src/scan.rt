@@ -7,11 +7,11 @@ ghost use lib.ListN.{length};
 ghost use Rattle.image.specs.Check.{IsAccepted};
 ghost use Rattle.access.specs.Rights.{rightsOf};
 ghost use Rattle.buffers.specs.Pasting.{Written};
-ghost use Rattle.rows.specs.Table.{rowsOf, rowReadable, rowWritable, readableRows};
-ghost use Rattle.rows.specs.Scan.{rowBytes, offsetOf, Asked};
+ghost use Rattle.rows.specs.Table.{offsetOf, rowsOf, rowReadable, rowWritable, readableRows};
+ghost use Rattle.rows.specs.Scan.{rowBytes, Usable};
 use access::rights::View;
 use access::verdicts;
-use buffers::put;
+use buffers::given::put;
 use fields::numbers::number4;
 
 // The row's tag decides.
@@ -42,7 +42,7 @@ fn row_length(image: &[u8], view: View, row: &[u8]) -> usize
 
 // How many bytes the readable rows have.
 pub fn readable_length(image: &[u8], view: View, table: &[u8], width: usize) -> usize
-    requires { ⌜ Asked (now image) width (now table) ⌝ }
+    requires { ⌜ Usable (now image) width (now table) ⌝ }
     ensures { λ r. ⌜ r ≡ length (flatten (readableRows (now (image .entry)) (rightsOf view) width (now (table .entry)))) ⌝ }
 {
     let mut n = 0;
@@ -75,7 +75,7 @@ pub fn copy_readable(
     width: usize,
     buffer: &mut [u8],
 ) -> usize
-    requires { ⌜ Asked (now image) width (now table) ⌝ }
+    requires { ⌜ Usable (now image) width (now table) ⌝ }
     requires { ⌜ length (flatten (readableRows (now image) (rightsOf view) width (now table))) ≤ length (now buffer) ⌝ }
     ensures { λ r. ⌜ Written (now (buffer .entry)) 0 (flatten (readableRows (now (image .entry)) (rightsOf view) width (now (table .entry)))) (now (buffer .exit)) r ⌝ }
 {
@@ -104,7 +104,7 @@ fn left_after(left: usize, readable: bool) -> usize
 
 // The offset of the n-th readable row; the table's length where there is none.
 pub fn nth_readable(image: &[u8], view: View, table: &[u8], width: usize, n: usize) -> usize
-    requires { ⌜ Asked (now image) width (now table) ⌝ }
+    requires { ⌜ Usable (now image) width (now table) ⌝ }
     ensures { λ r. ⌜ r ≡ offsetOf (rowReadable (now (image .entry)) (rightsOf view)) n (rowsOf width (now (table .entry))) ⌝ }
 {
     let mut left = n;

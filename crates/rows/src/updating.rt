@@ -2,11 +2,11 @@
 ghost use mathlib.Core.Path.{_≡_};
 ghost use Rattle.access.specs.Rights.{rightsOf};
 ghost use Rattle.rows.specs.Updating.{updateWith};
-ghost use Rattle.rows.specs.Scan.{Asked};
+ghost use Rattle.rows.specs.Scan.{Usable};
 use crate::scan::is_writable;
 use crate::scan::nth_readable;
 use access::rights::View;
-use buffers::put;
+use buffers::given::put;
 use image::faults::Checked;
 use refusals::Refusal;
 
@@ -19,7 +19,7 @@ pub fn update_accepted(
     n: usize,
     payload: &[u8],
 ) -> Checked
-    requires { ⌜ Asked (now image) width (now table) ⌝ }
+    requires { ⌜ Usable (now image) width (now table) ⌝ }
     ensures { λ r. ⌜ (r, now (table .exit)) ≡ updateWith (now (image .entry)) (rightsOf view) (now (table .entry)) width n (now (payload .entry)) ⌝ }
 {
     if payload.len() != width - 4 {

@@ -25,7 +25,7 @@ use Rattle.rows.specs.Table.{firstRows, rowsOf, withRows, readableRows, tableRu
 use Rattle.rows.specs.Reading.{handedOut, readRowsOf}
 use Rattle.rows.specs.Updating.{nthRowAnswer, tableUpdated, updateWith, updateRowOf}
 use Rattle.rows.specs.declared.answers.RowsRead.the-variants as rowsRead
-use Rattle.isolation.specs.Calls.{last, other, reading, updating, Call, opening, settingLabel, onRows, Answer, opened, relabelled, rowsHanded, rowDone, State, rowStep, step, run}
+use Rattle.isolation.specs.Calls.{last, other, reading, updating, Call, opening, settingLabel, onRows, Answer, opened, labelSet, rowsHanded, rowDone, State, rowStep, step, run}
 use Rattle.isolation.specs.Claim.{listAtMaximum, ownCall, ownCalls, started, tableAfter, Premises, Claim}
 use Rattle.isolation.proofs.HiddenRows.{run-step, hidden-rows}
 use Rattle.sample.specs.Cooperative.{cooperative}
@@ -185,11 +185,11 @@ updates-not : step cooperative (started tableAfter1 mara) (onRows last 6 (updati
 unfolding step rowStep updateRowOf updateWith nthRowAnswer tableAnswer tableRule tableAfter1 flatten number4 number2
 updates-not = rw (mara-passes, readable-between, mara-verdicts .writes30)
 
-relabels : step cooperative (started tableAfter1 mara) (settingLabel last labelVault) ≡ (started tableAfter1 vaulted, relabelled vaulted Accepted)
+relabels : step cooperative (started tableAfter1 mara) (settingLabel last labelVault) ≡ (started tableAfter1 vaulted, labelSet vaulted Accepted)
 unfolding step
 relabels = rw p10
 
-relabels-not : step cooperative (started tableAfter1 vaulted) (settingLabel last labelGlaze) ≡ (started tableAfter1 vaulted, relabelled vaulted (Refused RowLabelOutside))
+relabels-not : step cooperative (started tableAfter1 vaulted) (settingLabel last labelGlaze) ≡ (started tableAfter1 vaulted, labelSet vaulted (Refused RowLabelOutside))
 unfolding step
 relabels-not = rw glaze-refused
 
@@ -213,8 +213,8 @@ answers =
     ∷ rowsHanded (rowsRead.Done 3) bytesBefore
     ∷ rowDone Accepted
     ∷ rowDone (Refused RowNotWritable)
-    ∷ relabelled vaulted Accepted
-    ∷ relabelled vaulted (Refused RowLabelOutside)
+    ∷ labelSet vaulted Accepted
+    ∷ labelSet vaulted (Refused RowLabelOutside)
     ∷ rowsHanded (rowsRead.Refused TableShape) []
     ∷ rowsHanded (rowsRead.Refused SessionRules) []
     ∷ rowsHanded (rowsRead.Done 3) bytesAfter

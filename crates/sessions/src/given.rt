@@ -18,7 +18,7 @@ use refusals::Refusal;
 
 pub enum Lent {
     At(View),
-    // 1, 2, 3, 19.
+    // 1, 2, 3, 19; a row call's 12 after them.
     Refused(Refusal),
 }
 

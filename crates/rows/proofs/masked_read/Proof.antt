@@ -1,81 +1,63 @@
 use Prim.Native.Nat.{_+_, _-_, _*_}
-use mathlib.Core.Path.{_≡_}
-use Rattle.rows.specs.Masked.{maskedPart}
-use mathlib.Core.Path.{sym, _∙_}
+use mathlib.Core.Path.{_≡_, sym, _∙_}
 use native.Mathlib.Omega.{arith}
-use Rattle.rows.proofs.Answered.{masked-readable}
 use borrow.Author.Needs.{needs}
+use Rattle.rows.specs.Masked.{maskedPart}
+use Rattle.rows.proofs.Answered.{masked-readable}
 use Rattle.rows.proofs.masked_read.Statement.{statement}
 use Rattle.rows.proofs.masked_read.Tie as tie
-use Rattle.rows.proofs.masked_read.Reads as reads
-use Rattle.rows.proofs.masked_read.Lts as lts
-use Rattle.rows.proofs.masked_verdict.Reads as masked-verdict-reads
 
--- src/lib.rt:115:9
 masked-verdict-requires : tie.Need-masked-verdict-requires
 masked-verdict-requires c κs = search needs
 
--- src/lib.rt:118:22
 enum-told : tie.Need-enum-told
 enum-told c = search needs
 
--- src/lib.rt:118:22
 mul-at : tie.Need-mul-at
 mul-at c =
     let readable = masked-readable _ _ _ _ _ (sym (c .before .before .masked-verdict .ensures) ∙ c .enum-told .given .1) in
     omega (arith, readable .low, readable .inside)
 
--- src/lib.rt:119:20
 add-result : tie.Need-add-result
 add-result c =
     let readable = masked-readable _ _ _ _ _ (sym (c .before .before .masked-verdict .ensures) ∙ c .enum-told .given .1) in
     omega (arith, readable .low, readable .inside)
 
--- src/lib.rt:119:28
 add-result-2 : tie.Need-add-result-2
 add-result-2 c =
     let readable = masked-readable _ _ _ _ _ (sym (c .before .before .masked-verdict .ensures) ∙ c .enum-told .given .1) in
     omega (arith, readable .low, readable .inside)
 
--- src/lib.rt:119:13
 sub-result : tie.Need-sub-result
 sub-result c =
     let readable = masked-readable _ _ _ _ _ (sym (c .before .before .masked-verdict .ensures) ∙ c .enum-told .given .1) in
     omega (arith, readable .low, readable .inside)
 
--- src/lib.rt:119:13
 part-result-start : tie.Need-part-result-start
 part-result-start c =
     let readable = masked-readable _ _ _ _ _ (sym (c .before .before .masked-verdict .ensures) ∙ c .enum-told .given .1) in
     omega (arith, readable .low, readable .inside)
 
--- src/lib.rt:119:13
 part-result-end : tie.Need-part-result-end
 part-result-end c =
     let readable = masked-readable _ _ _ _ _ (sym (c .before .before .masked-verdict .ensures) ∙ c .enum-told .given .1) in
     omega (arith, readable .low, readable .inside)
 
--- src/lib.rt:121:24
 enum-told-2 : tie.Need-enum-told-2
 enum-told-2 c = search needs
 
--- src/lib.rt:122:26
 enum-known-verdict : tie.Need-enum-known-verdict
 enum-known-verdict c = search needs
 
--- src/lib.rt:122:39
 sub-result-2 : tie.Need-sub-result-2
 sub-result-2 c = search needs
 
--- src/lib.rt:122:39
 part-result-start-2 : tie.Need-part-result-start-2
 part-result-start-2 c = search needs
 
--- src/lib.rt:122:39
 part-result-end-2 : tie.Need-part-result-end-2
 part-result-end-2 c = search needs
 
--- src/lib.rt:105:1
 returns : tie.Need-returns
 unfolding maskedPart
 returns c =
@@ -85,12 +67,10 @@ returns c =
     let long : a .place * a .width + a .width - (a .place * a .width + 4) ≡ a .width - 4 = omega (arith, readable .low) in
     rw (told, long)
 
--- src/lib.rt:105:1
 returns-2 : tie.Need-returns-2
 unfolding maskedPart
 returns-2 c = rw (sym (c .before .before .masked-verdict .ensures) ∙ c .enum-told2 .given .1)
 
--- src/lib.rt:105:1
 returns-3 : tie.Need-returns-3
 unfolding maskedPart
 returns-3 c = rw (sym (c .before .before .before .before .masked-verdict .ensures) ∙ c .before .before .verdict .given .1)

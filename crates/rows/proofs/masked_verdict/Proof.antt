@@ -1,37 +1,27 @@
+use borrow.Author.Needs.{needs}
 use Rattle.rows.specs.Masked.{maskedVerdictOf}
 use Rattle.rows.proofs.Giving.{table-at, table-refused}
-use borrow.Author.Needs.{needs}
 use Rattle.rows.proofs.masked_verdict.Statement.{statement}
 use Rattle.rows.proofs.masked_verdict.Tie as tie
-use Rattle.rows.proofs.masked_verdict.Reads as reads
-use Rattle.rows.proofs.masked_verdict.Lts as lts
-use Rattle.rows.proofs.masking.place_verdict.Reads as place-verdict-reads
-use Rattle.rows.proofs.table_rights.Reads as table-rights-reads
 
--- src/lib.rt:95:9
 table-rights-requires : tie.Need-table-rights-requires
 table-rights-requires c κs = search needs
 
--- src/lib.rt:97:18
 enum-known-found : tie.Need-enum-known-found
 enum-known-found c = search needs
 
--- src/lib.rt:97:27
 place-verdict-requires : tie.Need-place-verdict-requires
 place-verdict-requires c κs = table-at _ _ _ _ _ _ (c .before .found .given .1) (c .before .before .before .table-rights .ensures) .1 .0
 
--- src/lib.rt:98:23
 enum-known-found-2 : tie.Need-enum-known-found-2
 enum-known-found-2 c = search needs
 
--- src/lib.rt:86:1
 returns : tie.Need-returns
 unfolding maskedVerdictOf
 returns c =
     let g = table-at _ _ _ _ _ _ (c .before .before .found .given .1) (c .before .before .before .before .table-rights .ensures) in
     rw (g .0, ← g .1 .1) (c .place-verdict .ensures)
 
--- src/lib.rt:86:1
 returns-2 : tie.Need-returns-2
 unfolding maskedVerdictOf
 returns-2 c = rw (table-refused _ _ _ _ _ _ (c .before .found2 .given .1) (c .before .before .before .table-rights .ensures))

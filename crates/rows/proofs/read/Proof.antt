@@ -1,41 +1,30 @@
+use borrow.Author.Needs.{needs}
 use Rattle.rows.specs.Reading.{readRowsOf}
 use Rattle.rows.proofs.Giving.{table-at, table-refused}
-use borrow.Author.Needs.{needs}
 use Rattle.rows.proofs.read.Statement.{statement}
 use Rattle.rows.proofs.read.Tie as tie
-use Rattle.rows.proofs.read.Reads as reads
-use Rattle.rows.proofs.read.Lts as lts
-use Rattle.rows.proofs.reading.read_accepted.Reads as read-accepted-reads
-use Rattle.rows.proofs.table_rights.Reads as table-rights-reads
 
--- src/lib.rt:59:9
 table-rights-requires : tie.Need-table-rights-requires
 table-rights-requires c κs = search needs
 
--- src/lib.rt:61:18
 enum-known-found : tie.Need-enum-known-found
 enum-known-found c = search needs
 
--- src/lib.rt:61:27
 read-accepted-requires : tie.Need-read-accepted-requires
 read-accepted-requires c κs = table-at _ _ _ _ _ _ (c .before .before .found .given .1) (c .before .before .before .before .table-rights .ensures) .1 .0
 
--- src/lib.rt:62:23
 enum-known-found-2 : tie.Need-enum-known-found-2
 enum-known-found-2 c = search needs
 
--- src/lib.rt:50:1
 same-length : tie.Need-same-length
 same-length c = search needs
 
--- src/lib.rt:50:1
 returns : tie.Need-returns
 unfolding readRowsOf
 returns c =
     let g = table-at _ _ _ _ _ _ (c .before .before .before .before .before .found .given .1) (c .before .before .before .before .before .before .before .table-rights .ensures) in
     rw (g .0, ← g .1 .1) (c .before .before .read-accepted .ensures)
 
--- src/lib.rt:50:1
 returns-2 : tie.Need-returns-2
 unfolding readRowsOf
 returns-2 c = rw (table-refused _ _ _ _ _ _ (c .before .found2 .given .1) (c .before .before .before .table-rights .ensures))

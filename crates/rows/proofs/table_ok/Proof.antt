@@ -1,26 +1,20 @@
 use Prim.Native.Nat.{_≤_}
 use native.Mathlib.Omega.{arith}
-use borrow.Author.Tests.{leb-true}
+use borrow.Author.Tests.{leb-true, not-true, not-false}
 use Rattle.fields.proofs.Both.{parts}
-use borrow.Author.Tests.{not-true, not-false}
 use Rattle.rows.specs.Table.{widthRule, tableRule}
 use Rattle.rows.proofs.table_ok.Statement.{statement}
 use Rattle.rows.proofs.table_ok.Tie as tie
-use Rattle.rows.proofs.table_ok.Reads as reads
-use Rattle.rows.proofs.table_ok.Lts as lts
 
--- src/lib.rt:28:9
 returns : tie.Need-returns
 unfolding tableRule
 returns c = rw (not-true (widthRule (c .before .args .width)) (c .if1 .taken))
 
--- src/lib.rt:30:5
 rem-result : tie.Need-rem-result
 rem-result c =
     let low : 5 ≤ c .before .args .width = leb-true _ _ (parts _ _ (not-false (widthRule (c .before .args .width)) (c .if1 .left)) .0) in
     omega arith
 
--- src/lib.rt:24:1
 returns-2 : tie.Need-returns-2
 unfolding tableRule
 returns-2 c = rw (not-false (widthRule (c .before .args .width)) (c .if1 .left))

@@ -2,16 +2,12 @@ use mathlib.Core.Path.{sym}
 use native.Mathlib.Nat.{le-trans}
 use native.Mathlib.Omega.{arith}
 use borrow.Author.Tests.{le-leb}
+use borrow.Author.Needs.{needs}
 use Rattle.access.specs.Rights.{rightsOf}
 use Rattle.rows.proofs.Adding.{read-short}
-use borrow.Author.Needs.{needs}
 use Rattle.rows.proofs.reading.has_room.Statement.{statement}
 use Rattle.rows.proofs.reading.has_room.Tie as tie
-use Rattle.rows.proofs.reading.has_room.Reads as reads
-use Rattle.rows.proofs.reading.has_room.Lts as lts
-use Rattle.rows.proofs.scan.readable_length.Reads as readable-length-reads
 
--- src/reading.rt:22:9
 returns : tie.Need-returns
 returns c =
     let pre = c .before .before .before .pre in
@@ -19,11 +15,9 @@ returns c =
     let short = read-short (a .image .now) (rightsOf (a .view)) _ _ (pre .whole) in
     sym (le-leb _ _ (le-trans short (omega arith)))
 
--- src/reading.rt:24:5
 readable-length-requires : tie.Need-readable-length-requires
 readable-length-requires c κs = search needs
 
--- src/reading.rt:17:1
 returns-2 : tie.Need-returns-2
 returns-2 c = rw (c .readable-length .ensures)
 

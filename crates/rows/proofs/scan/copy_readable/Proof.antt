@@ -1,19 +1,16 @@
 use Prim.Native.Nat.{_+_, _-_}
 use mathlib.Core.List.{flatten}
 use native.Mathlib.Nat.{zero-add}
-use Rattle.rows.specs.Table.{readableRows}
-use Rattle.rows.specs.Scan.{rowBytes}
 use native.Mathlib.Omega.{arith}
 use lib.ListN.{length, take, drop}
+use Rattle.rows.specs.Table.{readableRows}
+use Rattle.rows.specs.Scan.{rowBytes}
 use Rattle.access.specs.Rights.{rightsOf}
 use Rattle.buffers.proofs.Left.{Left, left-start, left-room, left-turn, left-end}
 use Rattle.rows.proofs.Scanning.{Rest, width-low, rest-start, rest-room, rest-next, row-tagged}
 use Rattle.rows.proofs.Adding.{left, left-whole, left-none, part-step}
 use Rattle.rows.proofs.scan.copy_readable.Statement.{statement}
 use Rattle.rows.proofs.scan.copy_readable.Tie as tie
-use Rattle.rows.proofs.scan.copy_readable.Reads as reads
-use Rattle.rows.proofs.scan.copy_readable.Lts as lts
-use Rattle.rows.proofs.scan.copy_row.Reads as copy-row-reads
 
 abbrev Inv-loop : tie.InvT-loop
 Inv-loop image view table width buffer₀ to₀ at₀ buffer to at =
@@ -22,31 +19,25 @@ Inv-loop image view table width buffer₀ to₀ at₀ buffer to at =
 abbrev μ-loop : tie.MeasureT-loop
 μ-loop image view table width buffer₀ to₀ at₀ buffer to at = length table - at
 
--- src/scan.rt:78:5
 loop-holds : tie.Need-loop-holds Inv-loop μ-loop
 loop-holds c = (rest-start _ _ (c .before .before .before .pre .0 .whole), left-start _ _ _ _ (left-whole _ _ _ _ (c .before .before .before .pre .0 .whole)))
 
--- src/scan.rt:79:19
 add-end : tie.Need-add-end Inv-loop μ-loop
 add-end c =
     let room = rest-room _ _ (c .before .before .before .before .before .pre .0 .whole) _ (c .before .loop .inv .0) (c .loop-test .taken) in
     omega arith
 
--- src/scan.rt:80:36
 sub-copy-row : tie.Need-sub-copy-row Inv-loop μ-loop
 sub-copy-row c = omega arith
 
--- src/scan.rt:80:36
 part-copy-row-start : tie.Need-part-copy-row-start Inv-loop μ-loop
 part-copy-row-start c = omega arith
 
--- src/scan.rt:80:36
 part-copy-row-end : tie.Need-part-copy-row-end Inv-loop μ-loop
 part-copy-row-end c =
     let room = rest-room _ _ (c .before .before .before .before .before .pre .0 .whole) _ (c .before .loop .inv .0) (c .loop-test .taken) in
     omega arith
 
--- src/scan.rt:80:9
 copy-row-requires : tie.Need-copy-row-requires Inv-loop μ-loop
 copy-row-requires c κs =
     let a = c .before .before .before .before .before .before .before .args in
@@ -58,13 +49,11 @@ copy-row-requires c κs =
     let step = part-step (a .image .now) (rightsOf (a .view)) _ _ (pre .0 .whole) _ (inv .0) turn in
     ((pre .0 .accepted, row-tagged _ _ (pre .0 .whole) _ (inv .0) turn), left-room _ _ _ _ _ _ (inv .1) row _ step (rw zero-add (pre .1)))
 
--- src/scan.rt:78:5
 loop-less : tie.Need-loop-less Inv-loop μ-loop
 loop-less c =
     let low = width-low _ _ (c .before .before .before .before .before .before .before .before .before .before .pre .0 .whole) in
     omega arith
 
--- src/scan.rt:78:5
 loop-again : tie.Need-loop-again Inv-loop μ-loop
 loop-again c =
     let a = c .before .before .before .before .before .before .before .before .before .before .args in
@@ -74,11 +63,9 @@ loop-again c =
     let step = part-step (a .image .now) (rightsOf (a .view)) _ _ (pre .0 .whole) _ (inv .0) turn in
     (rest-next _ _ (pre .0 .whole) _ (inv .0) turn, left-turn _ _ _ _ _ _ (inv .1) _ _ step _ _ (rw zero-add (pre .1)) (c .before .before .copy-row .ensures))
 
--- src/scan.rt:71:1
 same-length : tie.Need-same-length Inv-loop μ-loop
 same-length c = c .before .loop .inv .1 .long
 
--- src/scan.rt:71:1
 returns : tie.Need-returns Inv-loop μ-loop
 returns c = left-end _ _ _ _ _ _ (c .before .loop .inv .1) (left-none _ _ _ _ (c .before .before .before .before .before .pre .0 .whole) _ (c .loop-test .left))
 

@@ -1,33 +1,24 @@
 use mathlib.Core.Path.{sym, _∙_}
+use borrow.Author.Needs.{needs}
 use Rattle.buffers.proofs.Left.{written-none}
 use Rattle.rows.proofs.Adding.{adds-all, adds-none}
-use borrow.Author.Needs.{needs}
 use Rattle.rows.proofs.scan.copy_row.Statement.{statement}
 use Rattle.rows.proofs.scan.copy_row.Tie as tie
-use Rattle.rows.proofs.scan.copy_row.Reads as reads
-use Rattle.rows.proofs.scan.copy_row.Lts as lts
-use Rattle.buffers.proofs.put.Reads as put-reads
-use Rattle.rows.proofs.scan.is_readable.Reads as is-readable-reads
 
--- src/scan.rt:64:8
 is-readable-requires : tie.Need-is-readable-requires
 is-readable-requires c κs = search needs
 
--- src/scan.rt:65:9
 put-requires : tie.Need-put-requires
 put-requires c κs = rw (← adds-all _ _ _ (sym (c .before .before .is-readable .ensures) ∙ c .before .if1 .taken)) (c .before .before .before .before .before .before .pre .1)
 
--- src/scan.rt:65:9
 same-length : tie.Need-same-length
 same-length c = search needs
 
--- src/scan.rt:65:9
 returns : tie.Need-returns
 returns c =
     let e = sym (c .before .before .before .before .before .is-readable .ensures) ∙ c .before .before .before .before .if1 .taken in
     rw (adds-all _ _ _ e) (c .before .before .put .ensures)
 
--- src/scan.rt:59:1
 returns-2 : tie.Need-returns-2
 returns-2 c = written-none _ _ _ (adds-none _ _ _ (sym (c .before .is-readable .ensures) ∙ c .if1 .left))
 

@@ -1,7 +1,7 @@
-use borrow.Author.Needs.{needs}
 use Prim.Native.Nat.{_-_}
 use native.Mathlib.Nat.{zero-add}
 use native.Mathlib.Omega.{arith}
+use borrow.Author.Needs.{needs}
 use lib.ListN.{length}
 use Rattle.access.specs.Rights.{rightsOf}
 use Rattle.rows.specs.Table.{rowReadable}
@@ -9,10 +9,6 @@ use Rattle.rows.proofs.Scanning.{width-low, rest-start, rest-room, row-
 use Rattle.rows.proofs.Adding.{Seek, seek-found, seek-turn, seek-end}
 use Rattle.rows.proofs.scan.nth_readable.Statement.{statement}
 use Rattle.rows.proofs.scan.nth_readable.Tie as tie
-use Rattle.rows.proofs.scan.nth_readable.Reads as reads
-use Rattle.rows.proofs.scan.nth_readable.Lts as lts
-use Rattle.rows.proofs.scan.is_readable.Reads as is-readable-reads
-use Rattle.rows.proofs.scan.left_after.Reads as left-after-reads
 
 abbrev Inv-loop : tie.InvT-loop
 Inv-loop image view table width n left₀ at₀ left at = Seek (rowReadable image (rightsOf view)) width table n at left
@@ -20,57 +16,46 @@ Inv-loop image view table width n left₀ at₀ left at = Seek (rowReadable imag
 abbrev μ-loop : tie.MeasureT-loop
 μ-loop image view table width n left₀ at₀ left at = length table - at
 
--- src/scan.rt:106:5
 loop-holds : tie.Need-loop-holds Inv-loop μ-loop
 loop-holds c = record { rest = rest-start _ _ (c .before .before .pre .whole); sum = zero-add _ }
 
--- src/scan.rt:107:19
 add-end : tie.Need-add-end Inv-loop μ-loop
 add-end c =
     let room = rest-room _ _ (c .before .before .before .before .pre .whole) _ (c .before .loop .inv .rest) (c .loop-test .taken) in
     omega arith
 
--- src/scan.rt:108:49
 sub-is-readable : tie.Need-sub-is-readable Inv-loop μ-loop
 sub-is-readable c = omega arith
 
--- src/scan.rt:108:49
 part-is-readable-start : tie.Need-part-is-readable-start Inv-loop μ-loop
 part-is-readable-start c = omega arith
 
--- src/scan.rt:108:49
 part-is-readable-end : tie.Need-part-is-readable-end Inv-loop μ-loop
 part-is-readable-end c =
     let room = rest-room _ _ (c .before .before .before .before .pre .whole) _ (c .before .loop .inv .rest) (c .loop-test .taken) in
     omega arith
 
--- src/scan.rt:108:13
 is-readable-requires : tie.Need-is-readable-requires Inv-loop μ-loop
 is-readable-requires c κs =
     let pre = c .before .before .before .before .before .pre in
     (pre .accepted, row-tagged _ _ (pre .whole) _ (c .before .before .loop .inv .rest) (c .before .loop-test .taken))
 
--- src/scan.rt:110:13
 returns : tie.Need-returns Inv-loop μ-loop
 returns c = seek-found _ _ _ (c .before .before .before .before .before .before .before .pre .whole) _ _ _ (c .before .before .before .before .loop .inv) (c .before .before .before .loop-test .taken) (rw (← c .before .is-readable .ensures) (c .if1 .taken))
 
--- src/scan.rt:112:9
 left-after-requires : tie.Need-left-after-requires Inv-loop μ-loop
 left-after-requires c κs = search needs
 
--- src/scan.rt:106:5
 loop-less : tie.Need-loop-less Inv-loop μ-loop
 loop-less c =
     let low = width-low _ _ (c .before .before .before .before .before .before .before .before .pre .whole) in
     omega arith
 
--- src/scan.rt:106:5
 loop-again : tie.Need-loop-again Inv-loop μ-loop
 loop-again c =
     let told = c .before .before .is-readable .ensures in
     seek-turn _ _ _ (c .before .before .before .before .before .before .before .before .pre .whole) _ _ _ _ (c .before .before .before .before .before .loop .inv) (c .before .before .before .before .loop-test .taken) (rw (← told) (c .before .if1 .left)) (rw (← told) (c .left-after .ensures))
 
--- src/scan.rt:100:1
 returns-2 : tie.Need-returns-2 Inv-loop μ-loop
 returns-2 c = seek-end _ _ _ (c .before .before .before .before .pre .whole) _ _ _ (c .before .loop .inv) (c .loop-test .left)
 

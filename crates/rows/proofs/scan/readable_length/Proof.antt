@@ -7,9 +7,6 @@ use Rattle.rows.proofs.Scanning.{width-low, rest-start, rest-room, row-
 use Rattle.rows.proofs.Adding.{Count, count-fits, count-turn, count-end}
 use Rattle.rows.proofs.scan.readable_length.Statement.{statement}
 use Rattle.rows.proofs.scan.readable_length.Tie as tie
-use Rattle.rows.proofs.scan.readable_length.Reads as reads
-use Rattle.rows.proofs.scan.readable_length.Lts as lts
-use Rattle.rows.proofs.scan.row_length.Reads as row-length-reads
 
 abbrev Inv-loop : tie.InvT-loop
 Inv-loop image view table width n₀ at₀ n at = Count image (rightsOf view) width table at n
@@ -17,53 +14,43 @@ Inv-loop image view table width n₀ at₀ n at = Count image (rightsOf view) wi
 abbrev μ-loop : tie.MeasureT-loop
 μ-loop image view table width n₀ at₀ n at = length table - at
 
--- src/scan.rt:50:5
 loop-holds : tie.Need-loop-holds Inv-loop μ-loop
 loop-holds c = record { rest = rest-start _ _ (c .before .before .pre .whole); sum = zero-add _ }
 
--- src/scan.rt:51:19
 add-end : tie.Need-add-end Inv-loop μ-loop
 add-end c =
     let room = rest-room _ _ (c .before .before .before .before .pre .whole) _ (c .before .loop .inv .rest) (c .loop-test .taken) in
     omega arith
 
--- src/scan.rt:52:38
 sub-row-length : tie.Need-sub-row-length Inv-loop μ-loop
 sub-row-length c = omega arith
 
--- src/scan.rt:52:38
 part-row-length-start : tie.Need-part-row-length-start Inv-loop μ-loop
 part-row-length-start c = omega arith
 
--- src/scan.rt:52:38
 part-row-length-end : tie.Need-part-row-length-end Inv-loop μ-loop
 part-row-length-end c =
     let room = rest-room _ _ (c .before .before .before .before .pre .whole) _ (c .before .loop .inv .rest) (c .loop-test .taken) in
     omega arith
 
--- src/scan.rt:52:14
 row-length-requires : tie.Need-row-length-requires Inv-loop μ-loop
 row-length-requires c κs =
     let pre = c .before .before .before .before .before .pre in
     (pre .accepted, row-tagged _ _ (pre .whole) _ (c .before .before .loop .inv .rest) (c .before .loop-test .taken))
 
--- src/scan.rt:52:9
 add-n : tie.Need-add-n Inv-loop μ-loop
 add-n c =
     let fits = count-fits _ _ _ _ (c .before .before .before .before .before .before .pre .whole) _ _ (c .before .before .before .loop .inv) (c .before .before .loop-test .taken) in
     omega (arith, c .row-length .ensures)
 
--- src/scan.rt:50:5
 loop-less : tie.Need-loop-less Inv-loop μ-loop
 loop-less c =
     let low = width-low _ _ (c .before .before .before .before .before .before .pre .whole) in
     omega arith
 
--- src/scan.rt:50:5
 loop-again : tie.Need-loop-again Inv-loop μ-loop
 loop-again c = count-turn _ _ _ _ (c .before .before .before .before .before .before .pre .whole) _ _ _ (c .before .before .before .loop .inv) (c .before .before .loop-test .taken) (c .row-length .ensures)
 
--- src/scan.rt:44:1
 returns : tie.Need-returns Inv-loop μ-loop
 returns c = count-end _ _ _ _ (c .before .before .before .before .pre .whole) _ _ (c .before .loop .inv) (c .loop-test .left)
 

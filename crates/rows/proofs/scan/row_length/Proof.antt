@@ -1,22 +1,16 @@
 use mathlib.Core.Path.{sym, ap, _∙_}
+use borrow.Author.Needs.{needs}
 use lib.ListN.{length}
 use Rattle.rows.proofs.Adding.{adds-all, adds-none}
-use borrow.Author.Needs.{needs}
 use Rattle.rows.proofs.scan.row_length.Statement.{statement}
 use Rattle.rows.proofs.scan.row_length.Tie as tie
-use Rattle.rows.proofs.scan.row_length.Reads as reads
-use Rattle.rows.proofs.scan.row_length.Lts as lts
-use Rattle.rows.proofs.scan.is_readable.Reads as is-readable-reads
 
--- src/scan.rt:37:8
 is-readable-requires : tie.Need-is-readable-requires
 is-readable-requires c κs = search needs
 
--- src/scan.rt:38:9
 returns : tie.Need-returns
 returns c = sym (ap length (adds-all _ _ _ (sym (c .before .is-readable .ensures) ∙ c .if1 .taken)))
 
--- src/scan.rt:33:1
 returns-2 : tie.Need-returns-2
 returns-2 c = sym (ap length (adds-none _ _ _ (sym (c .before .is-readable .ensures) ∙ c .if1 .left)))
 

@@ -1,7 +1,7 @@
 use borrow.Author.Needs.{needs}
 use Rattle.buffers.proofs.Pasted.{put-part}
-use Rattle.buffers.proofs.put.Statement.{statement}
-use Rattle.buffers.proofs.put.Tie as tie
+use Rattle.buffers.proofs.given.put.Statement.{statement}
+use Rattle.buffers.proofs.given.put.Tie as tie
 
 sub-copy : tie.Need-sub-copy
 sub-copy c = search needs
