@@ -50,6 +50,25 @@ uint64_t brawnesk_set_row_label(const uint8_t *image, size_t image_length, uint8
 uint64_t brawnesk_may_read(const uint8_t *image, size_t image_length, const uint8_t *session, uint32_t tag);
 uint64_t brawnesk_may_write(const uint8_t *image, size_t image_length, const uint8_t *session, uint32_t tag);
 
+/* A table is a run of rows of one width, 5 to 512 bytes: the tag in 4 bytes, little-endian, and then the payload. */
+
+/* Copies the rows that the session may read, whole and in order, to the front of the buffer; later bytes stay. Done: how many rows.
+ * Refusals: 1, 2, 3, 19, 12 the width is not 5 to 512 or the table's length no multiple of it, 13 the rows are longer than the
+ * buffer. */
+uint64_t brawnesk_read(const uint8_t *image, size_t image_length, const uint8_t *session, const uint8_t *table, size_t table_length,
+                       size_t width, uint8_t *out, size_t out_length);
+
+/* Replaces the payload of row n, counted from 0 among the rows that the session may read now, and no other byte. Done: 0.
+ * Refusals: 1, 2, 3, 19, 12, 16 the payload's length is not the width minus 4, 14 no row n, 15 row n is not writable. */
+uint64_t brawnesk_update(const uint8_t *image, size_t image_length, const uint8_t *session, uint8_t *table, size_t table_length,
+                         size_t width, size_t n, const uint8_t *payload, size_t payload_length);
+
+/* The payload or the mask, for the row at that place, counted from 0 among all rows? Done: 1 the payload, which stands at
+ * place * width + 4 of the table, width - 4 bytes; 0 the mask. The mask's bytes are not looked at.
+ * Refusals: 1, 2, 3, 19, 12, 14 no row at that place. */
+uint64_t brawnesk_masked(const uint8_t *image, size_t image_length, const uint8_t *session, const uint8_t *table, size_t table_length,
+                         size_t width, size_t place, const uint8_t *mask, size_t mask_length);
+
 /* Does label 1 dominate label 2? Strictly: and the labels differ. 1 yes, 0 no; never refused. Bytes 24..47 are not looked at. */
 uint64_t brawnesk_dominates(const uint8_t *label1, const uint8_t *label2);
 uint64_t brawnesk_strictly_dominates(const uint8_t *label1, const uint8_t *label2);

@@ -1,0 +1,46 @@
+#!/usr/bin/env bash
+# The bindings: the archive exports just what the C header and the Rust crate declare; the crate's tests pass; both report loops
+# print what is stored; and valgrind finds no error in any of these programs. Needs target/staticlib/libabi.a.
+set -eu -o pipefail
+cd "$(dirname "$0")/.."
+unset BRAWNESK_LIB_DIR
+valgrind="valgrind --quiet --error-exitcode=9 --leak-check=full"
+# where it is not installed, the programs are run without it, and the last line says so
+how="under valgrind too"
+command -v valgrind >/dev/null || { valgrind=""; how="WITHOUT valgrind, which is not installed"; }
+exported=$(nm target/staticlib/libabi.a | sed -n 's/.* T \(brawnesk_.*\)/\1/p' | sort)
+
+# Compares the names on standard input with those that the archive exports.
+same_names() {
+    diff <(echo "$exported") <(sort) || { echo "$1 does not declare what the archive exports"; exit 1; }
+}
+test -n "$exported"
+gcc -std=c99 -E -P -Iinclude include/brawnesk.h | sed -n 's/^uint64_t \(brawnesk_[a-z0-9_]*\)(.*/\1/p' | same_names include/brawnesk.h
+sed -n 's/.*pub fn \(brawnesk_[a-z0-9_]*\)(.*/\1/p' bindings/rust/src/raw.rs | same_names bindings/rust/src/raw.rs
+
+cd bindings/rust
+cargo test --release --offline --quiet
+# Rust's test harness itself keeps 48 bytes of its main thread that valgrind counts as possibly lost: here only a sure leak is an error
+if [ -n "$valgrind" ]; then
+    CARGO_TARGET_X86_64_UNKNOWN_LINUX_GNU_RUNNER="$valgrind --errors-for-leak-kinds=definite --show-leak-kinds=definite" \
+        cargo test --release --offline --quiet --tests
+fi
+cargo build --release --offline --quiet --example report_loop
+cd ../..
+
+gcc -std=c99 -Wall -Wextra -Werror -Iinclude examples/report_loop.c target/staticlib/libabi.a -o target/report_loop
+# What a program prints under valgrind, and its exit status: 1 is its own, of a refusal, and 9 is valgrind's.
+run() {
+    local status=0
+    $valgrind "$@" || status=$?
+    echo "exit $status"
+}
+for loop in target/report_loop target/cargo/release/examples/report_loop; do
+    $loop sample/cooperative.img sample/table.bin MARA | diff - sample/report_loop.out
+    run $loop sample/cooperative.img sample/table.bin MARA | diff - <(cat sample/report_loop.out; echo "exit 0")
+    # refusals: no such user; 1,000 bytes are no whole blocks; 95 bytes are no whole rows
+    test "$(run $loop sample/cooperative.img sample/table.bin NOBODY)" = $'refused 4\nexit 1'
+    test "$(run $loop <(head -c 1000 sample/cooperative.img) sample/table.bin MARA)" = $'refused 1\nexit 1'
+    test "$(run $loop sample/cooperative.img <(head -c 95 sample/table.bin) MARA)" = $'refused 12\nexit 1'
+done
+echo "bindings: passed, $how"

@@ -1,0 +1,146 @@
+//! A policy image: its check, its names, label text both ways, and opening a session.
+
+use crate::raw;
+use crate::{decode, Label, Refusal, Session, LABEL, SESSION};
+
+/// The bytes of a policy image, borrowed. They need not have been checked: each call checks them.
+#[derive(Clone, Copy, Debug, PartialEq, Eq)]
+pub struct Image<'a>(&'a [u8]);
+
+/// A class of components.
+#[derive(Clone, Copy, Debug, PartialEq, Eq)]
+#[repr(u8)]
+pub enum Class {
+    /// Class 1.
+    Level = 1,
+    /// Class 2.
+    Compartment = 2,
+    /// Class 3.
+    Group = 3,
+}
+
+impl<'a> Image<'a> {
+    /// An image of these bytes, whatever they are.
+    pub const fn new(bytes: &'a [u8]) -> Image<'a> {
+        Image(bytes)
+    }
+
+    /// The bytes.
+    pub const fn bytes(self) -> &'a [u8] {
+        self.0
+    }
+
+    /// Pointer and length, for a call.
+    pub(crate) fn lent(self) -> (*const u8, usize) {
+        (self.0.as_ptr(), self.0.len())
+    }
+
+    /// Is the image accepted? Refusals: 1 length, 2 check or place of a block, 3 any other rule. The
+    /// calls that are lent an image give these three first.
+    ///
+    /// ```
+    /// # use brawnesk::{Image, Refusal};
+    /// let mut bytes = std::fs::read("../../sample/cooperative.img")?;
+    /// assert_eq!(Image::new(&bytes).check(), Ok(()));
+    /// bytes[600] = b'X';
+    /// assert_eq!(Image::new(&bytes).check(), Err(Refusal::BlockCheck(1)));
+    /// # Ok::<(), std::io::Error>(())
+    /// ```
+    pub fn check(self) -> Result<(), Refusal> {
+        let (image, length) = self.lent();
+        decode(unsafe { raw::brawnesk_check(image, length) })?;
+        Ok(())
+    }
+
+    /// The name of the component of that class and place, counted from 0 in its class: the part of
+    /// the image that holds it. Refusals: 1, 2, 3, 18 no such component.
+    ///
+    /// ```
+    /// # use brawnesk::{Class, Image, Refusal};
+    /// # let bytes = std::fs::read("../../sample/cooperative.img")?;
+    /// let image = Image::new(&bytes);
+    /// assert_eq!(image.name(Class::Group, 2), Ok("DOCK"));
+    /// assert_eq!(image.name(Class::Group, 4), Err(Refusal::NoComponent));
+    /// # Ok::<(), std::io::Error>(())
+    /// ```
+    pub fn name(self, class: Class, place: u8) -> Result<&'a str, Refusal> {
+        let (image, length) = self.lent();
+        let answer = decode(unsafe { raw::brawnesk_name(image, length, class as u8, place) })?;
+        let (offset, length) = (answer as usize % 65_536, answer as usize / 65_536);
+        Ok(text(&self.0[offset..][..length]))
+    }
+
+    /// The label that a text names: `LEVEL`, `LEVEL:list`, `LEVEL:list:list` or `LEVEL::list`.
+    /// Refusals: 1, 2, 3, 5 the text's shape, then the leftmost name refused by 6 not in its class or
+    /// 7 repeated.
+    ///
+    /// ```
+    /// # use brawnesk::{Image, Refusal};
+    /// # let bytes = std::fs::read("../../sample/cooperative.img")?;
+    /// let image = Image::new(&bytes);
+    /// assert_eq!(image.parse("VAULT:GLAZE,KILN"), image.parse("VAULT:KILN,GLAZE"));
+    /// assert_eq!(image.parse("CREW:OVEN"), Err(Refusal::UnknownName(5)));
+    /// # Ok::<(), std::io::Error>(())
+    /// ```
+    pub fn parse(self, text: impl AsRef<[u8]>) -> Result<Label, Refusal> {
+        let ((image, length), text) = (self.lent(), text.as_ref());
+        let mut label = [0; LABEL];
+        decode(unsafe {
+            raw::brawnesk_parse(image, length, text.as_ptr(), text.len(), label.as_mut_ptr())
+        })?;
+        Ok(Label(label))
+    }
+
+    /// A label's text, at the front of the buffer; later bytes stay. 4,096 bytes are always enough.
+    /// Refusals: 1, 2, 3, 18 the policy lacks what the label names, 13 the text is longer than the
+    /// buffer.
+    ///
+    /// ```
+    /// # use brawnesk::{Image, Refusal};
+    /// # let bytes = std::fs::read("../../sample/cooperative.img")?;
+    /// let image = Image::new(&bytes);
+    /// let label = image.parse("VAULT:GLAZE,KILN")?;
+    /// assert_eq!(image.print(label, &mut [0; 4096]), Ok("VAULT:KILN,GLAZE"));
+    /// assert_eq!(image.print(label, &mut [0; 15]), Err(Refusal::Room));
+    /// # Ok::<(), Box<dyn std::error::Error>>(())
+    /// ```
+    pub fn print(self, label: Label, buffer: &mut [u8]) -> Result<&str, Refusal> {
+        let ((image, length), Label(label)) = (self.lent(), label);
+        let (out, room) = (buffer.as_mut_ptr(), buffer.len());
+        let answer =
+            decode(unsafe { raw::brawnesk_print(image, length, label.as_ptr(), out, room) })?;
+        Ok(text(&buffer[..answer as usize]))
+    }
+
+    /// Opens a session for the user of that name, with the default label and the default row label.
+    /// Refusals: 1, 2, 3, 4 no user of that name.
+    ///
+    /// ```
+    /// # use brawnesk::{Image, Refusal};
+    /// # let bytes = std::fs::read("../../sample/cooperative.img")?;
+    /// let image = Image::new(&bytes);
+    /// let session = image.open("MARA")?;
+    /// assert_eq!(session.label(), image.parse("CREW:KILN,GLAZE:NORTH")?);
+    /// assert_eq!(image.open("mara"), Err(Refusal::NoUser));
+    /// # Ok::<(), Box<dyn std::error::Error>>(())
+    /// ```
+    pub fn open(self, user: impl AsRef<[u8]>) -> Result<Session, Refusal> {
+        let ((image, length), name) = (self.lent(), user.as_ref());
+        let mut session = [0; SESSION];
+        decode(unsafe {
+            raw::brawnesk_open(
+                image,
+                length,
+                name.as_ptr(),
+                name.len(),
+                session.as_mut_ptr(),
+            )
+        })?;
+        Ok(Session(session))
+    }
+}
+
+/// A name, or a label's text: both are ASCII in an accepted image.
+fn text(bytes: &[u8]) -> &str {
+    std::str::from_utf8(bytes).expect("the names of an accepted image are ASCII")
+}

@@ -1,0 +1,54 @@
+//! Brawnesk: may this session read or write a row of a shared store?
+//!
+//! Safe calls of the proved C functions, one method for each. A call borrows bytes, and keeps none.
+//!
+//! | C function | here |
+//! |---|---|
+//! | `brawnesk_check`, `brawnesk_name` | [`Image::check`], [`Image::name`] |
+//! | `brawnesk_parse`, `brawnesk_print` | [`Image::parse`], [`Image::print`] |
+//! | `brawnesk_open` | [`Image::open`] |
+//! | `brawnesk_set_label`, `brawnesk_set_row_label` | [`Session::set_label`], [`Session::set_row_label`] |
+//! | `brawnesk_may_read`, `brawnesk_may_write` | [`Session::may_read`], [`Session::may_write`] |
+//! | `brawnesk_read`, `brawnesk_update`, `brawnesk_masked` | [`Session::read`], [`Session::update`], [`Session::masked`] |
+//! | `brawnesk_dominates`, `brawnesk_strictly_dominates` | [`Label::dominates`], [`Label::strictly_dominates`] |
+//! | `brawnesk_merge` | [`Label::merge`] |
+//!
+//! **Refusals.** A call that can be refused gives a [`Refusal`]. A refusal changes no lent byte.
+//!
+//! **Every call that is lent an image checks it.** An [`Image`] is only a borrow; it does not say that
+//! the bytes were checked.
+//!
+//! **Lending.** What a call writes is borrowed alone, so it overlaps nothing else that is lent. Safe Rust
+//! lets parts that a call only reads overlap. The proofs assume that no lent parts do; such calls are
+//! tested only.
+//!
+//! **Sessions.** The library cannot tell who made a session's bytes. Keep sessions where the programs
+//! of users cannot write them.
+//!
+//! ```
+//! use brawnesk::Image;
+//!
+//! let bytes = std::fs::read("../../sample/cooperative.img")?;
+//! let table = std::fs::read("../../sample/table.bin")?;
+//! let image = Image::new(&bytes);
+//! let session = image.open("MARA")?;
+//! let mut buffer = vec![0; table.len()];
+//! for row in session.read(image, &table, 16, &mut buffer)? {
+//!     println!("{}", row.escape_ascii());
+//! }
+//! # Ok::<(), Box<dyn std::error::Error>>(())
+//! ```
+
+#![deny(missing_docs, dead_code)]
+
+mod image;
+mod label;
+mod raw;
+mod refusal;
+mod rows;
+mod session;
+
+pub use image::{Class, Image};
+pub use label::{Label, LABEL};
+pub use refusal::{decode, Refusal};
+pub use session::{Session, Verdict, SESSION};
