@@ -8,6 +8,7 @@ use brawnesk_tests::compare::{expected, Tally};
 use brawnesk_tests::ffi::{self, Answer};
 use brawnesk_tests::model::{self, Refusal};
 use brawnesk_tests::rng::Rng;
+use brawnesk_tests::vectors;
 
 const CASES: u64 = 26_000;
 
@@ -158,4 +159,11 @@ fn lengths_are_judged_first() {
     // Zeros have right checks; each block but the first has a wrong place.
     assert_eq!(ffi::check(&[0; 512]), expected(Err(Refusal::Image)));
     assert_eq!(ffi::check(&[0; 65_536]), expected(Err(Refusal::Block(1))));
+}
+
+#[test]
+fn vectors_of_images() {
+    for case in vectors::images() {
+        assert_eq!(ffi::check(&case.image), case.answer, "{}", case.line);
+    }
 }

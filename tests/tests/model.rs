@@ -1,9 +1,11 @@
 //! The model by itself: what it accepts, and the order of its faults.
 
 use brawnesk_tests::builder::{full, random, sample, to_image, Policy, Sizes};
+use brawnesk_tests::compare::expected;
 use brawnesk_tests::damage::{Damage, Draft, Expected};
 use brawnesk_tests::model::{check, first_fault, name, Fault, Refusal};
 use brawnesk_tests::rng::Rng;
+use brawnesk_tests::vectors;
 
 #[test]
 fn the_sample_is_accepted() {
@@ -110,4 +112,14 @@ fn faults_in_one_block_come_in_order() {
     assert_eq!(first_fault(&image), component(2));
     damage(&mut image, 512 + 509);
     assert_eq!(first_fault(&image), Some(Fault::Block { block: 1 }));
+}
+
+#[test]
+fn vectors_of_images() {
+    let cases = vectors::images();
+    assert!(cases.len() >= 15, "{} cases", cases.len());
+    for case in cases {
+        let answer = expected(check(&case.image).map(|()| 0));
+        assert_eq!(answer, case.answer, "{}", case.line);
+    }
 }

@@ -1,6 +1,7 @@
-//! The vectors of label text in `vectors/label_text.txt`.
+//! The vectors of label text.
 
-use super::{first_word, parts, read_refusal};
+use super::parts::{parts_with, Form};
+use super::{first_word, read_refusal};
 use crate::builder::Policy;
 use crate::ffi::Answer;
 
@@ -19,13 +20,13 @@ pub enum Expected {
 
 pub fn label_text() -> Vec<Vector> {
     let mut vectors = Vec::new();
-    for (policy, lines) in parts(include_str!("../../vectors/label_text.txt")) {
-        for line in lines {
+    for part in parts_with(Form::LabelText) {
+        for line in part.cases {
             let (_, case) = first_word(line);
             let (text, expected) = read_case(case);
             vectors.push(Vector {
                 line,
-                policy: policy.clone(),
+                policy: part.policy.clone(),
                 text,
                 expected,
             });

@@ -1,45 +1,25 @@
-//! The vectors in `vectors/*.txt`: one case a line, with answers from outside. The head of each file
-//! tells its form.
+//! The vectors in `vectors/*.txt`: one case a line, with answers from outside. `vectors/README.md`
+//! tells their form.
 
+mod asked;
+mod images;
 mod label_text;
+mod parts;
+mod requests;
 mod sessions;
 mod two_labels;
 mod users;
 
+pub use asked::Asked;
+pub use images::{images, ImageCase};
 pub use label_text::{label_text, Expected};
+pub use parts::{cases_of_the_sample, rows_of_the_guide};
+pub use requests::{requests, Waiting};
 pub use sessions::{sessions, Case, Section};
 pub use two_labels::{two_labels, PairCase};
 
 use crate::builder::{Component, Label, Policy};
 use crate::ffi::Answer;
-use std::collections::BTreeSet;
-
-/// A policy, and the lines after it up to the next.
-type Lines = (Policy, Vec<&'static str>);
-
-/// The parts of a file. A file without any is a mistake, and so is a policy without lines.
-fn parts(file: &'static str) -> Vec<Lines> {
-    let mut parts: Vec<Lines> = Vec::new();
-    let says = |line: &&str| !line.is_empty() && !line.starts_with('#');
-    for line in file.lines().filter(says) {
-        match line.strip_prefix("policy ") {
-            Some(classes) => parts.push((read_policy(classes), Vec::new())),
-            None => parts.last_mut().expect("a policy first").1.push(line),
-        }
-    }
-    assert!(!parts.is_empty(), "a file without vectors");
-    let is_used = |(_, lines): &Lines| !lines.is_empty();
-    assert!(parts.iter().all(is_used), "a policy without cases");
-    parts
-}
-
-/// Asks that no id comes twice.
-fn assert_ids_differ(lines: impl Iterator<Item = &'static str>) {
-    let mut ids = BTreeSet::new();
-    for line in lines {
-        assert!(ids.insert(first_word(line).0), "twice: {line}");
-    }
-}
 
 /// The first word of a line, and the rest.
 fn first_word(line: &'static str) -> (&'static str, &'static str) {

@@ -1,21 +1,11 @@
-//! The vectors of sessions and verdicts, in the form that `vectors/reading.txt` tells.
+//! The vectors of sessions, verdicts and updates.
 
-use super::users::{read_tagged, read_user};
-use super::{
-    assert_ids_differ, first_word, parts, question_and_answer, read_label, read_refusal,
-    read_verdict, Lines,
-};
+use super::asked::Asked;
+use super::parts::{parts_with, Form, Part};
+use super::{first_word, question_and_answer, read_label, read_refusal, read_verdict};
 use crate::builder::{to_image, Label, Policy};
 use crate::calls::Call;
 use crate::ffi::{Answer, SESSION};
-
-const FILES: [&str; 5] = [
-    include_str!("../../vectors/reading.txt"),
-    include_str!("../../vectors/privileges.txt"),
-    include_str!("../../vectors/writing.txt"),
-    include_str!("../../vectors/sessions.txt"),
-    include_str!("../../vectors/cooperative.txt"),
-];
 
 /// Rows that are given by their label get tags from here on.
 const ROW_TAGS: u32 = 50_000_000;
@@ -38,14 +28,14 @@ pub struct Case {
 
 /// A call, its answer, and the session after it.
 struct Step {
-    call: Call,
+    call: Asked,
     answer: Answer,
     session: [u8; SESSION],
 }
 
 impl Case {
     /// Asks that each call gives its answer and leaves the session as expected.
-    pub fn run(&self, ask: impl Fn(&Call, &mut [u8; SESSION]) -> Answer) {
+    pub fn run(&self, ask: impl Fn(&Asked, &mut [u8; SESSION]) -> Answer) {
         let mut session = UNOPENED;
         for Step {
             call,
@@ -59,31 +49,18 @@ impl Case {
     }
 }
 
-/// All sections of all files. No id comes twice, and every line is used: each user is asked by a case,
-/// and each label by its tag.
+/// All sections. Every line is used: each user is asked by a case, and each label by its tag.
 pub fn sessions() -> Vec<Section> {
-    let parts = FILES.into_iter().flat_map(parts);
-    let sections: Vec<Section> = parts.map(read_section).collect();
-    let cases = sections.iter().flat_map(|section| &section.cases);
-    assert_ids_differ(cases.map(|case| case.line));
-    sections
+    let parts = parts_with(Form::Session).into_iter();
+    parts.map(read_section).collect()
 }
 
-/// Users stand in the order of their names, and labels in the order of their tags.
-fn read_section((mut policy, lines): Lines) -> Section {
-    let mut case_lines = Vec::new();
-    for line in lines {
-        let (word, rest) = first_word(line);
-        match word {
-            "user" => policy.users.push(read_user(&policy, rest)),
-            "label" => policy.labels.push(read_tagged(&policy, rest)),
-            _ => case_lines.push(line),
-        }
-    }
-    policy.users.sort_by_key(|user| user.name.clone());
+/// The policy gets a label for each row that is given by its label.
+fn read_section(part: Part) -> Section {
+    let mut policy = part.policy;
     let tagged = policy.labels.len();
     let read = |line| read_case(&mut policy, line);
-    let cases: Vec<Case> = case_lines.into_iter().map(read).collect();
+    let cases: Vec<Case> = part.cases.into_iter().map(read).collect();
     assert_all_asked(&policy, tagged, &cases);
     policy.labels.sort_by_key(|label| label.tag);
     Section {
@@ -96,12 +73,12 @@ fn read_section((mut policy, lines): Lines) -> Section {
 fn assert_all_asked(policy: &Policy, tagged: usize, cases: &[Case]) {
     let calls = || cases.iter().flat_map(|case| &case.steps).map(|it| &it.call);
     for user in &policy.users {
-        let open = Call::Open(user.name.clone().into_bytes());
+        let open = Asked::Session(Call::Open(user.name.clone().into_bytes()));
         assert!(calls().any(|call| *call == open), "{} unused", user.name);
     }
     for Label { tag, .. } in &policy.labels[..tagged] {
-        let is_asked = |call: &Call| *call == Call::MayRead(*tag) || *call == Call::MayWrite(*tag);
-        assert!(calls().any(is_asked), "label {tag} unused");
+        let is_asked = calls().any(|call| call.tag() == Some(*tag));
+        assert!(is_asked, "label {tag} unused");
     }
 }
 
@@ -111,7 +88,7 @@ fn read_case(policy: &mut Policy, line: &'static str) -> Case {
     let (_, case) = first_word(line);
     let (name, case) = first_word(case);
     let (calls, answer) = question_and_answer(case);
-    let call = Call::Open(name.as_bytes().to_vec());
+    let call = Asked::Session(Call::Open(name.as_bytes().to_vec()));
     if calls == "open" {
         let (answer, session) = read_opened(policy, name, answer);
         let steps = vec![Step {
@@ -177,30 +154,33 @@ fn session(user: usize, [label, row]: [Label; 2]) -> [u8; SESSION] {
     bytes
 }
 
-/// A call on a session: "label TEXT" and "row TEXT" change it, "read ROW" and "write ROW" ask.
+/// A call on a session: "label TEXT" and "row TEXT" change it, "read ROW", "write ROW" and "update ROW"
+/// don't.
 fn read_step(policy: &mut Policy, call: &str, answer: &str, before: [u8; SESSION]) -> Step {
     let (word, text) = call.split_once(' ').expect("a call and its text");
-    let mut session = before;
-    if answer == "done" {
-        let label = read_label(policy, text).to_bytes();
-        let at = if word == "row" { 56 } else { 8 };
-        session[at..at + 48].copy_from_slice(&label);
-    }
-    let call = match word {
-        "label" => Call::SetLabel(text.as_bytes().to_vec()),
-        "row" => Call::SetRowLabel(text.as_bytes().to_vec()),
-        "read" => Call::MayRead(tag_of(policy, text)),
-        "write" => Call::MayWrite(tag_of(policy, text)),
+    let bytes = || text.as_bytes().to_vec();
+    let (call, changed) = match word {
+        "label" => (Asked::Session(Call::SetLabel(bytes())), Some(8)),
+        "row" => (Asked::Session(Call::SetRowLabel(bytes())), Some(56)),
+        "read" => (Asked::Session(Call::MayRead(tag_of(policy, text))), None),
+        "write" => (Asked::Session(Call::MayWrite(tag_of(policy, text))), None),
+        "update" => (Asked::Update(tag_of(policy, text)), None),
         _ => panic!("no call {word}"),
     };
-    let given = match call.is_verdict() {
-        true => read_verdict(answer),
-        false if answer == "done" => Some(Answer::Done(0)),
-        false => read_refusal(answer),
+    let given = match word {
+        "read" | "write" => read_verdict(answer),
+        _ if answer == "done" => Some(Answer::Done(0)),
+        _ => read_refusal(answer),
     };
+    let answer = given.unwrap_or_else(|| panic!("{answer} answers no {word}"));
+    let mut session = before;
+    if let (Some(at), Answer::Done(_)) = (changed, answer) {
+        let label = read_label(policy, text).to_bytes();
+        session[at..at + 48].copy_from_slice(&label);
+    }
     Step {
-        answer: given.unwrap_or_else(|| panic!("{answer} answers no {word}")),
         call,
+        answer,
         session,
     }
 }

@@ -1,9 +1,7 @@
-//! The vectors of dominance and merging in `vectors/two_labels.txt`.
+//! The vectors of dominance and merging.
 
-use super::{
-    assert_ids_differ, first_word, parts, question_and_answer, read_label, read_refusal,
-    read_verdict,
-};
+use super::parts::{parts_with, Form};
+use super::{first_word, question_and_answer, read_label, read_refusal, read_verdict};
 use crate::builder::Policy;
 use crate::calls::{Pair, PairCall};
 use crate::ffi::{Answer, LABEL};
@@ -30,13 +28,13 @@ impl PairCase {
     }
 }
 
-/// All cases. No id comes twice.
+/// All cases.
 pub fn two_labels() -> Vec<PairCase> {
     let mut cases = Vec::new();
-    for (policy, lines) in parts(include_str!("../../vectors/two_labels.txt")) {
-        cases.extend(lines.into_iter().map(|line| read_case(&policy, line)));
+    for part in parts_with(Form::TwoLabels) {
+        let read = |line| read_case(&part.policy, line);
+        cases.extend(part.cases.into_iter().map(read));
     }
-    assert_ids_differ(cases.iter().map(|case| case.line));
     cases
 }
 

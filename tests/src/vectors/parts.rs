@@ -1,0 +1,119 @@
+//! The files of vectors, part by part.
+
+use super::users::{read_tagged, read_user};
+use super::{first_word, read_policy};
+use crate::builder::Policy;
+use std::collections::BTreeSet;
+
+/// All files that are run. The sample's comes last.
+const FILES: [&str; 10] = [
+    include_str!("../../vectors/reading.txt"),
+    include_str!("../../vectors/privileges.txt"),
+    include_str!("../../vectors/writing.txt"),
+    include_str!("../../vectors/sessions.txt"),
+    include_str!("../../vectors/label_text.txt"),
+    include_str!("../../vectors/numbers.txt"),
+    include_str!("../../vectors/two_labels.txt"),
+    include_str!("../../vectors/relabelling.txt"),
+    include_str!("../../vectors/inverse_groups.txt"),
+    SAMPLE,
+];
+
+const SAMPLE: &str = include_str!("../../vectors/cooperative.txt");
+
+/// A policy with its users and labels, and the cases on it.
+pub struct Part {
+    pub policy: Policy,
+    pub cases: Vec<&'static str>,
+}
+
+/// What a case asks for.
+#[derive(Clone, Copy, PartialEq, Eq)]
+pub enum Form {
+    Check,
+    LabelText,
+    Session,
+    TwoLabels,
+}
+
+/// Each case has one form, so it is run.
+fn form(case: &str) -> Form {
+    let words: Vec<&str> = case.split(' ').collect();
+    match words[..] {
+        _ if case.contains("==") || case.contains('!') => Form::LabelText,
+        [_, "check", ..] => Form::Check,
+        [_, _, "open" | "label" | "row" | "read" | "write" | "update", ..] => Form::Session,
+        _ => Form::TwoLabels,
+    }
+}
+
+/// The parts that have cases of a form, with these cases alone.
+pub fn parts_with(asked: Form) -> Vec<Part> {
+    let mut parts = parts();
+    for part in &mut parts {
+        part.cases.retain(|case| form(case) == asked);
+    }
+    parts.retain(|part| !part.cases.is_empty());
+    parts
+}
+
+/// The parts of all files. No id comes twice.
+fn parts() -> Vec<Part> {
+    let parts: Vec<Part> = FILES.into_iter().flat_map(parts_of).collect();
+    let mut ids = BTreeSet::new();
+    for case in parts.iter().flat_map(|part| &part.cases) {
+        assert!(ids.insert(first_word(case).0), "twice: {case}");
+    }
+    parts
+}
+
+/// A file without any part is a mistake, and so is a policy without cases.
+fn parts_of(file: &'static str) -> Vec<Part> {
+    let mut parts: Vec<Part> = Vec::new();
+    for line in lines_that_say(file) {
+        let (word, rest) = first_word(line);
+        if word == "policy" {
+            let (policy, cases) = (read_policy(rest), Vec::new());
+            parts.push(Part { policy, cases });
+            continue;
+        }
+        let Part { policy, cases } = parts.last_mut().expect("a policy first");
+        match word {
+            "user" => policy.users.push(read_user(policy, rest)),
+            "label" => policy.labels.push(read_tagged(policy, rest)),
+            _ => cases.push(line),
+        }
+    }
+    assert!(!parts.is_empty(), "a file without vectors");
+    for Part { policy, cases } in &mut parts {
+        assert!(!cases.is_empty(), "a policy without cases");
+        policy.users.sort_by_key(|user| user.name.clone());
+        policy.labels.sort_by_key(|label| label.tag);
+    }
+    parts
+}
+
+/// Lines that are neither empty nor comments.
+pub fn lines_that_say(file: &'static str) -> impl Iterator<Item = &'static str> {
+    let says = |line: &&str| !line.is_empty() && !line.starts_with('#');
+    file.lines().filter(says)
+}
+
+/// The rows of the worked examples that stand as cases: n for an id Gn.m.
+pub fn rows_of_the_guide() -> BTreeSet<u32> {
+    numbers_after('G', parts())
+}
+
+/// The cases of document 01 that stand in the sample's file: n for an id Pn.m.
+pub fn cases_of_the_sample() -> BTreeSet<u32> {
+    numbers_after('P', parts_of(SAMPLE))
+}
+
+fn numbers_after(letter: char, parts: Vec<Part>) -> BTreeSet<u32> {
+    let cases = parts.into_iter().flat_map(|part| part.cases);
+    let number = |case| {
+        let (row, _) = first_word(case).0.split_once('.')?;
+        row.strip_prefix(letter)?.parse().ok()
+    };
+    cases.filter_map(number).collect()
+}
