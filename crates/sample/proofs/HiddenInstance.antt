@@ -1,86 +1,25 @@
 -- An instance of the claim that hidden rows stay hidden, computed on the sample co-operative: MARA's calls on two tables. Assumes nothing.
 use Prim.Native.Nat.{ℕ}
 use mathlib.Core.Path.{_≡_, refl, sym, ap, _∙_}
-use mathlib.Core.Bool.{true, false}
+use mathlib.Core.Bool.{true, not}
 use mathlib.Core.List.{List, [], _∷_, flatten}
 use lib.ListN.{replicate}
-use Rattle.fields.specs.Bytes.{number2, number4, number8, all}
-use Rattle.fields.specs.Names.{nameByte, nameIn, sameName}
-use Rattle.fields.specs.Scan.{firstBad}
-use Rattle.sets.specs.Sets.{has, empty, within, meets, collect}
-use Rattle.refusals.specs.declared.Refusal.the-variants.{NoUser, RowLabelOutside, TableShape, RowNotWritable, SessionRules}
-use Rattle.header.specs.Layout.{levels, compartments, groups, users, labels, components, firstLabelBlock, firstUserBlock, componentOffset, labelOffset, userOffset, componentRecord, labelRecord, userRecord}
-use Rattle.hierarchy.specs.Below.{parent, hasParent, lineageWithin, lineage, below}
+use Rattle.fields.specs.Bytes.{number2, number4}
+use Rattle.refusals.specs.declared.Refusal.the-variants.{NoUser, RowLabelOutside, TableShape, NoRow, RowNotWritable, SessionRules}
 use Rattle.image.specs.declared.faults.Checked.the-variants.{Accepted, Refused}
-use Rattle.image.specs.Lookup.{componentIndex, labelOfTag, userOfName}
-use Rattle.labels.specs.Text.{split, isName, isList, shapeRule}
-use Rattle.labels.specs.Parse.{matches, placeOfName, readNames}
-use Rattle.access.specs.Rights.{writeCompartmentsOf, writeGroupsOf, rightsAt, maximumReadLabel}
-use Rattle.access.specs.NewLabels.{sessionGroupsRule, rowInside, sessionLabelAnswer, rowLabelAnswer, sessionRule}
-use Rattle.access.specs.Verdicts.{readsAll, writesAll, holdsCompaccess, readLevelRule, readGroupsRule, readCompartmentsRule, compaccessReads, readTests, readsLabel, writeLevelRule, writeGroupsRule, writeCompartmentsRule, writeSetsRule, compaccessWrites, writeTests, writesLabel, labelAt, knownTag, mayRead, mayWrite, readableAtMaximum}
-use Rattle.sessions.specs.Session.{SessionMarks, lentAnswer, sessionRights}
-use Rattle.sessions.specs.Opening.{session, refused, openAccepted, openOf}
-use Rattle.sessions.specs.Changes.{labelChange, setLabelOf}
-use Rattle.rows.specs.Table.{firstRows, rowsOf, withRows, readableRows, tableRule, tableAnswer}
+use Rattle.sessions.specs.Session.{sessionRights}
+use Rattle.sessions.specs.Opening.{session, refused}
+use Rattle.rows.specs.Table.{firstRows, rowsOf, withRows, kept, readableRows, tableRule, tableAnswer}
 use Rattle.rows.specs.Reading.{handedOut, readRowsOf}
 use Rattle.rows.specs.Updating.{nthRowAnswer, tableUpdated, updateWith, updateRowOf}
 use Rattle.rows.specs.declared.answers.RowsRead.the-variants as rowsRead
-use Rattle.isolation.specs.Calls.{last, other, reading, updating, Call, opening, settingLabel, onRows, Answer, opened, labelSet, rowsHanded, rowDone, State, rowStep, step, run}
-use Rattle.isolation.specs.Claim.{listAtMaximum, ownCall, ownCalls, started, tableAfter, Premises, Claim}
+use Rattle.isolation.specs.Calls.{last, other, reading, updating, Call, opening, settingLabel, settingRowLabel, onRows, Answer, opened, labelSet, rowsHanded, rowDone, State, rowStep, step, run}
+use Rattle.isolation.specs.Claim.{everReadable, listAtMaximum, ownCall, ownCalls, started, tableAfter, Premises, Claim}
 use Rattle.isolation.proofs.HiddenRows.{run-step, hidden-rows}
 use Rattle.sample.specs.Cooperative.{cooperative}
-use Rattle.sample.specs.TwoTables.{row, seen, rows1, rows2, table1, table2, vaulted, tooLow, noSession, nameMara, nameMark, labelVault, labelGlaze, calls}
-use Rattle.sample.proofs.Sample.{sample-accepted}
+use Rattle.sample.specs.TwoTables.{row, seen, rows1, rows2, table1, table2, vaulted, bare, glazed, tooLow, noSession, nameMara, nameMark, textVault, textGlaze, textCrew, calls}
 use Rattle.sample.proofs.Mara.{mara, mara-opens, mara-passes, p10}
-
--- ---- what the image says of the rows' tags
--- what she could ever read
-record Ever : Type 0 where
-  ever10 : readableAtMaximum cooperative 0 10 ≡ true
-  ever30 : readableAtMaximum cooperative 0 30 ≡ true
-  never20 : readableAtMaximum cooperative 0 20 ≡ false
-  never0 : readableAtMaximum cooperative 0 0 ≡ false
-  never77 : readableAtMaximum cooperative 0 77 ≡ false
-
-ever : Ever
-unfolding readableAtMaximum maximumReadLabel mayRead knownTag labelAt readsLabel readTests readLevelRule readGroupsRule readCompartmentsRule compaccessReads holdsCompaccess readsAll rightsAt writeCompartmentsOf writeGroupsOf cooperative number2 number4 number8 has empty within meets collect firstBad levels compartments groups users labels components firstLabelBlock firstUserBlock componentOffset labelOffset userOffset componentRecord labelRecord userRecord parent hasParent lineageWithin lineage below labelOfTag
-ever = record { ever10 = refl; ever30 = refl; never20 = refl; never0 = refl; never77 = refl }
-
--- what a session of hers may do
-record Verdicts (s : SessionMarks) : Type 0 where
-  passes : lentAnswer cooperative s ≡ Accepted
-  reads10 : mayRead cooperative (sessionRights cooperative s) 10 ≡ true
-  reads30 : mayRead cooperative (sessionRights cooperative s) 30 ≡ true
-  reads20 : mayRead cooperative (sessionRights cooperative s) 20 ≡ false
-  reads0 : mayRead cooperative (sessionRights cooperative s) 0 ≡ false
-  writes10 : mayWrite cooperative (sessionRights cooperative s) 10 ≡ true
-  writes30 : mayWrite cooperative (sessionRights cooperative s) 30 ≡ false
-
-mara-verdicts : Verdicts mara
-unfolding mayRead mayWrite knownTag labelAt readsLabel readTests readLevelRule readGroupsRule readCompartmentsRule compaccessReads holdsCompaccess readsAll writesAll writesLabel writeTests writeLevelRule writeSetsRule writeGroupsRule writeCompartmentsRule compaccessWrites rightsAt writeCompartmentsOf writeGroupsOf cooperative number2 number4 number8 has empty within meets collect firstBad levels compartments groups users labels components firstLabelBlock firstUserBlock componentOffset labelOffset userOffset componentRecord labelRecord userRecord parent hasParent lineageWithin lineage below labelOfTag
-mara-verdicts = record { passes = mara-passes; reads10 = refl; reads30 = refl; reads20 = refl; reads0 = refl; writes10 = refl; writes30 = refl }
-
-vaulted-passes : lentAnswer cooperative vaulted ≡ Accepted
-unfolding lentAnswer sessionRule sessionLabelAnswer rowLabelAnswer rowInside sessionGroupsRule rightsAt writeCompartmentsOf writeGroupsOf cooperative number2 number4 number8 within meets collect levels compartments groups users labels components firstLabelBlock firstUserBlock componentOffset userOffset componentRecord userRecord parent hasParent lineageWithin lineage below
-vaulted-passes = rw sample-accepted
-
-vaulted-verdicts : Verdicts vaulted
-unfolding mayRead mayWrite knownTag labelAt readsLabel readTests readLevelRule readGroupsRule readCompartmentsRule compaccessReads holdsCompaccess readsAll writesAll writesLabel writeTests writeLevelRule writeSetsRule writeGroupsRule writeCompartmentsRule compaccessWrites rightsAt writeCompartmentsOf writeGroupsOf cooperative number2 number4 number8 has empty within meets collect firstBad levels compartments groups users labels components firstLabelBlock firstUserBlock componentOffset labelOffset userOffset componentRecord labelRecord userRecord parent hasParent lineageWithin lineage below labelOfTag
-vaulted-verdicts = record { passes = vaulted-passes; reads10 = refl; reads30 = refl; reads20 = refl; reads0 = refl; writes10 = refl; writes30 = refl }
-
--- ---- and of the calls that refuse
-mark-refused : openOf cooperative nameMark ≡ refused NoUser
-unfolding openOf openAccepted cooperative number2 nameIn sameName firstBad levels compartments groups users labels components firstLabelBlock firstUserBlock userOffset userRecord userOfName
-mark-refused = rw sample-accepted
-
--- the row label CREW:KILN:DOCK does not lie inside CREW:GLAZE:NORTH
-glaze-refused : setLabelOf cooperative vaulted labelGlaze ≡ (vaulted, Refused RowLabelOutside)
-unfolding setLabelOf labelChange sessionLabelAnswer rowInside sessionGroupsRule rightsAt writeCompartmentsOf writeGroupsOf cooperative number2 number4 number8 all nameByte nameIn sameName firstBad has within meets collect levels compartments groups users labels components firstLabelBlock firstUserBlock componentOffset userOffset componentRecord userRecord componentIndex parent hasParent lineageWithin lineage below split isName isList shapeRule matches placeOfName readNames
-glaze-refused = rw vaulted-passes
-
-too-low-refused : lentAnswer cooperative tooLow ≡ Refused SessionRules
-unfolding lentAnswer sessionRule sessionLabelAnswer rowLabelAnswer rowInside sessionGroupsRule rightsAt writeCompartmentsOf writeGroupsOf cooperative number2 number4 number8 within meets collect levels compartments groups users labels components firstLabelBlock firstUserBlock componentOffset userOffset componentRecord userRecord parent hasParent lineageWithin lineage below
-too-low-refused = rw sample-accepted
+use Rattle.sample.proofs.MaraReads.{ever, mara-verdicts, vaulted-passes, vaulted-verdicts, glazed-passes, glazed-verdicts, mark-refused, glaze-refused, crew-accepted, glaze-accepted, too-low-refused}
 
 -- ---- the tables' rows
 -- the first table after her update
@@ -97,6 +36,10 @@ bytesBefore = 10 ∷ 0 ∷ 0 ∷ 0 ∷ 65 ∷ 66 ∷ 30 ∷ 0 ∷ 0 ∷ 0 ∷ 67
 
 abbrev pub bytesAfter : List ℕ
 bytesAfter = 10 ∷ 0 ∷ 0 ∷ 0 ∷ 65 ∷ 66 ∷ 30 ∷ 0 ∷ 0 ∷ 0 ∷ 67 ∷ 68 ∷ 10 ∷ 0 ∷ 0 ∷ 0 ∷ 88 ∷ 89 ∷ []
+
+-- and with CREW:GLAZE:NORTH
+abbrev pub bytesNow : List ℕ
+bytesNow = 30 ∷ 0 ∷ 0 ∷ 0 ∷ 67 ∷ 68 ∷ []
 
 unfoldable tableAfter1 : List ℕ
 tableAfter1 = flatten rowsAfter1
@@ -129,19 +72,26 @@ readable-before : readableRows cooperative (sessionRights cooperative mara) 6 ta
 unfolding readableRows number4 number2
 readable-before =
     let v = mara-verdicts in
-    rw (rows-before, v .reads10, v .reads20, v .reads30, v .reads0)
+    rw (rows-before, v .reads10, v .hides20, v .reads30, v .hides0)
 
 readable-between : readableRows cooperative (sessionRights cooperative mara) 6 tableAfter1 ≡ seenAfter
 unfolding readableRows number4 number2
 readable-between =
     let v = mara-verdicts in
-    rw (rows-after, v .reads10, v .reads20, v .reads30, v .reads0)
+    rw (rows-after, v .reads10, v .hides20, v .reads30, v .hides0)
 
 readable-after : readableRows cooperative (sessionRights cooperative vaulted) 6 tableAfter1 ≡ seenAfter
 unfolding readableRows number4 number2
 readable-after =
     let v = vaulted-verdicts in
-    rw (rows-after, v .reads10, v .reads20, v .reads30, v .reads0)
+    rw (rows-after, v .reads10, v .hides20, v .reads30, v .hides0)
+
+-- with CREW:GLAZE:NORTH the two rows of CREW:KILN:DOCK are not readable now, though they are in the list
+readable-now : readableRows cooperative (sessionRights cooperative glazed) 6 tableAfter1 ≡ row 30 67 68 ∷ []
+unfolding readableRows number4 number2
+readable-now =
+    let v = glazed-verdicts in
+    rw (rows-after, v .hides10, v .hides20, v .reads30, v .hides0)
 
 -- ---- the first run, call by call
 -- a part of it: where it ends, its answers, and that its calls are hers
@@ -179,17 +129,17 @@ updates : step cooperative (started table1 mara) (onRows last 6 (updating 2 (88 
 unfolding step rowStep updateRowOf updateWith nthRowAnswer tableUpdated withRows tableAnswer tableRule table1 tableAfter1 flatten number4 number2
 updates =
     let v = mara-verdicts in
-    rw (mara-passes, readable-before, rows-before, v .reads10, v .reads20, v .reads30, v .writes10)
+    rw (mara-passes, readable-before, rows-before, v .reads10, v .hides20, v .reads30, v .writes10)
 
 updates-not : step cooperative (started tableAfter1 mara) (onRows last 6 (updating 1 (88 ∷ 89 ∷ []))) ≡ (started tableAfter1 mara, rowDone (Refused RowNotWritable))
 unfolding step rowStep updateRowOf updateWith nthRowAnswer tableAnswer tableRule tableAfter1 flatten number4 number2
 updates-not = rw (mara-passes, readable-between, mara-verdicts .writes30)
 
-relabels : step cooperative (started tableAfter1 mara) (settingLabel last labelVault) ≡ (started tableAfter1 vaulted, labelSet vaulted Accepted)
+relabels : step cooperative (started tableAfter1 mara) (settingLabel last textVault) ≡ (started tableAfter1 vaulted, labelSet vaulted Accepted)
 unfolding step
 relabels = rw p10
 
-relabels-not : step cooperative (started tableAfter1 vaulted) (settingLabel last labelGlaze) ≡ (started tableAfter1 vaulted, labelSet vaulted (Refused RowLabelOutside))
+relabels-not : step cooperative (started tableAfter1 vaulted) (settingLabel last textGlaze) ≡ (started tableAfter1 vaulted, labelSet vaulted (Refused RowLabelOutside))
 unfolding step
 relabels-not = rw glaze-refused
 
@@ -205,6 +155,22 @@ reads-again : step cooperative (started tableAfter1 vaulted) (onRows last 6 (rea
 unfolding step rowStep readRowsOf handedOut tableAnswer tableRule tableAfter1 flatten
 reads-again = rw (vaulted-passes, readable-after)
 
+sets-row-label : step cooperative (started tableAfter1 vaulted) (settingRowLabel last textCrew) ≡ (started tableAfter1 bare, labelSet bare Accepted)
+unfolding step
+sets-row-label = rw crew-accepted
+
+relabels-now : step cooperative (started tableAfter1 bare) (settingLabel last textGlaze) ≡ (started tableAfter1 glazed, labelSet glazed Accepted)
+unfolding step
+relabels-now = rw glaze-accepted
+
+reads-less : step cooperative (started tableAfter1 glazed) (onRows last 6 (reading (replicate 20 1))) ≡ (started tableAfter1 glazed, rowsHanded (rowsRead.Done 1) bytesNow)
+unfolding step rowStep readRowsOf handedOut tableAnswer tableRule tableAfter1 flatten
+reads-less = rw (glazed-passes, readable-now)
+
+no-row : step cooperative (started tableAfter1 glazed) (onRows last 6 (updating 1 (88 ∷ 89 ∷ []))) ≡ (started tableAfter1 glazed, rowDone (Refused NoRow))
+unfolding step rowStep updateRowOf updateWith nthRowAnswer tableAnswer tableRule tableAfter1 flatten
+no-row = rw (glazed-passes, readable-now)
+
 -- what MARA sees
 abbrev pub answers : List Answer
 answers =
@@ -218,9 +184,13 @@ answers =
     ∷ rowsHanded (rowsRead.Refused TableShape) []
     ∷ rowsHanded (rowsRead.Refused SessionRules) []
     ∷ rowsHanded (rowsRead.Done 3) bytesAfter
+    ∷ labelSet bare Accepted
+    ∷ labelSet glazed Accepted
+    ∷ rowsHanded (rowsRead.Done 1) bytesNow
+    ∷ rowDone (Refused NoRow)
     ∷ []
 
-first-run : Ran (started table1 noSession) (calls 1) (started tableAfter1 vaulted) answers
+first-run : Ran (started table1 noSession) (calls 1) (started tableAfter1 glazed) answers
 unfolding ownCall
 first-run =
     first-call _ _ _ _ _ _ _ refl opens
@@ -233,9 +203,27 @@ first-run =
     (first-call _ _ _ _ _ _ _ refl too-narrow
     (first-call _ _ _ _ _ _ _ refl too-low
     (first-call _ _ _ _ _ _ _ refl reads-again
-    (done _))))))))))
+    (first-call _ _ _ _ _ _ _ refl sets-row-label
+    (first-call _ _ _ _ _ _ _ refl relabels-now
+    (first-call _ _ _ _ _ _ _ refl reads-less
+    (first-call _ _ _ _ _ _ _ refl no-row
+    (done _))))))))))))))
+
+-- ---- what is hidden
+-- the rows of a table that she could never read
+abbrev pub hiddenIn : List ℕ → List (List ℕ)
+hiddenIn table = kept (λ r. not (everReadable cooperative 0 r)) (rowsOf 6 table)
+
+pub hidden1 : hiddenIn table1 ≡ row 20 1 2 ∷ row 0 3 4 ∷ []
+unfolding number4 number2
+hidden1 = rw (rows-before, ever .ever10, ever .never20, ever .ever30, ever .never0)
+
+pub hidden2 : hiddenIn table2 ≡ row 77 9 9 ∷ row 20 7 8 ∷ row 0 5 6 ∷ row 20 5 6 ∷ []
+unfolding number4 number2
+hidden2 = rw (rows-second, ever .ever10, ever .never20, ever .ever30, ever .never0, ever .never77)
 
 -- ---- the instance
+-- the image is well-formed (Sample: sample-accepted); MARA is user 0 (Mara: mara-opens) and has neither READ nor FULL (MaraReads: no-privileges)
 pub premises : Premises cooperative 0 6 table1 table2 noSession (calls 1) (calls 255)
 premises =
     record {

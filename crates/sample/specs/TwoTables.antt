@@ -5,7 +5,7 @@ use mathlib.Core.List.{List, [], _∷_, flatten}
 use lib.ListN.{replicate}
 use Rattle.labels.specs.Label.{Marks}
 use Rattle.sessions.specs.Session.{SessionMarks}
-use Rattle.isolation.specs.Calls.{last, other, reading, updating, Call, opening, settingLabel, onRows}
+use Rattle.isolation.specs.Calls.{last, other, reading, updating, Call, opening, settingLabel, settingRowLabel, onRows}
 
 -- ---- two tables of width 6
 -- a row: a tag below 256, and two bytes of payload
@@ -16,13 +16,13 @@ row tag a b = tag ∷ 0 ∷ 0 ∷ 0 ∷ a ∷ b ∷ []
 abbrev pub seen : List (List ℕ)
 seen = row 10 65 66 ∷ row 30 67 68 ∷ row 10 69 70 ∷ []
 
--- with one row of CREW::WORKS and one of tag 0
+-- with one row of CREW::WORKS and one of tag 0, at places 1 and 4
 abbrev pub rows1 : List (List ℕ)
 rows1 = row 10 65 66 ∷ row 20 1 2 ∷ row 30 67 68 ∷ row 10 69 70 ∷ row 0 3 4 ∷ []
 
--- with two rows of CREW::WORKS, one of tag 0 and one of tag 77, which no label has, at other places
+-- with two rows of CREW::WORKS, one of tag 0 and one of tag 77, which no label has, at places 0, 2, 3 and 5
 abbrev pub rows2 : List (List ℕ)
-rows2 = row 77 9 9 ∷ row 10 65 66 ∷ row 30 67 68 ∷ row 20 7 8 ∷ row 0 5 6 ∷ row 10 69 70 ∷ row 20 5 6 ∷ []
+rows2 = row 77 9 9 ∷ row 10 65 66 ∷ row 20 7 8 ∷ row 0 5 6 ∷ row 30 67 68 ∷ row 20 5 6 ∷ row 10 69 70 ∷ []
 
 unfoldable pub table1 : List ℕ
 table1 = flatten rows1
@@ -37,6 +37,14 @@ marks l c g = record { level = l; compartments = c; groups = g }
 -- VAULT:KILN:DOCK with row label CREW:KILN:DOCK
 abbrev pub vaulted : SessionMarks
 vaulted = record { user = 0; label = marks 2 1 4; row = marks 1 1 4 }
+
+-- VAULT:KILN:DOCK with row label CREW
+abbrev pub bare : SessionMarks
+bare = record { user = 0; label = marks 2 1 4; row = marks 1 0 0 }
+
+-- CREW:GLAZE:NORTH with row label CREW
+abbrev pub glazed : SessionMarks
+glazed = record { user = 0; label = marks 1 2 2; row = marks 1 0 0 }
 
 -- OPEN, below her minimum level: 19 refuses it
 abbrev pub tooLow : SessionMarks
@@ -56,12 +64,16 @@ abbrev pub nameMark : List ℕ
 nameMark = 77 ∷ 65 ∷ 82 ∷ 75 ∷ []
 
 -- VAULT:KILN:DOCK
-abbrev pub labelVault : List ℕ
-labelVault = 86 ∷ 65 ∷ 85 ∷ 76 ∷ 84 ∷ 58 ∷ 75 ∷ 73 ∷ 76 ∷ 78 ∷ 58 ∷ 68 ∷ 79 ∷ 67 ∷ 75 ∷ []
+abbrev pub textVault : List ℕ
+textVault = 86 ∷ 65 ∷ 85 ∷ 76 ∷ 84 ∷ 58 ∷ 75 ∷ 73 ∷ 76 ∷ 78 ∷ 58 ∷ 68 ∷ 79 ∷ 67 ∷ 75 ∷ []
 
 -- CREW:GLAZE:NORTH
-abbrev pub labelGlaze : List ℕ
-labelGlaze = 67 ∷ 82 ∷ 69 ∷ 87 ∷ 58 ∷ 71 ∷ 76 ∷ 65 ∷ 90 ∷ 69 ∷ 58 ∷ 78 ∷ 79 ∷ 82 ∷ 84 ∷ 72 ∷ []
+abbrev pub textGlaze : List ℕ
+textGlaze = 67 ∷ 82 ∷ 69 ∷ 87 ∷ 58 ∷ 71 ∷ 76 ∷ 65 ∷ 90 ∷ 69 ∷ 58 ∷ 78 ∷ 79 ∷ 82 ∷ 84 ∷ 72 ∷ []
+
+-- CREW
+abbrev pub textCrew : List ℕ
+textCrew = 67 ∷ 82 ∷ 69 ∷ 87 ∷ []
 
 -- the bytes that the reads' buffers held before, 20 each, are all that differs between two such sequences
 abbrev pub calls : ℕ → List Call
@@ -71,9 +83,13 @@ calls byte =
     ∷ onRows last 6 (reading (replicate 20 byte))
     ∷ onRows last 6 (updating 2 (88 ∷ 89 ∷ []))
     ∷ onRows last 6 (updating 1 (88 ∷ 89 ∷ []))
-    ∷ settingLabel last labelVault
-    ∷ settingLabel last labelGlaze
+    ∷ settingLabel last textVault
+    ∷ settingLabel last textGlaze
     ∷ onRows last 4 (reading (replicate 20 byte))
     ∷ onRows (other tooLow) 6 (reading (replicate 20 byte))
     ∷ onRows last 6 (reading (replicate 20 byte))
+    ∷ settingRowLabel last textCrew
+    ∷ settingLabel last textGlaze
+    ∷ onRows last 6 (reading (replicate 20 byte))
+    ∷ onRows last 6 (updating 1 (88 ∷ 89 ∷ []))
     ∷ []
