@@ -1,4 +1,4 @@
--- The sample image is accepted: every rule is computed on it. Assumes nothing.
+-- The two images of the sample co-operative are accepted: every rule is computed on them. Assumes nothing.
 use mathlib.Core.Path.{_≡_, refl}
 use lib.ListN.{length}
 use Rattle.fields.specs.Bytes.{number2, number4, number8, all}
@@ -12,12 +12,18 @@ use Rattle.records.specs.Rules.{classAt, classStart, parentRule, componentShape
 use Rattle.hierarchy.specs.Below.{parent, hasParent, endsWithin, endsRule, firstRing, lineageWithin, lineage, below, belowRule, firstBadBelow}
 use Rattle.image.specs.declared.faults.Checked.the-variants.{Accepted}
 use Rattle.image.specs.Check.{firstBadContent, contentFault, countedFault, faultOf, checkOf}
-use Rattle.sample.specs.Cooperative.{cooperative}
+use Rattle.sample.specs.Cooperative.{cooperative, casesImage}
 
 pub sample-length : length cooperative ≡ 2048
 unfolding cooperative
 sample-length = refl
 
+both-accepted : (checkOf cooperative ≡ Accepted) × (checkOf casesImage ≡ Accepted)
+unfolding cooperative casesImage number2 number4 number8 all nameByte nameIn nameRule sameName nameBefore firstBad has allBelow within meets collect lengthRule blockAt sumA sumB checkRule placeRule blockRule blockCount firstBadBlock levels compartments groups users labels components firstLabelBlock firstUserBlock blocksNeeded componentOffset labelOffset userOffset componentRecord labelRecord userRecord contentsOf headerRule fitRule classAt classStart parentRule componentShape numericRule namesDiffer newNameRule componentRule labelShape tagRule labelRule userLevelsRule userCompartmentsRule userGroupsRule userShape userNameRule userRule recordRule layoutRule firstBadRecord contentRule parent hasParent endsWithin endsRule firstRing lineageWithin lineage below belowRule firstBadBelow firstBadContent contentFault countedFault faultOf checkOf
+both-accepted = (refl, refl)
+
 pub sample-accepted : checkOf cooperative ≡ Accepted
-unfolding cooperative number2 number4 number8 all nameByte nameIn nameRule sameName nameBefore firstBad has allBelow within meets collect lengthRule blockAt sumA sumB checkRule placeRule blockRule blockCount firstBadBlock levels compartments groups users labels components firstLabelBlock firstUserBlock blocksNeeded componentOffset labelOffset userOffset componentRecord labelRecord userRecord contentsOf headerRule fitRule classAt classStart parentRule componentShape numericRule namesDiffer newNameRule componentRule labelShape tagRule labelRule userLevelsRule userCompartmentsRule userGroupsRule userShape userNameRule userRule recordRule layoutRule firstBadRecord contentRule parent hasParent endsWithin endsRule firstRing lineageWithin lineage below belowRule firstBadBelow firstBadContent contentFault countedFault faultOf checkOf
-sample-accepted = refl
+sample-accepted = both-accepted .0
+
+pub cases-accepted : checkOf casesImage ≡ Accepted
+cases-accepted = both-accepted .1

@@ -1,79 +1,28 @@
--- The sample co-operative of document 01 as an image: MARA, and labels 10 = CREW:KILN:DOCK, 20 = CREW::WORKS, 30 = OPEN.
-use Prim.Native.Nat.{ℕ, _-_, _/_, _%_}
-use mathlib.Core.List.{List, [], _∷_, _++_}
-use lib.ListN.{length, replicate}
+-- The sample co-operative of document 01 as two images, which differ in their labels only, and MARA's session as it opens in both.
+use Prim.Native.Nat.{ℕ}
+use mathlib.Core.List.{List, _++_}
+use Rattle.labels.specs.Label.{Marks}
+use Rattle.sessions.specs.Session.{SessionMarks}
+use Rattle.sample.specs.Pieces.{label, header, components, labels, users}
 
--- s with zeros after it, n bytes in all
-abbrev filled : ℕ → List ℕ → List ℕ
-filled n s = s ++ replicate (n - length s) 0
-
--- a block: kind, number of records, place, payload, and its two check bytes
-abbrev block : ℕ → ℕ → ℕ → List ℕ → ℕ → ℕ → List ℕ
-block kind count place payload a b = filled 510 (kind ∷ count ∷ place ∷ 0 ∷ payload) ++ (a ∷ b ∷ [])
-
--- a component: class, name, numeric form, parent
-abbrev component : ℕ → List ℕ → ℕ → ℕ → List ℕ
-component class name number parent =
-    filled 32 (class ∷ length name ∷ name) ++ filled 8 (number % 256 ∷ number / 256 ∷ parent ∷ [])
-
--- a label: tag, level place, compartments, groups
-abbrev label : ℕ → ℕ → ℕ → ℕ → List ℕ
-label tag level compartments groups = filled 8 (tag ∷ 0 ∷ 0 ∷ 0 ∷ level ∷ []) ++ filled 8 (compartments ∷ []) ++ filled 8 (groups ∷ [])
-
-abbrev open-level : List ℕ
-open-level = 79 ∷ 80 ∷ 69 ∷ 78 ∷ []
-
-abbrev crew : List ℕ
-crew = 67 ∷ 82 ∷ 69 ∷ 87 ∷ []
-
-abbrev vault : List ℕ
-vault = 86 ∷ 65 ∷ 85 ∷ 76 ∷ 84 ∷ []
-
-abbrev kiln : List ℕ
-kiln = 75 ∷ 73 ∷ 76 ∷ 78 ∷ []
-
-abbrev glaze : List ℕ
-glaze = 71 ∷ 76 ∷ 65 ∷ 90 ∷ 69 ∷ []
-
-abbrev works : List ℕ
-works = 87 ∷ 79 ∷ 82 ∷ 75 ∷ 83 ∷ []
-
-abbrev north : List ℕ
-north = 78 ∷ 79 ∷ 82 ∷ 84 ∷ 72 ∷ []
-
-abbrev dock : List ℕ
-dock = 68 ∷ 79 ∷ 67 ∷ 75 ∷ []
-
-abbrev south : List ℕ
-south = 83 ∷ 79 ∷ 85 ∷ 84 ∷ 72 ∷ []
-
-abbrev mara : List ℕ
-mara = 77 ∷ 65 ∷ 82 ∷ 65 ∷ []
-
--- 3 levels, 2 compartments, 4 groups, 1 user, 3 labels
-abbrev header : List ℕ
-header = block 80 0 0 (1 ∷ 3 ∷ 2 ∷ 4 ∷ 1 ∷ 0 ∷ 3 ∷ 0 ∷ []) 94 158
-
-abbrev components : List ℕ
-components =
-    block 67 9 1
-    (component 1 open-level 100 255 ++ component 1 crew 200 255 ++ component 1 vault 300 255
-    ++ component 2 kiln 10 255 ++ component 2 glaze 20 255
-    ++ component 3 works 1 255 ++ component 3 north 2 0 ++ component 3 dock 3 1 ++ component 3 south 4 0)
-    126 168
-
-abbrev labels : List ℕ
-labels = block 76 3 2 (label 10 1 1 4 ++ label 20 1 0 1 ++ label 30 0 0 0) 149 207
-
--- MARA, no privileges: maximum VAULT, the other levels CREW; read and default KILN, GLAZE, write and row KILN; read and default
--- group NORTH, write and row group DOCK
-abbrev users : List ℕ
-users =
-    block 85 1 3
-    (filled 32 (length mara ∷ mara) ++ filled 8 (2 ∷ 1 ∷ 1 ∷ 1 ∷ [])
-    ++ filled 8 (3 ∷ []) ++ filled 8 (1 ∷ []) ++ filled 8 (3 ∷ []) ++ filled 8 (1 ∷ [])
-    ++ filled 8 (2 ∷ []) ++ filled 8 (4 ∷ []) ++ filled 8 (2 ∷ []) ++ filled 8 (4 ∷ []))
-    152 243
-
+-- the report's: 10 = CREW:KILN:DOCK, 20 = CREW::WORKS, 30 = OPEN
 unfoldable pub cooperative : List ℕ
-cooperative = header ++ components ++ labels ++ users
+cooperative = header 3 94 158 ++ components ++ labels 3 (label 10 1 1 4 ++ label 20 1 0 1 ++ label 30 0 0 0) 149 207 ++ users
+
+-- one label for each of P1 to P8: CREW:KILN:DOCK, CREW::WORKS, CREW::DOCK,SOUTH, CREW:GLAZE, CREW:GLAZE:DOCK, OPEN, VAULT,
+-- CREW::NORTH
+abbrev eightLabels : List ℕ
+eightLabels =
+    label 1 1 1 4 ++ label 2 1 0 1 ++ label 3 1 0 12 ++ label 4 1 2 0
+    ++ label 5 1 2 4 ++ label 6 0 0 0 ++ label 7 2 0 0 ++ label 8 1 0 2
+
+-- the cases': the label of P1 has tag 1, and so on
+unfoldable pub casesImage : List ℕ
+casesImage = header 8 99 108 ++ components ++ labels 8 eightLabels 158 16 ++ users
+
+abbrev pub marks : ℕ → ℕ → ℕ → Marks
+marks l c g = record { level = l; compartments = c; groups = g }
+
+-- MARA's session: CREW:KILN,GLAZE:NORTH with row label CREW:KILN:DOCK
+abbrev pub maraOpened : SessionMarks
+maraOpened = record { user = 0; label = marks 1 3 2; row = marks 1 1 4 }
