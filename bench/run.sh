@@ -1,9 +1,11 @@
 #!/usr/bin/env bash
 # Measures calls on the largest image, ours and the plain Rust version, in one run: instructions by
 # callgrind, time and stack of each, and by how many percent a call that is lent an image exceeds the
-# check of the same version. A ! marks where ours misses a limit. Then the instructions of each function
-# in a check, or in the calls that are named: bench/run.sh [CALL...]
-# Without target/staticlib/libabi.a only the plain version is measured.
+# check of the same version. Then row calls: instructions for each row, and how many times the plain
+# version's ours are; "flat" is a plain read that finds all verdicts first. A ! marks where ours misses
+# a limit. Last the instructions of each function in a check and a read, or in the calls that are named:
+# bench/run.sh [CALL...]
+# Without target/staticlib/libabi.a only the plain versions are measured.
 set -eu
 cd "$(dirname "$0")"
 cargo build --release --offline --quiet
@@ -28,8 +30,12 @@ parts() {
 # Instructions of the called function ($3) with its callees, without the loop around the call. The
 # largest part is the whole function.
 instructions() {
-    local name="brawnesk_$3"
-    if [ "$1" = plain ]; then name="bench::plain::calls::$3"; fi
+    local name
+    case "$1" in
+    ours) name="brawnesk_$3" ;;
+    plain) name="bench::plain::calls::$3" ;;
+    flat) name="bench::plain::calls::$3_flat" ;;
+    esac
     parts "$1-$2" yes | awk -F '\t' -v name="$name" '$2 == name && $1 > most { most = $1 } END { print most }'
 }
 
@@ -66,7 +72,24 @@ columns() {
         "$("$bench" "$version" "$call" time)" "$("$bench" "$version" "$call" stack)"
 }
 
-declare -A checks
+# The four columns of a version of a row call: instructions, of these for each row, time, stack.
+row_columns() {
+    local version=$1 call=$2 function=$3 rows=$4 counted
+    count "$version" "$call"
+    counted=$(instructions "$version" "$call" "$function")
+    row_counts[$version]=$counted
+    printf ' %12s %8s %10s %8s' "$counted" \
+        "$(awk -v counted="$counted" -v rows="$rows" 'BEGIN { print (rows ? sprintf("%.1f", counted / rows) : "-") }')" \
+        "$("$bench" "$version" "$call" time)" "$("$bench" "$version" "$call" stack)"
+}
+
+# How many times the plain version's instructions ours are, marked where that is over the limit.
+times_plain() {
+    awk -v ours="${row_counts[ours]:-0}" -v plain="${row_counts[plain]}" -v limit="$1" 'BEGIN {
+        print ours ? sprintf("%.2f", ours / plain) (limit != "-" && ours * 100 > plain * limit ? "!" : "") : "-" }'
+}
+
+declare -A checks row_counts
 versions=$("$bench" versions)
 printf '%-18s %8s' call 'limit, %'
 for version in $versions; do
@@ -80,7 +103,23 @@ echo
     done
     echo
 done
-for call in "${@:-check}"; do
+
+printf '\n%-18s %8s %8s' 'row call' rows 'limit, %'
+for version in $versions; do
+    printf ' %12s %8s %10s %8s' "$version" 'a row' ns stack
+done
+printf ' %8s %12s %8s %10s %8s\n' 'x plain' flat 'a row' ns stack
+"$bench" row-calls | while read -r call function rows limit known; do
+    printf '%-18s %8s %8s' "$call" "$rows" "$limit"
+    for version in $versions; do
+        row_columns "$version" "$call" "$function" "$rows"
+    done
+    printf ' %8s' "$(times_plain "$limit")"
+    case $known in *flat) row_columns flat "$call" "$function" "$rows" ;; esac
+    echo
+done
+if [ $# = 0 ]; then set -- check read-10; fi
+for call in "$@"; do
     for version in $versions; do
         printf '\n%s %s\n%12s %14s  function\n' "$version" "$call" own 'with callees'
         functions "$version-$call"

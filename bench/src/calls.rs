@@ -1,6 +1,8 @@
 //! The measured calls, each by the library and by the plain version.
 
 use crate::plain::calls as plain;
+use crate::row_calls::ROW_CALLS;
+use crate::rows::{Room, Shape};
 use crate::scene::{Out, Scene};
 use brawnesk_tests::ffi::{self, Answer};
 
@@ -10,10 +12,14 @@ pub struct Call {
     pub name: &'static str,
     /// The function's name in `ffi` and in `plain`. The C function has `brawnesk_` before it.
     pub function: &'static str,
-    /// By how many percent of the check it may exceed the check.
+    /// By how many percent of the check it may exceed the check. Of a row call: how many percent of
+    /// the plain version it may take.
     pub limit: Option<u32>,
-    ours: Version,
-    plain: Version,
+    /// What a row call is lent.
+    pub shape: Option<Shape>,
+    pub ours: Version,
+    pub plain: Version,
+    pub flat: Option<Version>,
 }
 
 /// Of each call its name, its limit, and its function with arguments that are the same for both
@@ -27,8 +33,10 @@ macro_rules! calls {
                 name: $name,
                 function: stringify!($function),
                 limit: $limit,
+                shape: None,
                 ours: |$scene, $out| ffi::$function($($argument),*),
                 plain: |$scene, $out| plain::$function($($argument),*),
+                flat: None,
             },
         )*];
     };
@@ -60,31 +68,47 @@ calls! {
 }
 
 impl Call {
+    pub fn named(name: &str) -> Option<&'static Call> {
+        CALLS.iter().chain(ROW_CALLS).find(|call| call.name == name)
+    }
+
     /// Dominance and merging are lent no image.
     pub fn is_lent_an_image(&self) -> bool {
         !matches!(self.function, "dominates" | "merge")
     }
 
-    /// Without the library only the plain version can be run.
+    /// Without the library ours can't be run.
     pub fn version(&self, name: &str) -> Option<Version> {
         match name {
             "ours" => ffi::LINKED.then_some(self.ours),
             "plain" => Some(self.plain),
+            "flat" => self.flat,
             _ => None,
         }
     }
 
-    /// Asks that the call is done, and that both versions answer and write the same.
-    pub fn assert_agrees(&self, scene: &Scene) {
+    /// A read to a buffer that is too short is refused; all other calls are done.
+    fn is_refused(&self) -> bool {
+        let room = self.shape.map(|shape| shape.room);
+        matches!(room, Some(Room::Short))
+    }
+
+    /// The answer. Asks that it is one of the right kind, that all versions give it, and that they
+    /// write the same.
+    pub fn agreed(&self, scene: &Scene) -> Answer {
         let run = |version: Version| {
-            let mut out = Out::new();
+            let mut out = Out::new(scene);
             (version(scene, &mut out), out)
         };
         let plain = run(self.plain);
-        assert!(matches!(plain.0, Answer::Done(_)), "{}", self.name);
-        if ffi::LINKED {
-            assert_eq!(run(self.ours), plain, "{}", self.name);
+        let is_done = matches!(plain.0, Answer::Done(_));
+        assert_eq!(is_done, !self.is_refused(), "{}", self.name);
+        for version in ["ours", "flat"] {
+            if let Some(other) = self.version(version) {
+                assert!(run(other) == plain, "{}: {version}", self.name);
+            }
         }
+        plain.0
     }
 }
 
@@ -93,8 +117,9 @@ mod tests {
     use super::*;
 
     #[test]
-    fn both_versions_agree() {
-        let scene = Scene::new();
-        CALLS.iter().for_each(|call| call.assert_agrees(&scene));
+    fn versions_agree() {
+        for call in CALLS {
+            call.agreed(&Scene::new(call));
+        }
     }
 }

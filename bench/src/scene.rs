@@ -1,11 +1,11 @@
 //! What the measured calls are lent: the largest image, and sessions, tags, texts and labels for it. All
 //! of it is made from the builder's policy and by the model, so it is there without the library too.
 
+use crate::calls::Call;
+use crate::rows::{Rows, NO_ROWS, READ_OR_FULL};
 use brawnesk_tests::builder::{full, to_image, Component, Label, Policy, User};
 use brawnesk_tests::ffi::{LABEL, SESSION};
 use brawnesk_tests::model::{self, Image};
-
-const READ_OR_FULL: u8 = 3;
 
 pub struct Scene {
     pub image: Vec<u8>,
@@ -30,10 +30,12 @@ pub struct Scene {
     /// The label of the last label record, and the label of `text`.
     pub last_label: [u8; LABEL],
     pub text_label: [u8; LABEL],
+    pub rows: Rows,
 }
 
 impl Scene {
-    pub fn new() -> Scene {
+    /// What a call is lent. Only the rows differ from call to call.
+    pub fn new(call: &Call) -> Scene {
         let policy = full();
         let image = to_image(&policy);
         let accepted = model::accepted(&image).expect("the image keeps all rules");
@@ -58,25 +60,32 @@ impl Scene {
             whole_text: text_of(&policy, &whole),
             last_label: last.to_bytes(),
             text_label: label.to_bytes(),
+            rows: Rows::new(&call.shape.unwrap_or(NO_ROWS)),
             image,
         }
     }
 }
 
 /// What calls write. Before a call all is the same, so what two versions leave can be compared.
-#[derive(Clone, Debug, PartialEq, Eq)]
+#[derive(PartialEq, Eq)]
 pub struct Out {
     pub session: [u8; SESSION],
     pub label: [u8; LABEL],
     pub text: [u8; 4_096],
+    /// A read's buffer.
+    pub rows: Vec<u8>,
+    /// A copy of the table, for an update.
+    pub table: Vec<u8>,
 }
 
 impl Out {
-    pub fn new() -> Out {
+    pub fn new(scene: &Scene) -> Out {
         Out {
             session: [b'#'; SESSION],
             label: [b'#'; LABEL],
             text: [b'#'; 4_096],
+            rows: vec![b'#'; scene.rows.room],
+            table: scene.rows.table.clone(),
         }
     }
 

@@ -55,7 +55,7 @@ extern "C" fn run(job: *mut c_void) -> *mut c_void {
 }
 
 fn depth(version: Version, scene: &Scene) -> usize {
-    let mut out = Out::new();
+    let mut out = Out::new(scene);
     let layout = Layout::from_size_align(SIZE, 4096).expect("a power of two");
     // SAFETY: the memory is filled before it is read, and freed after the thread has ended.
     unsafe {

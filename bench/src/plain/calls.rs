@@ -3,8 +3,9 @@
 
 use super::label::{Label, Session};
 use super::policy::{Class, Policy};
+use super::reader::{Flat, Reader};
 use super::sessions::{self, Lent};
-use super::{text, two_labels, verdicts};
+use super::{rows, text, two_labels, verdicts};
 use brawnesk_tests::compare::expected;
 use brawnesk_tests::ffi::{Answer, LABEL, SESSION};
 use brawnesk_tests::model::Refusal;
@@ -78,6 +79,66 @@ pub fn may_read(image: &[u8], session: &[u8; SESSION], tag: u32) -> Answer {
 pub fn may_write(image: &[u8], session: &[u8; SESSION], tag: u32) -> Answer {
     let lent = lent(image, session);
     expected(lent.map(|(policy, lent)| verdicts::may_write(&policy, &lent, tag).into()))
+}
+
+#[inline(never)]
+pub fn read(
+    image: &[u8],
+    session: &[u8; SESSION],
+    table: &[u8],
+    width: usize,
+    out: &mut [u8],
+) -> Answer {
+    let count = lent(image, session).and_then(|(policy, lent)| {
+        let reader = Reader::new(&policy, &lent);
+        rows::read(table, width, out, |tag| reader.may_read(tag))
+    });
+    expected(count.map(|count| count as u64))
+}
+
+/// As `read`, with all verdicts found first.
+#[inline(never)]
+pub fn read_flat(
+    image: &[u8],
+    session: &[u8; SESSION],
+    table: &[u8],
+    width: usize,
+    out: &mut [u8],
+) -> Answer {
+    let count = lent(image, session).and_then(|(policy, lent)| {
+        let flat = Flat::new(&Reader::new(&policy, &lent));
+        rows::read(table, width, out, |tag| flat.may_read(tag))
+    });
+    expected(count.map(|count| count as u64))
+}
+
+#[inline(never)]
+pub fn update(
+    image: &[u8],
+    session: &[u8; SESSION],
+    table: &mut [u8],
+    width: usize,
+    n: usize,
+    payload: &[u8],
+) -> Answer {
+    let updated = lent(image, session)
+        .and_then(|(policy, lent)| rows::update(&policy, &lent, table, width, n, payload));
+    expected(updated.map(|()| 0))
+}
+
+/// The mask is told of by its 0, so its bytes are not looked at.
+#[inline(never)]
+pub fn masked(
+    image: &[u8],
+    session: &[u8; SESSION],
+    table: &[u8],
+    width: usize,
+    place: usize,
+    _mask: &[u8],
+) -> Answer {
+    let verdict = lent(image, session)
+        .and_then(|(policy, lent)| rows::masked(&policy, &lent, table, width, place));
+    expected(verdict.map(u64::from))
 }
 
 #[inline(never)]

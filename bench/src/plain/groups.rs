@@ -41,6 +41,13 @@ impl Ancestors {
         places(set).any(is_below)
     }
 
+    /// All groups in below(set).
+    pub fn below(&self, set: u64) -> u64 {
+        let entries = self.0.iter().enumerate();
+        let below = entries.filter(|(_, ancestors)| *ancestors & set != 0);
+        below.fold(0, |below, (group, _)| below | 1 << group)
+    }
+
     /// Not inlined, so that its share of the instructions can be read.
     #[inline(never)]
     pub fn user_holds(&self, record: &[u8]) -> bool {

@@ -12,6 +12,15 @@ pub struct Label {
 }
 
 impl Label {
+    /// The label of a label record.
+    pub fn of_record(record: &[u8]) -> Label {
+        Label {
+            level: record[4],
+            compartments: set_at(record, 8),
+            groups: set_at(record, 16),
+        }
+    }
+
     /// Groups past the first 64 are not looked at.
     pub fn read_low(bytes: &[u8; LABEL]) -> Label {
         Label {

@@ -7,8 +7,11 @@
 pub mod calls;
 mod groups;
 mod label;
+mod labels;
 mod policy;
+mod reader;
 mod records;
+mod rows;
 mod sessions;
 #[cfg(test)]
 mod tests;

@@ -1,7 +1,8 @@
-//! Look-ups in an accepted image: components by place and by name, labels by tag, users by name.
+//! Look-ups in an accepted image: components by place and by name, users by name.
 
 use super::label::Label;
-use super::records::{set_at, set_exists};
+use super::labels::Labels;
+use super::records::set_exists;
 use super::{check, Block, Counts};
 use brawnesk_tests::model::Refusal;
 use std::cmp::Ordering;
@@ -51,8 +52,11 @@ impl<'a> Policy<'a> {
         &self.blocks[1 + place / 12][4 + place % 12 * 40..][..40]
     }
 
-    fn label(&self, place: usize) -> &'a [u8] {
-        &self.blocks[self.first_label() + place / 21][4 + place % 21 * 24..][..24]
+    pub fn labels(&self) -> Labels<'a> {
+        Labels {
+            blocks: &self.blocks[self.first_label()..self.first_user()],
+            count: self.counts.labels,
+        }
     }
 
     /// The record of a user that there is.
@@ -111,43 +115,22 @@ impl<'a> Policy<'a> {
             && set_exists(label.groups, self.counts.groups)
     }
 
-    /// The label under a tag. Tags rise, so the range is halved.
-    pub fn label_with(&self, tag: u32) -> Option<Label> {
-        let tag_of = |record: &[u8]| u32::from_le_bytes(record[..4].try_into().unwrap());
-        let place = search(self.counts.labels, |place| {
-            tag_of(self.label(place)).cmp(&tag)
-        })?;
-        let record = self.label(place);
-        Some(Label {
-            level: record[4],
-            compartments: set_at(record, 8),
-            groups: set_at(record, 16),
-        })
-    }
-
     /// The place of the user of a name. Names rise, so the range is halved.
     pub fn user_named(&self, name: &[u8]) -> Option<usize> {
-        search(self.counts.users, |place| {
-            named(self.user(place), 0).cmp(name)
-        })
+        let (mut low, mut high) = (0, self.counts.users);
+        while low < high {
+            let middle = (low + high) / 2;
+            match named(self.user(middle), 0).cmp(name) {
+                Ordering::Less => low = middle + 1,
+                Ordering::Greater => high = middle,
+                Ordering::Equal => return Some(middle),
+            }
+        }
+        None
     }
 }
 
 /// The name whose length stands at `at`, right before it.
 fn named(record: &[u8], at: usize) -> &[u8] {
     &record[at + 1..][..usize::from(record[at])]
-}
-
-/// The place below `count` that is equal, where places come in order.
-fn search(count: usize, order: impl Fn(usize) -> Ordering) -> Option<usize> {
-    let (mut low, mut high) = (0, count);
-    while low < high {
-        let middle = (low + high) / 2;
-        match order(middle) {
-            Ordering::Less => low = middle + 1,
-            Ordering::Greater => high = middle,
-            Ordering::Equal => return Some(middle),
-        }
-    }
-    None
 }

@@ -7,7 +7,8 @@ use brawnesk_tests::cases::Case;
 use brawnesk_tests::compare::expected;
 use brawnesk_tests::ffi::LABEL;
 use brawnesk_tests::rng::Rng;
-use brawnesk_tests::{model, pairs, texts, walk};
+use brawnesk_tests::row_calls::RowCall;
+use brawnesk_tests::{model, pairs, tables, texts, walk};
 
 #[test]
 fn checks() {
@@ -90,6 +91,33 @@ fn sessions_and_verdicts() {
             let (call, lent) = (&step.call, &step.lent);
             assert_eq!(answer, step.answer, "seed {seed}: {call:?} on {lent:?}");
             assert_eq!(session, step.session, "seed {seed}: {call:?} on {lent:?}");
+        });
+    }
+}
+
+#[test]
+fn rows() {
+    for seed in 0..500 {
+        tables::each_row_call(seed, 40, |step| {
+            let (image, call, mut lent) = (step.image, &step.call, step.lent.clone());
+            let (session, table) = (&lent.session, &mut lent.table);
+            let answer = match call {
+                RowCall::Read { width } => {
+                    let mut buffer = lent.buffer.clone();
+                    let flat = calls::read_flat(image, session, table, *width, &mut buffer);
+                    assert_eq!(flat, step.answer, "seed {seed}: {call:?}, flat");
+                    assert!(buffer == step.after.buffer, "seed {seed}: {call:?}, flat");
+                    calls::read(image, session, table, *width, &mut lent.buffer)
+                }
+                RowCall::Update { width, n, payload } => {
+                    calls::update(image, session, table, *width, *n, payload)
+                }
+                RowCall::Masked { width, place, mask } => {
+                    calls::masked(image, session, table, *width, *place, mask)
+                }
+            };
+            assert_eq!(answer, step.answer, "seed {seed}: {call:?}");
+            assert!(lent == step.after, "seed {seed}: {call:?}");
         });
     }
 }

@@ -4,21 +4,23 @@ use super::label::Label;
 use super::policy::Policy;
 use super::sessions::Lent;
 
-const READ: u8 = 1;
-const FULL: u8 = 2;
-const COMPACCESS: u8 = 4;
+pub const READ: u8 = 1;
+pub const FULL: u8 = 2;
+pub const COMPACCESS: u8 = 4;
 
 pub fn may_read(policy: &Policy, lent: &Lent, tag: u32) -> bool {
     lent.privileges & (READ | FULL) != 0
         || policy
-            .label_with(tag)
+            .labels()
+            .with(tag)
             .is_some_and(|row| is_readable(lent, &row))
 }
 
 pub fn may_write(policy: &Policy, lent: &Lent, tag: u32) -> bool {
     lent.privileges & FULL != 0
         || policy
-            .label_with(tag)
+            .labels()
+            .with(tag)
             .is_some_and(|row| is_writable(lent, &row))
 }
 

@@ -22,7 +22,7 @@ fn first_not_below(image: &[u8], tag: u32) -> usize
     let mut low = 0;
     let mut high = layout::labels(image);
     while low < high {
-        let middle = low + (high - low) / 2;
+        let middle = (low + high) / 2;
         if labels::tag(image, middle) < tag {
             low = middle + 1;
         } else {

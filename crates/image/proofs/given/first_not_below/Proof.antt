@@ -18,9 +18,6 @@ labels-requires c κs = header-inside _ (accepted-counted _ (c .before .pre) .fi
 loop-holds : tie.Need-loop-holds Inv-loop μ-loop
 loop-holds c = rw (c .labels .ensures .0) (bracket-whole _ _)
 
-sub-middle : tie.Need-sub-middle Inv-loop μ-loop
-sub-middle c = omega arith
-
 add-middle : tie.Need-add-middle Inv-loop μ-loop
 add-middle c = omega arith
 
@@ -59,7 +56,6 @@ first-not-below-spec =
     μ-loop
     labels-requires
     loop-holds
-    sub-middle
     add-middle
     tag-requires
     add-low

@@ -1,0 +1,137 @@
+//! The measured row calls, each by the library and by the plain version, and reads by the flat one too.
+
+use crate::calls::{Call, Version};
+use crate::plain::calls as plain;
+use crate::rows::{Of, Room, Shape};
+use crate::scene::{Out, Scene};
+use brawnesk_tests::ffi::{self, Answer, SESSION};
+
+type Read = fn(&[u8], &[u8; SESSION], &[u8], usize, &mut [u8]) -> Answer;
+type Update = fn(&[u8], &[u8; SESSION], &mut [u8], usize, usize, &[u8]) -> Answer;
+type Masked = fn(&[u8], &[u8; SESSION], &[u8], usize, usize, &[u8]) -> Answer;
+
+fn read_by(read: Read, scene: &Scene, out: &mut Out) -> Answer {
+    let rows = &scene.rows;
+    let (image, session) = (&rows.image, &rows.session);
+    read(image, session, &rows.table, rows.width, &mut out.rows)
+}
+
+/// The last readable row.
+fn update_by(update: Update, scene: &Scene, out: &mut Out) -> Answer {
+    let rows = &scene.rows;
+    let (image, session, table) = (&rows.image, &rows.session, &mut out.table);
+    let n = rows.readable - 1;
+    update(image, session, table, rows.width, n, &rows.payload)
+}
+
+/// The last place.
+fn masked_by(masked: Masked, scene: &Scene) -> Answer {
+    let rows = &scene.rows;
+    let (image, session, table) = (&rows.image, &rows.session, &rows.table);
+    masked(image, session, table, rows.width, rows.last, &rows.mask)
+}
+
+/// A read of the largest tables may take at most so many percent of what the plain version takes. Few
+/// rows cost less than the check, which has limits of its own.
+const OF_PLAIN: Option<u32> = Some(120);
+
+const fn read(name: &'static str, limit: Option<u32>, shape: Shape) -> Call {
+    let flat: Version = |scene, out| read_by(plain::read_flat, scene, out);
+    Call {
+        name,
+        function: "read",
+        limit,
+        shape: Some(shape),
+        ours: |scene, out| read_by(ffi::read, scene, out),
+        plain: |scene, out| read_by(plain::read, scene, out),
+        flat: Some(flat),
+    }
+}
+
+const fn update(name: &'static str, shape: Shape) -> Call {
+    Call {
+        name,
+        function: "update",
+        limit: None,
+        shape: Some(shape),
+        ours: |scene, out| update_by(ffi::update, scene, out),
+        plain: |scene, out| update_by(plain::update, scene, out),
+        flat: None,
+    }
+}
+
+const fn masked(name: &'static str, shape: Shape) -> Call {
+    Call {
+        name,
+        function: "masked",
+        limit: None,
+        shape: Some(shape),
+        ours: |scene, _| masked_by(ffi::masked, scene),
+        plain: |scene, _| masked_by(plain::masked, scene),
+        flat: None,
+    }
+}
+
+/// As many rows of the width as 1 MiB holds.
+const fn largest(width: usize, room: Room) -> Shape {
+    Shape {
+        of: Of::Full,
+        width,
+        rows: (1 << 20) / width,
+        room,
+    }
+}
+
+/// Rows of 10 bytes, read to a buffer as long as they are.
+const fn tens(of: Of, rows: usize) -> Shape {
+    Shape {
+        of,
+        width: 10,
+        rows,
+        room: Room::Table,
+    }
+}
+
+pub const ROW_CALLS: &[Call] = &[
+    read("read-10", OF_PLAIN, largest(10, Room::Table)),
+    read("read-64", OF_PLAIN, largest(64, Room::Table)),
+    read("read-10-counted", OF_PLAIN, largest(10, Room::Result)),
+    read("read-64-counted", OF_PLAIN, largest(64, Room::Result)),
+    read("read-10-refused", OF_PLAIN, largest(10, Room::Short)),
+    read("read-64-refused", OF_PLAIN, largest(64, Room::Short)),
+    update("update-10", largest(10, Room::Table)),
+    update("update-64", largest(64, Room::Table)),
+    masked("masked-10", largest(10, Room::Table)),
+    masked("masked-64", largest(64, Room::Table)),
+    read("rows-0", None, tens(Of::Full, 0)),
+    read("rows-1000", None, tens(Of::Full, 1_000)),
+    read("rows-10000", None, tens(Of::Full, 10_000)),
+    read("rows-100000", None, tens(Of::Full, 100_000)),
+    read("lean-0", None, tens(Of::Lean, 0)),
+    read("lean-10000", None, tens(Of::Lean, 10_000)),
+    read("sample-0", None, tens(Of::Sample, 0)),
+    read("sample-10000", None, tens(Of::Sample, 10_000)),
+];
+
+#[cfg(test)]
+mod tests {
+    use super::*;
+
+    /// All versions agree; a read gives the rows that the scene tells of, and the last row is one of them.
+    #[test]
+    fn answers_are_as_told() {
+        for call in ROW_CALLS {
+            let scene = Scene::new(call);
+            let wanted = match (call.function, call.shape.map(|shape| shape.room)) {
+                ("read", Some(Room::Short)) => Answer::Refused {
+                    number: 13,
+                    place: 0,
+                },
+                ("read", _) => Answer::Done(scene.rows.readable as u64),
+                ("masked", _) => Answer::Done(1),
+                _ => Answer::Done(0),
+            };
+            assert_eq!(call.agreed(&scene), wanted, "{}", call.name);
+        }
+    }
+}

@@ -1,0 +1,179 @@
+//! What the row calls are lent: an image, a session that reads 70 % of a table's rows, the table, and
+//! the length of a read's buffer.
+
+use brawnesk_tests::builder::{full, sample, to_image, Label, Policy, Rights, User};
+use brawnesk_tests::ffi::SESSION;
+use brawnesk_tests::model;
+use brawnesk_tests::rng::Rng;
+
+pub const READ_OR_FULL: u8 = 3;
+const COMPACCESS: u8 = 4;
+
+/// How many of a hundred rows are readable.
+const SHARE: usize = 70;
+
+/// The image that a table stands beside.
+#[derive(Clone, Copy)]
+pub enum Of {
+    /// The largest.
+    Full,
+    /// Its levels, compartments and labels, with one user and no groups.
+    Lean,
+    /// The sample: 3 labels, 1 user, 4 groups.
+    Sample,
+}
+
+#[derive(Clone, Copy)]
+pub enum Room {
+    /// As long as the table.
+    Table,
+    /// As long as the result, which is counted first.
+    Result,
+    /// A byte shorter than the result.
+    Short,
+}
+
+#[derive(Clone, Copy)]
+pub struct Shape {
+    pub of: Of,
+    pub width: usize,
+    pub rows: usize,
+    pub room: Room,
+}
+
+/// What calls without a table are lent.
+pub const NO_ROWS: Shape = Shape {
+    of: Of::Full,
+    width: 10,
+    rows: 0,
+    room: Room::Table,
+};
+
+pub struct Rows {
+    pub image: Vec<u8>,
+    /// Opened for a user with neither READ nor FULL.
+    pub session: [u8; SESSION],
+    /// How many tags the session reads, of how many.
+    pub tags: (usize, usize),
+    pub table: Vec<u8>,
+    pub width: usize,
+    /// The last of all rows, which is also the last readable one. It is writable.
+    pub last: usize,
+    pub readable: usize,
+    pub room: usize,
+    pub payload: Vec<u8>,
+    pub mask: Vec<u8>,
+}
+
+impl Rows {
+    pub fn new(shape: &Shape) -> Rows {
+        let Shape { width, rows, .. } = *shape;
+        let policy = policy(shape.of);
+        let image = to_image(&policy);
+        let accepted = model::accepted(&image).expect("the image keeps all rules");
+        let user = reader(&policy);
+        let session = model::open(&accepted, user.name.as_bytes()).expect("a user of the image");
+        let tags = Tags::new(&policy, user);
+        let is_writable = |tag: &&u32| model::may_write(&accepted, &session, **tag) == Ok(true);
+        let writable = tags.readable.iter().find(is_writable);
+        let last = *writable.expect("a tag that is readable and writable");
+        let readable = rows * SHARE / 100;
+        let result = readable * width;
+        let mut rng = Rng::new(1);
+        Rows {
+            session: session.to_bytes(),
+            tags: (tags.readable.len(), policy.labels.len()),
+            table: tags.table(width, rows, last, &mut rng),
+            width,
+            last: rows.saturating_sub(1),
+            readable,
+            room: match shape.room {
+                Room::Table => rows * width,
+                Room::Result => result,
+                Room::Short => result - 1,
+            },
+            payload: bytes(width - 4, &mut rng),
+            mask: b"HIDDEN".to_vec(),
+            image,
+        }
+    }
+}
+
+fn policy(of: Of) -> Policy {
+    match of {
+        Of::Full => full(),
+        Of::Lean => lean(full()),
+        Of::Sample => sample(),
+    }
+}
+
+fn lean(policy: Policy) -> Policy {
+    let mut user = reader(&policy).clone();
+    user.groups = Rights {
+        read: 0,
+        write: 0,
+        default: 0,
+        row: 0,
+    };
+    let labels = policy.labels.iter().map(|label| Label {
+        groups: 0,
+        ..label.clone()
+    });
+    Policy {
+        labels: labels.collect(),
+        groups: Vec::new(),
+        users: vec![user],
+        ..policy
+    }
+}
+
+/// Of the users with neither READ nor FULL, the one whose opened session reads the most tags.
+fn reader(policy: &Policy) -> &User {
+    let ruled = policy.users.iter();
+    let ruled = ruled.filter(|user| user.privileges & READ_OR_FULL == 0);
+    let reader = ruled.max_by_key(|user| Tags::new(policy, user).readable.len());
+    reader.expect("there is such a user")
+}
+
+/// The tags of an image by the verdicts of a session that is opened for a user with neither READ nor
+/// FULL.
+struct Tags {
+    readable: Vec<u32>,
+    hidden: Vec<u32>,
+}
+
+impl Tags {
+    fn new(policy: &Policy, user: &User) -> Tags {
+        let below = policy.below(user.groups.default);
+        let has_compaccess = user.privileges & COMPACCESS != 0;
+        let is_readable = |label: &&Label| {
+            let by_groups = label.groups == 0 || label.groups & below != 0;
+            label.level <= user.levels.default
+                && label.compartments & !user.compartments.default == 0
+                && (by_groups || has_compaccess && label.compartments != 0)
+        };
+        let (readable, hidden): (Vec<_>, Vec<_>) = policy.labels.iter().partition(is_readable);
+        let tags = |labels: Vec<&Label>| labels.iter().map(|label| label.tag).collect();
+        Tags {
+            readable: tags(readable),
+            hidden: tags(hidden),
+        }
+    }
+
+    /// Rows in no order, but for the last one's tag.
+    fn table(&self, width: usize, rows: usize, last: u32, rng: &mut Rng) -> Vec<u8> {
+        let kind = |row: usize| match row < rows * SHARE / 100 {
+            true => &self.readable,
+            false => &self.hidden,
+        };
+        let mut tags: Vec<u32> = (1..rows).map(|row| *rng.pick(kind(row))).collect();
+        rng.shuffle(&mut tags);
+        tags.resize(rows, last);
+        let row = |tag: u32| [tag.to_le_bytes().to_vec(), bytes(width - 4, rng)].concat();
+        tags.into_iter().flat_map(row).collect()
+    }
+}
+
+fn bytes(count: usize, rng: &mut Rng) -> Vec<u8> {
+    (0..count).map(|_| rng.byte()).collect()
+}
