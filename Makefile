@@ -1,8 +1,12 @@
-# `make` proves and builds the C library and shows the check of the sample image; `make test` is the gate; `make edits` tries the
-# further must-fail edits.
-.PHONY: all test edits clean
+# `make` proves the crates, builds the report program and shows the report of the sample image; `make library` builds the C library
+# and shows its check of that image; `make test` is the gate; `make edits` tries the further must-fail edits.
+.PHONY: all library test edits clean
 
-all: target/check
+all:
+	rt check
+	target/bin/report < sample/cooperative.img
+
+library: target/check
 	target/check sample/cooperative.img
 
 target/staticlib/libabi.a: crates.txt $(shell find crates -type f)

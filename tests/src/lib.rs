@@ -12,7 +12,7 @@
 //! - `hidden`: two tables with different hidden rows, and one sequence of calls on each, by seed.
 //! - `pairs`: two labels and merge letters by seed, for comparing.
 //! - `vectors`: cases with outside answers.
-//! - `ffi`: the compiled library.
+//! - `ffi`: the compiled library; `program`: the compiled program `report`.
 //! - `calls`, `row_calls`: calls as values, for the library and for the model.
 //! - `compare`: the answers of both.
 
@@ -25,6 +25,7 @@ pub mod ffi;
 pub mod hidden;
 pub mod model;
 pub mod pairs;
+pub mod program;
 pub mod rng;
 pub mod row_calls;
 pub mod tables;

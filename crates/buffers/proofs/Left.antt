@@ -13,6 +13,19 @@ pub written-none : (b : List ℕ) (e : ℕ) (text : List ℕ) → text ≡ [] �
 written-none b e text n =
     record { bytes = sym (ap (pasted b e) n ∙ pasted-none b e); stop = sym (ap (λ (t : List ℕ). e + length t) n ∙ add-zero e) }
 
+-- one text after another
+module _ {b : List ℕ} {e : ℕ} {x mid : List ℕ} {r : ℕ} (fits : e + length x ≤ length b) (v : Written b e x mid r) where
+  pub written-long : length mid ≡ length b
+  written-long = ap length (v .bytes) ∙ pasted-length b e x fits
+
+  pub written-then : {y after : List ℕ} {q : ℕ} → Written mid r y after q → Written b e (x ++ y) after q
+  written-then {y} w =
+      record {
+        bytes =
+            w .bytes ∙ ap₂ (λ (t : List ℕ) (n : ℕ). pasted t n y) (v .bytes) (v .stop) ∙ pasted-after b e x fits y;
+        stop = omega (arith, w .stop, v .stop, length-append x y);
+      }
+
 -- ---- a loop that writes: writing what is left gives what writing the whole gives
 pub record Left (b₀ : List ℕ) (at : ℕ) (whole b : List ℕ) (end : ℕ) (rest : List ℕ) : Type 0 where
   pub long : length b ≡ length b₀

@@ -15,9 +15,9 @@ use Rattle.image.specs.Lookup.{hasComponent}
 use Rattle.image.proofs.Accepted.{accepted-counted}
 use Rattle.labels.specs.Label.{Marks}
 use Rattle.printing.specs.Print.{nameAt, section, textOf, labelExists, Named}
-use Rattle.buffers.specs.Pasting.{pasted, Written}
+use Rattle.buffers.specs.Pasting.{Written}
 use Rattle.printing.proofs.Listed.{name-short, listed-short}
-use Rattle.buffers.proofs.Pasted.{pasted-after, pasted-length}
+use Rattle.buffers.proofs.Left.{written-then, written-long}
 use Rattle.printing.proofs.Sections.{section-length}
 
 -- ---- the components are there
@@ -86,19 +86,6 @@ pub told : {a b x y t : Bool} → a ≡ x → b ≡ y → (a && b) ≡ t → (x 
 told e d h = sym (ap₂ (λ (s t : Bool). s && t) e d) ∙ h
 
 -- ---- writing the parts one after another
-pub written-then : {b : List ℕ} {e : ℕ} {x mid : List ℕ} {r : ℕ} {y after : List ℕ} {q : ℕ} → e + length x ≤ length b
-    → Written b e x mid r → Written mid r y after q → Written b e (x ++ y) after q
-written-then {b} {e} {x} {mid} {r} {y} {after} {q} fits v w =
-    record {
-      bytes =
-          w .bytes ∙ ap₂ (λ (t : List ℕ) (n : ℕ). pasted t n y) (v .bytes) (v .stop) ∙ pasted-after b e x fits y;
-      stop = omega (arith, w .stop, v .stop, length-append x y);
-    }
-
-written-long : {b : List ℕ} {e : ℕ} {x after : List ℕ} {r : ℕ} → e + length x ≤ length b → Written b e x after r
-    → length after ≡ length b
-written-long {b} {e} {x} fits w = ap length (w .bytes) ∙ pasted-length b e x fits
-
 module _ (im : List ℕ) (m : Marks) (b name : List ℕ) (n : name ≡ nameAt im 1 (m .level)) (room : length (textOf im m) ≤ length b) where
   pub room-level : 0 + length name ≤ length b
   unfolding textOf

@@ -1,6 +1,7 @@
 pub mod Sample
 pub mod Texts
 pub mod Mara
+pub mod Reported
 pub mod Cases
 pub mod MaraReads
 pub mod HiddenInstance

@@ -1,9 +1,15 @@
-// What a lent session gives its user: found once for a call, after the image's check and the session's rules.
+// What a session gives its user. For a lent one it is found once for a call, after the image's check and the session's rules.
 ghost use Prim.Native.Nat.{_<_};
 ghost use mathlib.Core.Path.{_≡_};
+ghost use Rattle.header.specs.Layout.{users};
+ghost use Rattle.records.specs.Rules.{Counted};
+ghost use Rattle.hierarchy.specs.Below.{Tabled};
 ghost use Rattle.image.specs.Check.{IsAccepted};
-ghost use Rattle.sessions.specs.Session.{sessionOf};
+ghost use Rattle.access.specs.Rights.{rightsOf};
+ghost use Rattle.sessions.specs.Session.{sessionOf, sessionRights};
+ghost use Rattle.sessions.specs.Opening.{defaultSession};
 ghost use Rattle.sessions.specs.Lent.{LentGives};
+use crate::opening::default_session;
 use crate::session::Session;
 use access::new_labels::row_label_answer;
 use access::new_labels::session_label_answer;
@@ -56,4 +62,14 @@ pub fn lent_rights(image: &[u8], table: &mut Table, session: Session) -> Lent
         Checked::Accepted => lent_accepted(image, table, session),
         Checked::Refused(refusal) => Lent::Refused(refusal),
     }
+}
+
+// What the session that opens for the user at place u gives, where the image is known to be accepted.
+pub fn opened_rights(image: &[u8], table: &Table, u: usize) -> View
+    requires { ⌜ Counted (now image) × (Tabled (now image) (now table) × (u < users (now image))) ⌝ }
+    ensures { λ r. ⌜ rightsOf r ≡ sessionRights (now (image .entry)) (defaultSession (now (image .entry)) u) ⌝ }
+{
+    let opened = default_session(image, u);
+    let label = opened.label;
+    rights_at(image, table, u, label)
 }

@@ -13,7 +13,7 @@ use labels::label::Label;
 use records::users;
 use refusals::Refusal;
 
-fn default_session(image: &[u8], u: usize) -> Session
+pub fn default_session(image: &[u8], u: usize) -> Session
     requires { ⌜ Counted (now image) × (u < users (now image)) ⌝ }
     ensures { λ r. ⌜ sessionOf r ≡ defaultSession (now (image .entry)) u ⌝ }
 {

@@ -1,11 +1,12 @@
-//! The rules of a policy image, of label text, of sessions, of verdicts, of tables and of two labels,
-//! written from document 01 section by section, without a thought for speed. Nothing here is shared
+//! The rules of a policy image, of label text, of sessions, of verdicts, of tables, of two labels and of
+//! the report, written from document 01 section by section, without a thought for speed. Nothing here is shared
 //! with the library or with the builder of images.
 
 mod groups;
 mod label;
 mod layout;
 mod records;
+mod report;
 mod session;
 mod table;
 mod text;
@@ -15,6 +16,7 @@ mod verdict;
 
 pub use label::Label;
 pub use layout::Image;
+pub use report::{lines_of, report};
 pub use session::{open, set_label, set_row_label, Session};
 pub use table::{masked, read, update, Masked};
 pub use text::{parse, print, print_within};

@@ -1,0 +1,104 @@
+-- The report: for each user and each label record, a line with the user's name, the tag and the verdicts at the session that opens
+-- for that user; for a refused image, one line with the refusal.
+use Prim.Native.Nat.{ℕ, zero, suc, _-_, _^_, _≤_, _<_}
+use mathlib.Core.Path.{_≡_}
+use mathlib.Core.Bool.{Bool, cond}
+use mathlib.Core.List.{List, [], _∷_, _++_}
+use lib.Dec.{eqb, ltb}
+use lib.ListN.{length}
+use Rattle.io.specs.Digits.{digits}
+use Rattle.fields.specs.Scan.{firstWhere}
+use Rattle.refusals.specs.declared.Refusal.{Refusal}
+use Rattle.refusals.specs.Refusals.{numberOf, placeOf}
+use Rattle.buffers.specs.Pasting.{Written}
+use Rattle.header.specs.Layout.{users, labels, userRecord, labelRecord}
+use Rattle.records.specs.Fields.{tagOf, userName}
+use Rattle.image.specs.Check.{onChecked, checkOf, IsAccepted}
+use Rattle.labels.specs.Label.{Marks}
+use Rattle.access.specs.Rights.{Rights}
+use Rattle.access.specs.Verdicts.{labelAt, readsLabel, writesLabel}
+use Rattle.sessions.specs.Session.{sessionRights}
+use Rattle.sessions.specs.Opening.{defaultSession}
+
+-- ---- bytes
+abbrev pub space : ℕ
+space = 32
+
+abbrev pub newline : ℕ
+newline = 10
+
+-- the letter where it is granted, `-` where it is denied
+abbrev pub shownAs : Bool → ℕ → ℕ
+shownAs granted letter = cond granted letter 45
+
+-- ---- a number
+-- how many digits it has: the fewest that hold it, and at least one. (The numbers here are below 2 ^ 64 and have at most 20.)
+unfoldable pub digitCount : ℕ → ℕ
+digitCount n = firstWhere (λ k. ltb n (10 ^ k)) 20 1
+
+-- in decimal, without leading zeros
+unfoldable pub decimal : ℕ → List ℕ
+decimal n = digits 10 (digitCount n) n
+
+-- ---- a line: NAME TAG rw
+-- `r` or `-`, then `w` or `-`
+abbrev pub verdictText : Bool → Bool → List ℕ
+verdictText reads writes = shownAs reads 114 ∷ shownAs writes 119 ∷ []
+
+-- a space, the verdicts on a label, and the line's end
+unfoldable pub ending : Rights → Marks → List ℕ
+ending rights label = space ∷ verdictText (readsLabel rights label) (writesLabel rights label) ++ (newline ∷ [])
+
+-- the line of the user at place u and the k-th label record, at the session that opens for the user
+unfoldable pub lineAt : List ℕ → ℕ → ℕ → List ℕ
+lineAt im u k =
+    userName (userRecord im u) ++ (space ∷ decimal (tagOf (labelRecord im k)))
+    ++ ending (sessionRights im (defaultSession im u)) (labelAt im k)
+
+-- ---- the report
+-- the user's lines of the n label records from k on
+unfoldable pub linesFrom : List ℕ → ℕ → ℕ → ℕ → List ℕ
+linesFrom im u zero k = []
+linesFrom im u (suc n) k = lineAt im u k ++ linesFrom im u n (suc k)
+
+-- the lines of the n users from u on
+unfoldable pub usersFrom : List ℕ → ℕ → ℕ → List ℕ
+usersFrom im zero u = []
+usersFrom im (suc n) u = linesFrom im u (labels im) 0 ++ usersFrom im n (suc u)
+
+-- by user and then tag: label records stand by rising tag
+unfoldable pub reportOf : List ℕ → List ℕ
+reportOf im = usersFrom im (users im) 0
+
+-- `refused N`, and with 2 ` at block B`
+abbrev pub refusedText : List ℕ
+refusedText = 114 ∷ 101 ∷ 102 ∷ 117 ∷ 115 ∷ 101 ∷ 100 ∷ 32 ∷ []
+
+abbrev pub blockText : List ℕ
+blockText = 32 ∷ 97 ∷ 116 ∷ 32 ∷ 98 ∷ 108 ∷ 111 ∷ 99 ∷ 107 ∷ 32 ∷ []
+
+unfoldable pub placeText : ℕ → ℕ → List ℕ
+placeText number place = cond (eqb number 2) (blockText ++ decimal place) []
+
+unfoldable pub refusedLine : Refusal → List ℕ
+refusedLine r = refusedText ++ decimal (numberOf r) ++ placeText (numberOf r) (placeOf r) ++ (newline ∷ [])
+
+-- what the program writes for an image
+unfoldable pub outputOf : List ℕ → List ℕ
+outputOf im = onChecked (checkOf im) refusedLine (reportOf im)
+
+-- ---- what the code fills a buffer with
+-- what code may take for granted of an accepted image, a user's place and that user's rights at the opened session
+pub record Opened (im : List ℕ) (u : ℕ) (rights : Rights) : Type 0 where
+  pub accepted : IsAccepted im
+  pub user : u < users im
+  pub view : rights ≡ sessionRights im (defaultSession im u)
+
+-- the user's lines from the k-th label record up to `next` stand at the buffer's front: at least one, where there is one and it has
+-- room
+pub record FilledFrom (im : List ℕ) (u k : ℕ) (buffer after : List ℕ) (next end : ℕ) : Type 0 where
+  pub from : k ≤ next
+  pub upto : next ≤ labels im
+  pub some : k < labels im → 43 ≤ length buffer → k < next
+  pub inside : end ≤ length buffer
+  pub written : Written buffer 0 (linesFrom im u (next - k) k) after end
