@@ -1,6 +1,7 @@
 #!/usr/bin/env bash
-# The bindings: the archive exports just what the C header and the Rust crate declare; the crate's tests pass; both report loops
-# print what is stored; and valgrind finds no error in any of these programs. Needs target/staticlib/libabi.a.
+# The bindings: the archive exports just what the C header and the Rust crate declare; the crate's tests pass; both report loops and
+# the other C examples print what is stored; valgrind finds no error in any of these programs; and examples/calls.c calls every
+# function and has every line of the examples in docs/CALLS.md. Needs target/staticlib/libabi.a.
 set -eu -o pipefail
 cd "$(dirname "$0")/.."
 unset BRAWNESK_LIB_DIR
@@ -12,7 +13,7 @@ exported=$(nm target/staticlib/libabi.a | sed -n 's/.* T \(brawnesk_.*\)/\1/p' |
 
 # Compares the names on standard input with those that the archive exports.
 same_names() {
-    diff <(echo "$exported") <(sort) || { echo "$1 does not declare what the archive exports"; exit 1; }
+    diff <(echo "$exported") <(sort) || { echo "$1 does not name just what the archive exports"; exit 1; }
 }
 test -n "$exported"
 gcc -std=c99 -E -P -Iinclude include/brawnesk.h | sed -n 's/^uint64_t \(brawnesk_[a-z0-9_]*\)(.*/\1/p' | same_names include/brawnesk.h
@@ -28,7 +29,9 @@ fi
 cargo build --release --offline --quiet --example report_loop
 cd ../..
 
-gcc -std=c99 -Wall -Wextra -Werror -Iinclude examples/report_loop.c target/staticlib/libabi.a -o target/report_loop
+for example in check report_loop calls; do
+    gcc -std=c99 -Wall -Wextra -Werror -Iinclude examples/$example.c target/staticlib/libabi.a -o target/$example
+done
 # What a program prints under valgrind, and its exit status: 1 is its own, of a refusal, and 9 is valgrind's.
 run() {
     local status=0
@@ -43,4 +46,24 @@ for loop in target/report_loop target/cargo/release/examples/report_loop; do
     test "$(run $loop <(head -c 1000 sample/cooperative.img) sample/table.bin MARA)" = $'refused 1\nexit 1'
     test "$(run $loop sample/cooperative.img <(head -c 95 sample/table.bin) MARA)" = $'refused 12\nexit 1'
 done
+
+target/calls sample/cooperative.img | diff - sample/calls.out
+run target/calls sample/cooperative.img | diff - <(cat sample/calls.out; echo "exit 0")
+run target/check sample/cooperative.img | diff - <(cat sample/cooperative.out; echo "exit 0")
+# refusals of both: 1,000 bytes are no whole blocks
+test "$(run target/calls <(head -c 1000 sample/cooperative.img))" = $'check: refused 1\nexit 1'
+test "$(run target/check <(head -c 1000 sample/cooperative.img))" = $'refused 1\nexit 1'
+
+grep -o 'brawnesk_[a-z0-9_]*(' examples/calls.c | tr -d '(' | grep -vx 'brawnesk_\(refused\|number\|place\)' | sort -u |
+    same_names examples/calls.c
+# The lines of the C examples in docs/CALLS.md: indented blocks before the report program that are no declaration and no command.
+quoted=$(sed '/^## The report program/,$d' docs/CALLS.md | awk '
+    !/^    / { block = 0; next }
+    !block { block = 1; skip = /^    (gcc |uint64_t brawnesk_)/ }
+    !skip { sub(/^ */, ""); print }')
+test -n "$quoted"
+if grep -vxF -f <(sed 's/^ *//; /^$/d' examples/calls.c) <<<"$quoted"; then
+    echo "docs/CALLS.md has these lines in its examples, and examples/calls.c has not"
+    exit 1
+fi
 echo "bindings: passed, $how"

@@ -1,0 +1,173 @@
+/* Calls every function of the library and prints a line for each answer: calls IMAGE, where IMAGE is sample/cooperative.img.
+ * The examples of docs/CALLS.md are quoted from here. */
+#include <brawnesk.h>
+#include <inttypes.h>
+#include <stdio.h>
+#include <stdlib.h>
+#include <string.h>
+
+/* One byte more than the longest image: a longer file is refused 1. */
+static uint8_t image[65537];
+static size_t length;
+
+/* Rows of 8 bytes: a tag of 4 bytes and a text of 4. */
+static uint8_t table[] = {20, 0, 0, 0, 'w', 'o', 'r', 'k', 10, 0, 0, 0, 'd', 'o', 'c', 'k', 30, 0, 0, 0, 'o', 'p', 'e', 'n'};
+
+static void tell(const char *call, uint64_t answer) {
+    if (brawnesk_refused(answer))
+        printf("%s: refused %u\n", call, brawnesk_number(answer));
+    else
+        printf("%s: %" PRIu64 "\n", call, answer);
+}
+
+static int check(void) {
+    uint64_t answer = brawnesk_check(image, length);
+    if (!brawnesk_refused(answer))
+        puts("check: accepted");
+    else if (brawnesk_number(answer) == 2)
+        printf("check: refused 2 at block %u\n", (unsigned)brawnesk_place(answer));
+    else
+        printf("check: refused %u\n", brawnesk_number(answer));
+    return !brawnesk_refused(answer);
+}
+
+static void name(void) {
+    uint64_t answer = brawnesk_name(image, length, 3, 2);
+    if (!brawnesk_refused(answer)) {
+        const char *name = (const char *)image + answer % 65536;
+        printf("name: %.*s\n", (int)(answer / 65536), name);
+    }
+    tell("name", brawnesk_name(image, length, 3, 4));
+}
+
+/* The label of a text that the sample image knows. */
+static void parse(const char *text, uint8_t *label) {
+    uint64_t answer = brawnesk_parse(image, length, (const uint8_t *)text, strlen(text), label);
+    if (brawnesk_refused(answer)) {
+        tell(text, answer);
+        exit(1);
+    }
+}
+
+static void unknown_name(void) {
+    uint8_t label[BRAWNESK_LABEL];
+    uint64_t answer = brawnesk_parse(image, length, (const uint8_t *)"CREW:KILN:QUAY", 14, label);
+    if (brawnesk_refused(answer) && brawnesk_number(answer) == 6)
+        printf("parse: unknown name at %u\n", (unsigned)brawnesk_place(answer));
+}
+
+static void print(const char *call, const uint8_t *label) {
+    uint8_t text[4096];
+    uint64_t answer = brawnesk_print(image, length, label, text, sizeof text);
+    if (!brawnesk_refused(answer))
+        printf("%s: %.*s\n", call, (int)answer, (const char *)text);
+}
+
+static void texts(void) {
+    uint8_t label[BRAWNESK_LABEL], text[15];
+    unknown_name();
+    parse("VAULT:GLAZE,KILN", label);
+    print("print", label);
+    tell("print", brawnesk_print(image, length, label, text, sizeof text));
+}
+
+static void verdicts(const uint8_t *session) {
+    tell("may_read", brawnesk_may_read(image, length, session, 30));
+    tell("may_read", brawnesk_may_read(image, length, session, 20));
+    tell("may_write", brawnesk_may_write(image, length, session, 10));
+    tell("may_write", brawnesk_may_write(image, length, session, 30));
+}
+
+static void read_rows(const uint8_t *session) {
+    uint8_t out[sizeof table];
+    uint64_t count = brawnesk_read(image, length, session, table, sizeof table, 8, out, sizeof out);
+    if (!brawnesk_refused(count))
+        for (size_t n = 0; n < count; n++)
+            printf("read: %.4s\n", (const char *)out + 8 * n + 4);
+    tell("read", brawnesk_read(image, length, session, table, sizeof table, 8, out, 15));
+}
+
+static void update(const uint8_t *session) {
+    uint64_t answer = brawnesk_update(image, length, session, table, sizeof table, 8, 0, (const uint8_t *)"quay", 4);
+    if (!brawnesk_refused(answer))
+        printf("update: %.4s\n", (const char *)table + 8 + 4);
+    tell("update", brawnesk_update(image, length, session, table, sizeof table, 8, 1, (const uint8_t *)"quay", 4));
+    tell("update", brawnesk_update(image, length, session, table, sizeof table, 8, 2, (const uint8_t *)"quay", 4));
+}
+
+static void masked(const uint8_t *session) {
+    const uint8_t mask[] = {'-', '-', '-', '-'};
+    for (size_t place = 0; place < 3; place++) {
+        uint64_t answer = brawnesk_masked(image, length, session, table, sizeof table, 8, place, mask, sizeof mask);
+        if (!brawnesk_refused(answer))
+            printf("masked: %.4s\n", (const char *)(answer ? table + 8 * place + 4 : mask));
+    }
+}
+
+static void set_label(uint8_t *session) {
+    uint64_t answer = brawnesk_set_label(image, length, session, (const uint8_t *)"VAULT:KILN:DOCK", 15);
+    if (!brawnesk_refused(answer))
+        print("set_label", session + 8);
+    tell("set_label", brawnesk_set_label(image, length, session, (const uint8_t *)"CREW:GLAZE:NORTH", 16));
+}
+
+static void set_row_label(uint8_t *session) {
+    uint64_t answer = brawnesk_set_row_label(image, length, session, (const uint8_t *)"VAULT:KILN", 10);
+    if (!brawnesk_refused(answer))
+        print("set_row_label", session + 56);
+    tell("set_row_label", brawnesk_set_row_label(image, length, session, (const uint8_t *)"CREW:GLAZE", 10));
+}
+
+static void sessions(void) {
+    uint8_t session[BRAWNESK_SESSION];
+    uint64_t answer = brawnesk_open(image, length, (const uint8_t *)"MARA", 4, session);
+    if (brawnesk_refused(answer))
+        return;
+    print("open", session + 8);
+    verdicts(session);
+    read_rows(session);
+    update(session);
+    masked(session);
+    set_label(session);
+    set_row_label(session);
+    tell("open", brawnesk_open(image, length, (const uint8_t *)"mara", 4, session));
+}
+
+static void dominance(void) {
+    uint8_t a[BRAWNESK_LABEL], ab[BRAWNESK_LABEL], b[BRAWNESK_LABEL];
+    parse("CREW::NORTH", a);
+    parse("CREW::NORTH,SOUTH", ab);
+    parse("CREW::SOUTH", b);
+    tell("dominates", brawnesk_dominates(a, ab));
+    tell("dominates", brawnesk_dominates(ab, b));
+    tell("dominates", brawnesk_dominates(a, b));
+    tell("strictly_dominates", brawnesk_strictly_dominates(a, ab));
+    tell("strictly_dominates", brawnesk_strictly_dominates(ab, a));
+    tell("strictly_dominates", brawnesk_strictly_dominates(a, a));
+}
+
+static void merge(void) {
+    uint8_t label1[BRAWNESK_LABEL], label2[BRAWNESK_LABEL], merged[BRAWNESK_LABEL];
+    parse("CREW:KILN:NORTH", label1);
+    parse("VAULT:GLAZE:SOUTH", label2);
+    uint64_t answer = brawnesk_merge(label1, label2, (const uint8_t *)"LMU", 3, merged);
+    if (!brawnesk_refused(answer))
+        print("merge", merged);
+    tell("merge", brawnesk_merge(label1, label2, (const uint8_t *)"lmu", 3, merged));
+}
+
+int main(int argc, char **argv) {
+    FILE *file = argc == 2 ? fopen(argv[1], "rb") : NULL;
+    if (!file)
+        return fprintf(stderr, "usage: calls IMAGE, a file that can be read\n"), 2;
+    length = fread(image, 1, sizeof image, file);
+    fclose(file);
+    if (!check())
+        return 1;
+    name();
+    texts();
+    sessions();
+    dominance();
+    merge();
+    return 0;
+}
