@@ -14,7 +14,7 @@ use Rattle.image.specs.declared.faults.Checked.{Checked}
 use Rattle.image.specs.declared.faults.Checked.the-variants.{Accepted, Refused}
 use Rattle.labels.specs.Label.{Marks}
 use Rattle.access.specs.Rights.{Rights, rightsAt}
-use Rattle.access.specs.NewLabels.{orRefuse, allowed, sessionGroupsRule, rowGroupsRule, rowInside, sessionLabelAnswer, rowLabelAnswer, sessionRule}
+use Rattle.access.specs.NewLabels.{orRefuse, allowed, sessionGroupsRule, rowInside, sessionLabelAnswer, rowLabelAnswer, sessionRule}
 
 -- a demand that is accepted was met, and so was the rest
 demand-met : (rule : Bool) (r : Refusal) (rest : Checked) → allowed (orRefuse rule r rest) ≡ true → (rule ≡ true) × (allowed rest ≡ true)

@@ -7,7 +7,7 @@ use native.Mathlib.Numerals.{add-one}
 use native.Mathlib.Omega.{arith}
 use lib.ListN.{length, take, drop, set, length-append, length-drop, take-append-drop, drop-of-length-le}
 use lib.Seq.{take-all, take-length, length-take-le, drop-drop, take-at, drop-at, set-split, append-snoc}
-use Rattle.buffers.specs.Pasting.{pasted, Written}
+use Rattle.buffers.specs.Pasting.{pasted}
 
 -- nothing is written
 pub pasted-none : (b : List ℕ) (e : ℕ) → pasted b e [] ≡ b

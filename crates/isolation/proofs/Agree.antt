@@ -7,15 +7,15 @@ use mathlib.Core.List.{List, []}
 use borrow.Author.Tests.{eqb-true, not-true}
 use lib.Dec.{eqb, ltb}
 use lib.ListN.{length, getD}
-use Rattle.refusals.specs.declared.Refusal.the-variants.{TableShape, PayloadLength, NoRow, RowNotWritable}
+use Rattle.refusals.specs.declared.Refusal.the-variants.{PayloadLength, NoRow, RowNotWritable}
 use Rattle.fields.proofs.Both.{either}
 use Rattle.image.specs.declared.faults.Checked.{Checked}
 use Rattle.image.specs.declared.faults.Checked.the-variants.{Accepted, Refused}
 use Rattle.image.specs.Check.{onChecked}
 use Rattle.image.proofs.Accepted.{refused-not}
 use Rattle.access.specs.NewLabels.{orRefuse}
-use Rattle.sessions.specs.Session.{SessionMarks, lentAnswer, sessionRights}
-use Rattle.rows.specs.Table.{payloadLength, rowWritable, readableRows, widthRule, tableRule, tableShape, tableAnswer}
+use Rattle.sessions.specs.Session.{SessionMarks, sessionRights}
+use Rattle.rows.specs.Table.{payloadLength, rowWritable, readableRows, widthRule, tableRule, tableAnswer}
 use Rattle.rows.specs.Reading.{handedOut, readRowsOf}
 use Rattle.rows.specs.Updating.{nthRowAnswer, updateWith, updateRowOf}
 use Rattle.rows.specs.declared.answers.RowsRead.the-variants as rowsRead

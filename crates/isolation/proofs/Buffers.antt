@@ -11,11 +11,11 @@ use Rattle.image.specs.declared.faults.Checked.{Checked}
 use Rattle.image.specs.declared.faults.Checked.the-variants as checked
 use Rattle.image.specs.Check.{onChecked}
 use Rattle.sessions.specs.Session.{SessionMarks, sessionRights}
-use Rattle.rows.specs.Table.{rowsOf, rowReadable, readableRows, tableAnswer}
+use Rattle.rows.specs.Table.{readableRows, tableAnswer}
 use Rattle.rows.specs.Reading.{handedOut, readRowsOf}
 use Rattle.rows.specs.declared.answers.RowsRead.{RowsRead}
 use Rattle.rows.specs.declared.answers.RowsRead.the-variants.{Done, Refused}
-use Rattle.rows.proofs.Standing.{AllWide, rows-wide}
+use Rattle.rows.proofs.Standing.{AllWide}
 use Rattle.isolation.specs.Calls.{Call, opening, settingLabel, settingRowLabel, onRows, reading, updating}
 use Rattle.isolation.specs.Calls.{Answer, rowsHanded, State, lentSession, bytesRead, rowStep, step, run}
 use Rattle.isolation.specs.Claim.{bufferZeroed, Alike}

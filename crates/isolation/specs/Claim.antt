@@ -10,7 +10,7 @@ use Rattle.image.specs.declared.faults.Checked.the-variants.{Accepted}
 use Rattle.access.specs.Verdicts.{readableAtMaximum}
 use Rattle.sessions.specs.Session.{SessionMarks}
 use Rattle.rows.specs.Table.{rowsOf, rowTag, kept, widthRule, tableShape}
-use Rattle.isolation.specs.Calls.{Lending, RowCall, reading, updating, Call, opening, settingLabel, settingRowLabel, onRows, State, lentSession, step, run}
+use Rattle.isolation.specs.Calls.{RowCall, reading, updating, Call, opening, settingLabel, settingRowLabel, onRows, State, lentSession, step, run}
 
 -- ---- what the user at place u could ever read
 abbrev pub everReadable : List ℕ → ℕ → List ℕ → Bool
@@ -62,7 +62,7 @@ abbrev pub started : List ℕ → SessionMarks → State
 started table s = record { table = table; session = s }
 
 -- Demand 3 speaks of a well-formed image and of a user with neither READ nor FULL. The claim needs neither: a bad image refuses every
--- call alike, and with READ or FULL every row is in the list, so the tables are equal. Where no user has place u, 19 refuses his sessions
+-- call alike, and with READ or FULL every row is in the list, so the tables are equal. A session of a place without user is 19
 pub record Premises (im : List ℕ) (u width : ℕ) (table1 table2 : List ℕ) (start : SessionMarks) (calls1 calls2 : List Call) : Type 0 where
   -- 12 refuses neither table with the row width
   pub table1-accepted : tableShape width table1 ≡ Accepted

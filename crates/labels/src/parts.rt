@@ -2,12 +2,10 @@
 // text's start, so each list is read in the text up to the list's end.
 ghost use Prim.Native.Nat.{_+_, _≤_};
 ghost use mathlib.Core.Path.{_≡_};
-ghost use mathlib.Core.Bool.{cond};
 ghost use lib.ListN.{length};
 ghost use Rattle.records.specs.Rules.{Counted};
-ghost use Rattle.refusals.specs.declared.Refusal.the-variants.{TextShape};
-ghost use Rattle.labels.specs.Text.{colon, split, shapeRule};
-ghost use Rattle.labels.specs.Parse.{refused, readSets, readParts, readOf};
+ghost use Rattle.labels.specs.Text.{colon, split};
+ghost use Rattle.labels.specs.Parse.{readSets, readParts, readOf};
 ghost use Rattle.labels.specs.Lists.{afterMark, groupsAfter};
 use crate::answers::Parsed;
 use crate::answers::Reason;

@@ -12,7 +12,7 @@ use Rattle.image.specs.Check.{IsAccepted}
 use Rattle.labels.specs.Label.{Marks}
 use Rattle.printing.specs.declared.printing.Printed.the-variants as printed
 use Rattle.printing.specs.Print.{textOf, labelExists, acceptedAnswer, printOf}
-use Rattle.buffers.specs.Pasting.{pasted, Written}
+use Rattle.buffers.specs.Pasting.{Written}
 use Rattle.printing.proofs.Whole.{text-short}
 
 module _ (im : List ℕ) (m : Marks) (b : List ℕ) where

@@ -2,8 +2,8 @@
 use Prim.Native.Nat.{ℕ, zero, suc, _+_, _-_, _*_, _/_, _≤_, _<_}
 use mathlib.Core.Path.{_≡_, refl, sym, ap, ap₂, _∙_}
 use mathlib.Core.Bool.{Bool, true, false, true≢false, cond}
-use mathlib.Core.List.{List, [], _∷_, flatten}
-use native.Mathlib.Nat.{zero-add, zero-mul, suc-mul, mul-div-cancel, div-mul-le-self, mul-le-mul, le-refl, le-trans, add-sub-cancel-left}
+use mathlib.Core.List.{List, [], flatten}
+use native.Mathlib.Nat.{zero-add, zero-mul, suc-mul, mul-div-cancel, div-mul-le-self, mul-le-mul, le-refl, add-sub-cancel-left}
 use native.Mathlib.Omega.{arith}
 use borrow.Author.Tests.{eq-eqb, ne-eqb, lt-ltb, le-ltb, ltb-true}
 use lib.Dec.{leb, ltb}
@@ -21,15 +21,15 @@ use Rattle.sessions.specs.Asking.{verdictOf}
 use Rattle.sessions.specs.Session.{SessionMarks, lentAnswer, sessionRights}
 use Rattle.sessions.specs.declared.answers.Verdict.{Verdict}
 use Rattle.sessions.specs.declared.answers.Verdict.the-variants as verdict
-use Rattle.buffers.specs.Pasting.{pasted, Written}
+use Rattle.buffers.specs.Pasting.{Written}
 use Rattle.buffers.proofs.Pasted.{front}
 use Rattle.rows.specs.Table.{firstRows, rowsOf, rowOffset, rowPayload, payloadOffset, payloadLength, rowReadable, rowWritable, readableRows, tableRule, tableAnswer}
 use Rattle.rows.specs.Reading.{handedOut}
 use Rattle.rows.specs.Updating.{nthRowAnswer, tableUpdated, updateWith}
 use Rattle.rows.specs.Masked.{placeVerdict, maskedVerdictOf}
 use Rattle.rows.specs.declared.answers.RowsRead.the-variants as read
-use Rattle.rows.proofs.Standing.{AllWide, rows-wide, table-means}
-use Rattle.rows.proofs.Wide.{kept-wide, flatten-length, rows-count}
+use Rattle.rows.proofs.Standing.{AllWide, table-means}
+use Rattle.rows.proofs.Wide.{flatten-length, rows-count}
 
 -- ---- reading
 module _ (rows : List (List ℕ)) (buffer : List ℕ) where

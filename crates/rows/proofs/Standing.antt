@@ -1,9 +1,9 @@
 -- Where rows stand. Assumes nothing.
 use Prim.Native.Nat.{ℕ, zero, suc, _+_, _-_, _*_, _/_, _%_, _≤_, _<_}
-use mathlib.Core.Path.{_≡_, refl, sym, ap, _∙_}
-use mathlib.Core.Bool.{Bool, true, false}
+use mathlib.Core.Path.{_≡_, refl, _∙_}
+use mathlib.Core.Bool.{true}
 use mathlib.Core.List.{List, [], _∷_, _++_, flatten}
-use native.Mathlib.Nat.{suc-mul, div-eq-of-lt, div-eq-sub-div, div-add-mod', mod-eq-sub-mod, mod-eq-of-lt, le-add-right}
+use native.Mathlib.Nat.{suc-mul, div-eq-of-lt, div-eq-sub-div, div-add-mod', le-add-right}
 use native.Mathlib.Numerals.{add-one}
 use native.Mathlib.Omega.{arith}
 use borrow.Author.Tests.{leb-true, eqb-true}
