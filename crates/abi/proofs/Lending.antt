@@ -15,15 +15,16 @@ use Rattle.refusals.specs.declared.Refusal.{Refusal}
 use Rattle.refusals.specs.declared.Refusal.the-variants.{NoComponent, Room}
 use Rattle.refusals.specs.Refusals.{placeOf, answerOf}
 use Rattle.header.specs.Layout.{levels, compartments, groups}
-use Rattle.image.specs.declared.faults.Checked.{Checked}
-use Rattle.image.specs.declared.faults.Checked.the-variants.{Accepted, Refused}
-use Rattle.image.specs.Check.{onChecked, checkOf}
+use Rattle.refusals.specs.declared.answers.Checked.{Checked}
+use Rattle.refusals.specs.declared.answers.Checked.the-variants.{Accepted, Refused}
+use Rattle.image.specs.Check.{checkOf}
+use Rattle.refusals.specs.Answers.{onChecked}
 use Rattle.image.proofs.Accepted.{accepted-counted}
 use Rattle.image.proofs.Place.{check-place}
-use Rattle.labels.specs.Label.{Marks}
+use Rattle.labels.specs.Label.{Marks, labelExists}
 use Rattle.printing.specs.declared.printing.Printed.{Printed}
 use Rattle.printing.specs.declared.printing.Printed.the-variants as printed
-use Rattle.printing.specs.Print.{textOf, labelExists, acceptedAnswer, unlessRefused, printOf}
+use Rattle.printing.specs.Print.{textOf, acceptedAnswer, unlessRefused, printOf}
 use Rattle.abi.specs.Answers.{afterCheck}
 use Rattle.encoding.specs.Labels.{high, labelIn}
 use Rattle.encoding.proofs.Wide.{above-large}

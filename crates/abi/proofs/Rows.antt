@@ -12,14 +12,13 @@ use Rattle.buffers.specs.Pasting.{atFront}
 use Rattle.refusals.specs.declared.Refusal.{Refusal}
 use Rattle.refusals.specs.declared.Refusal.the-variants.{SessionRules, TableShape, PayloadLength, NoRow, RowNotWritable, Room}
 use Rattle.refusals.specs.Refusals.{placeOf, answerOf}
-use Rattle.image.specs.declared.faults.Checked.{Checked}
-use Rattle.image.specs.declared.faults.Checked.the-variants.{Accepted, Refused}
-use Rattle.image.specs.Check.{onChecked, checkOf}
-use Rattle.access.specs.NewLabels.{orRefuse}
+use Rattle.refusals.specs.declared.answers.Checked.{Checked}
+use Rattle.refusals.specs.declared.answers.Checked.the-variants.{Accepted, Refused}
+use Rattle.image.specs.Check.{checkOf}
+use Rattle.refusals.specs.Answers.{onChecked, orRefuse, verdictOf}
 use Rattle.sessions.specs.Session.{SessionMarks, lentAnswer, sessionRights}
-use Rattle.sessions.specs.Asking.{verdictOf}
-use Rattle.sessions.specs.declared.answers.Verdict.{Verdict}
-use Rattle.sessions.specs.declared.answers.Verdict.the-variants as verdict
+use Rattle.refusals.specs.declared.answers.Verdict.{Verdict}
+use Rattle.refusals.specs.declared.answers.Verdict.the-variants as verdict
 use Rattle.rows.specs.Table.{tableRule, tableShape, tableAnswer, rowsOf, payloadLength, rowReadable, rowWritable, readableRows}
 use Rattle.rows.specs.Reading.{handedOut, readRowsOf}
 use Rattle.rows.specs.Updating.{nthRowAnswer, updateWith, updateRowOf}

@@ -11,9 +11,10 @@ use Rattle.refusals.specs.Refusals.{placeOf}
 use Rattle.sets.specs.Sets.{within}
 use Rattle.header.specs.Layout.{users, userRecord}
 use Rattle.records.specs.Fields.{minimumLevel, maximumLevel, readCompartments}
-use Rattle.image.specs.declared.faults.Checked.{Checked}
-use Rattle.image.specs.declared.faults.Checked.the-variants.{Accepted, Refused}
-use Rattle.image.specs.Check.{onChecked, checkOf}
+use Rattle.refusals.specs.declared.answers.Checked.{Checked}
+use Rattle.refusals.specs.declared.answers.Checked.the-variants.{Accepted, Refused}
+use Rattle.image.specs.Check.{checkOf}
+use Rattle.refusals.specs.Answers.{onChecked, orRefuse, verdictOf}
 use Rattle.image.specs.Lookup.{userOfName}
 use Rattle.image.proofs.Place.{check-place}
 use Rattle.labels.specs.Label.{Marks}
@@ -21,15 +22,15 @@ use Rattle.labels.specs.Parse as parse
 use Rattle.labels.specs.Parse.{Read, badImage, readText, parseOf}
 use Rattle.labels.proofs.Offsets.{parse-told, image-told}
 use Rattle.access.specs.Rights.{Rights, between, rightsAt}
-use Rattle.access.specs.NewLabels.{orRefuse, sessionGroupsRule, rowGroupsRule, rowInside, sessionLabelAnswer, rowLabelAnswer, sessionRule}
+use Rattle.access.specs.NewLabels.{sessionGroupsRule, rowGroupsRule, rowInside, sessionLabelAnswer, rowLabelAnswer, sessionRule}
 use Rattle.access.specs.Verdicts.{mayRead, mayWrite}
 use Rattle.dominance.specs.TwoLabels as two
 use Rattle.dominance.specs.TwoLabels.{Merging, lettersRule, mergedLabel, mergeOf}
 use Rattle.sessions.specs.Session.{SessionMarks, lentAnswer, sessionRights}
 use Rattle.sessions.specs.Opening.{Opening, session, refused, defaultSession, openAccepted, openOf}
 use Rattle.sessions.specs.Changes.{changeIf, changeTo, afterLent, withLabel, withRowLabel, labelChange, rowLabelChange, setLabelOf, setRowLabelOf}
-use Rattle.sessions.specs.Asking.{verdictOf, mayReadOf, mayWriteOf}
-use Rattle.sessions.specs.declared.answers.Verdict.the-variants as verdict
+use Rattle.sessions.specs.Asking.{mayReadOf, mayWriteOf}
+use Rattle.refusals.specs.declared.answers.Verdict.the-variants as verdict
 use Rattle.sessions.proofs.Accepting.{lent-accepted}
 use Rattle.encoding.specs.Sessions.{answerPlace}
 use Rattle.encoding.specs.Verdicts.{verdictPlace}

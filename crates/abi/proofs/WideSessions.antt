@@ -15,17 +15,18 @@ use Rattle.header.specs.Layout.{groups, userRecord}
 use Rattle.records.specs.Fields.{readGroups, writeGroups}
 use Rattle.hierarchy.specs.Below.{below}
 use Rattle.hierarchy.proofs.Under.{below-limit}
-use Rattle.image.specs.declared.faults.Checked.{Checked}
-use Rattle.image.specs.declared.faults.Checked.the-variants.{Accepted, Refused}
-use Rattle.image.specs.Check.{onChecked, checkOf, IsAccepted}
+use Rattle.refusals.specs.declared.answers.Checked.{Checked}
+use Rattle.refusals.specs.declared.answers.Checked.the-variants.{Accepted, Refused}
+use Rattle.image.specs.Check.{checkOf, IsAccepted}
+use Rattle.refusals.specs.Answers.{onChecked, orRefuse}
 use Rattle.image.proofs.Accepted.{accepted-counted}
 use Rattle.access.specs.Rights.{rightsAt, writeGroupsOf}
-use Rattle.access.specs.NewLabels.{orRefuse, sessionRule}
+use Rattle.access.specs.NewLabels.{sessionRule}
 use Rattle.access.proofs.Answers.{session-means}
 use Rattle.sessions.specs.Session.{SessionMarks, lentAnswer}
 use Rattle.sessions.specs.Changes.{afterLent}
-use Rattle.sessions.specs.declared.answers.Verdict.{Verdict}
-use Rattle.sessions.specs.declared.answers.Verdict.the-variants as verdict
+use Rattle.refusals.specs.declared.answers.Verdict.{Verdict}
+use Rattle.refusals.specs.declared.answers.Verdict.the-variants as verdict
 use Rattle.encoding.specs.Labels.{labelIn, high}
 use Rattle.encoding.specs.Sessions.{sessionIn, oneUser, sessionFits, changedInto}
 use Rattle.encoding.specs.Verdicts.{verdictCode}

@@ -3,7 +3,8 @@ use Prim.Native.Nat.{ℕ, _+_, _*_}
 use mathlib.Core.List.{List}
 use Rattle.refusals.specs.declared.Refusal.{Refusal}
 use Rattle.refusals.specs.Refusals.{answerOf}
-use Rattle.image.specs.Check.{onChecked, checkOf}
+use Rattle.image.specs.Check.{checkOf}
+use Rattle.refusals.specs.Answers.{onChecked}
 use Rattle.image.specs.Lookup.{nameAnswer, nameOffset, nameLength}
 
 -- 1, 2, 3, and then that refusal

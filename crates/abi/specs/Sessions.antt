@@ -4,7 +4,7 @@ use mathlib.Core.Bool.{cond}
 use mathlib.Core.List.{List}
 use Rattle.refusals.specs.Refusals.{answerOf}
 use Rattle.refusals.specs.declared.Refusal.the-variants.{SessionRules}
-use Rattle.image.specs.declared.faults.Checked.{Checked}
+use Rattle.refusals.specs.declared.answers.Checked.{Checked}
 use Rattle.sessions.specs.Session.{SessionMarks}
 use Rattle.sessions.specs.Opening.{Opening, session, refused, openOf}
 use Rattle.sessions.specs.Changes.{setLabelOf, setRowLabelOf}

@@ -4,8 +4,8 @@ use mathlib.Core.Bool.{cond}
 use mathlib.Core.List.{List}
 use Rattle.refusals.specs.Refusals.{answerOf}
 use Rattle.refusals.specs.declared.Refusal.the-variants.{SessionRules}
-use Rattle.image.specs.declared.faults.Checked.{Checked}
-use Rattle.image.specs.Check.{onChecked}
+use Rattle.refusals.specs.declared.answers.Checked.{Checked}
+use Rattle.refusals.specs.Answers.{onChecked}
 use Rattle.rows.specs.Reading.{readRowsOf}
 use Rattle.rows.specs.Updating.{updateRowOf}
 use Rattle.rows.specs.Masked.{maskedVerdictOf}

@@ -12,11 +12,11 @@ use encoding::answers::refused;
 use encoding::answers::verdict_code;
 use encoding::bytes48;
 use encoding::bytes104;
-use image::faults::Checked;
 use image::lookup;
 use labels::answers::Parsed;
 use printing::printing::Printed;
 use refusals::Refusal;
+use refusals::answers::Checked;
 use rows::answers::RowsRead;
 use sessions::answers::Opened;
 

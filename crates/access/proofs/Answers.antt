@@ -10,11 +10,12 @@ use Rattle.sets.specs.Sets.{within}
 use Rattle.header.specs.Layout.{users, userRecord}
 use Rattle.records.specs.Fields.{maximumLevel, minimumLevel, readCompartments, readGroups}
 use Rattle.hierarchy.specs.Below.{below}
-use Rattle.image.specs.declared.faults.Checked.{Checked}
-use Rattle.image.specs.declared.faults.Checked.the-variants.{Accepted, Refused}
+use Rattle.refusals.specs.declared.answers.Checked.{Checked}
+use Rattle.refusals.specs.declared.answers.Checked.the-variants.{Accepted, Refused}
 use Rattle.labels.specs.Label.{Marks}
 use Rattle.access.specs.Rights.{Rights, rightsAt}
-use Rattle.access.specs.NewLabels.{orRefuse, allowed, sessionGroupsRule, rowInside, sessionLabelAnswer, rowLabelAnswer, sessionRule}
+use Rattle.access.specs.NewLabels.{sessionGroupsRule, rowInside, sessionLabelAnswer, rowLabelAnswer, sessionRule}
+use Rattle.refusals.specs.Answers.{orRefuse, allowed}
 
 -- a demand that is accepted was met, and so was the rest
 demand-met : (rule : Bool) (r : Refusal) (rest : Checked) → allowed (orRefuse rule r rest) ≡ true → (rule ≡ true) × (allowed rest ≡ true)

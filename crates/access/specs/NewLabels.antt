@@ -1,27 +1,18 @@
 -- The rules for a new session label and a new row label, and refusal 19, which asks both of them of a lent session.
 use Prim.Native.Nat.{ℕ}
-use mathlib.Core.Bool.{Bool, true, false, cond, _&&_}
+use mathlib.Core.Bool.{Bool, _&&_}
 use mathlib.Core.List.{List}
 use lib.Dec.{leb, ltb}
-use Rattle.refusals.specs.declared.Refusal.{Refusal}
 use Rattle.refusals.specs.declared.Refusal.the-variants.{LevelNotAllowed, CompartmentsNotAllowed, GroupsNotAllowed, RowLabelOutside}
 use Rattle.sets.specs.Sets.{within}
 use Rattle.header.specs.Layout.{users, userRecord}
 use Rattle.records.specs.Fields.{maximumLevel, minimumLevel, readCompartments, readGroups}
 use Rattle.hierarchy.specs.Below.{below}
-use Rattle.image.specs.declared.faults.Checked.{Checked}
-use Rattle.image.specs.declared.faults.Checked.the-variants.{Accepted, Refused}
+use Rattle.refusals.specs.declared.answers.Checked.{Checked}
+use Rattle.refusals.specs.Answers.{orRefuse, allowed}
+use Rattle.refusals.specs.declared.answers.Checked.the-variants.{Accepted}
 use Rattle.labels.specs.Label.{Marks}
 use Rattle.access.specs.Rights.{Rights, between, rightsAt}
-
--- the refusal unless the rule holds; then the rest
-abbrev pub orRefuse : Bool → Refusal → Checked → Checked
-orRefuse rule refusal rest = cond rule rest (Refused refusal)
-
--- the answer refuses nothing
-abbrev pub allowed : Checked → Bool
-allowed Accepted = true
-allowed (Refused r) = false
 
 -- ---- a row label beside a session
 -- its groups lie in the session's write groups

@@ -2,7 +2,7 @@
 ghost use Prim.Native.Nat.{_<_};
 ghost use mathlib.Core.Path.{_≡_};
 ghost use Rattle.header.specs.Layout.{labels};
-ghost use Rattle.records.specs.Rules.{Counted};
+ghost use Rattle.header.specs.Limits.{Counted};
 ghost use Rattle.image.specs.Check.{IsAccepted};
 ghost use Rattle.labels.specs.Label.{marksOf};
 ghost use Rattle.access.specs.Rights.{rightsOf};

@@ -6,8 +6,8 @@ use mathlib.Core.List.{List, _∷_, _++_}
 use lib.Dec.{eqb}
 use Rattle.fields.specs.Bytes.{byteAt, part}
 use Rattle.refusals.specs.Refusals.{placeOf, answerOf}
-use Rattle.image.specs.declared.faults.Checked.{Checked}
-use Rattle.image.specs.declared.faults.Checked.the-variants.{Accepted, Refused}
+use Rattle.refusals.specs.declared.answers.Checked.{Checked}
+use Rattle.refusals.specs.declared.answers.Checked.the-variants.{Accepted, Refused}
 use Rattle.sessions.specs.Session.{SessionMarks}
 use Rattle.encoding.specs.Labels.{labelBytes, labelIn, high}
 

@@ -1,8 +1,8 @@
 -- A verdict as a number: 1 yes, 0 no, else the refusal.
 use Prim.Native.Nat.{ℕ}
 use Rattle.refusals.specs.Refusals.{placeOf, answerOf}
-use Rattle.sessions.specs.declared.answers.Verdict.{Verdict}
-use Rattle.sessions.specs.declared.answers.Verdict.the-variants as verdict
+use Rattle.refusals.specs.declared.answers.Verdict.{Verdict}
+use Rattle.refusals.specs.declared.answers.Verdict.the-variants as verdict
 
 abbrev pub verdictCode : Verdict → ℕ
 verdictCode verdict.Yes = 1

@@ -4,7 +4,7 @@ ghost use mathlib.Core.Path.{_≡_};
 ghost use Rattle.refusals.specs.Refusals.{placeOf, answerOf};
 ghost use Rattle.encoding.specs.Verdicts.{verdictPlace, verdictCode};
 use refusals::Refusal;
-use sessions::answers::Verdict;
+use refusals::answers::Verdict;
 
 // 2^63 + number × 2^32 + place.
 pub fn refused(r: Refusal) -> u64

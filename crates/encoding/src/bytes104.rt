@@ -9,7 +9,7 @@ use crate::answers::refused;
 use crate::bytes48::few_groups;
 use crate::bytes48::label_bytes;
 use crate::bytes48::label_in;
-use image::faults::Checked;
+use refusals::answers::Checked;
 use sessions::answers::Changed;
 use sessions::session::Session;
 

@@ -6,13 +6,14 @@ use lib.Dec.{eqb, leb}
 use lib.ListN.{length}
 use Rattle.fields.specs.Bytes.{byteAt, part, allZero}
 use Rattle.header.specs.Layout.{levels, compartments, groups, users, labels, blocksNeeded}
+use Rattle.header.specs.Limits.{limitsOf}
 
 -- kind 80, 0 records, edition 1, counts within their limits, the rest unused
 unfoldable pub headerRule : List ℕ → Bool
 headerRule im =
     eqb (byteAt im 0) 80 && eqb (byteAt im 1) 0 && eqb (byteAt im 4) 1
-    && leb 1 (levels im) && leb (levels im) 32 && leb (compartments im) 64 && leb (groups im) 64
-    && leb (users im) 96 && leb (labels im) 1680 && allZero (part im 12 498)
+    && leb 1 (levels im) && leb (levels im) (limitsOf im .levels) && leb (compartments im) (limitsOf im .compartments)
+    && leb (groups im) (limitsOf im .groups) && leb (users im) (limitsOf im .users) && leb (labels im) (limitsOf im .labels) && allZero (part im 12 498)
 
 -- there are as many blocks as the counts need, no more and no fewer
 unfoldable pub fitRule : List ℕ → Bool

@@ -3,7 +3,7 @@ ghost use Prim.Native.Nat.{_<_};
 ghost use mathlib.Core.Path.{_≡_};
 ghost use Rattle.sets.specs.Groups.{placesOf};
 ghost use Rattle.header.specs.Layout.{groups};
-ghost use Rattle.records.specs.Rules.{Counted};
+ghost use Rattle.header.specs.Limits.{Counted};
 ghost use Rattle.hierarchy.specs.Below as below;
 ghost use Rattle.hierarchy.specs.Below.{endsRule, EndBefore, firstRing};
 use header::layout;

@@ -5,7 +5,7 @@ ghost use lib.ListN.{length, getD};
 ghost use Rattle.sets.specs.Groups.{placesOf};
 ghost use Rattle.sets.specs.Sets.{within};
 ghost use Rattle.header.specs.Layout.{groups, users};
-ghost use Rattle.records.specs.Rules.{Counted};
+ghost use Rattle.header.specs.Limits.{Counted};
 ghost use Rattle.hierarchy.specs.Below as hierarchy;
 ghost use Rattle.hierarchy.specs.Below.{belowRule, firstBadBelow, Tabled};
 use crate::parents::lineage;
@@ -14,6 +14,9 @@ use records::users::group_sets;
 use sets::groups::Groups;
 
 pub type Table = [u64; 64];
+
+// A table before it is filled.
+pub const EMPTY: Table = [0u64; 64];
 
 // The lineage that the table holds for g.
 fn stored(table: &Table, g: usize) -> Groups

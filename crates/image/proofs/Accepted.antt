@@ -16,7 +16,8 @@ use Rattle.header.specs.declared.layout.Kind.{Kind}
 use Rattle.header.specs.declared.layout.Kind.the-variants as kind
 use Rattle.header.specs.Layout.{groups, users, firstLabelBlock, firstUserBlock, blocksNeeded, userBlock, userSlot, contentsOf}
 use Rattle.header.specs.Header.{headerRule, fitRule}
-use Rattle.records.specs.Rules.{layoutRule, firstBadRecord, contentRule, Counted}
+use Rattle.records.specs.Rules.{layoutRule, firstBadRecord, contentRule}
+use Rattle.header.specs.Limits.{Counted}
 use Rattle.records.proofs.MeaningHeader.{counted}
 use Rattle.refusals.specs.declared.Refusal.{Refusal}
 use Rattle.refusals.specs.Refusals.{numberOf, valuesOf}
@@ -24,9 +25,10 @@ use Rattle.refusals.proofs.Laws.{number-tells}
 use Rattle.hierarchy.specs.Below.{endsRule, belowRule, firstRing, firstBadBelow}
 use Rattle.image.specs.declared.faults.Fault.{Fault}
 use Rattle.image.specs.declared.faults.Fault.the-variants.{Sound, Length, Block, Layout, Component, Label, User, Ring}
-use Rattle.image.specs.declared.faults.Checked.{Checked}
-use Rattle.image.specs.declared.faults.Checked.the-variants.{Accepted, Refused}
-use Rattle.image.specs.Check.{firstBadContent, recordFault, contentFault, countedFault, faultOf, shownAs, checkOf, givenBack, IsAccepted}
+use Rattle.refusals.specs.declared.answers.Checked.{Checked}
+use Rattle.refusals.specs.declared.answers.Checked.the-variants.{Accepted, Refused}
+use Rattle.image.specs.Check.{firstBadContent, recordFault, contentFault, countedFault, faultOf, shownAs, checkOf, IsAccepted}
+use Rattle.refusals.specs.Answers.{givenBack}
 
 -- ---- telling sound from faulty
 abbrev isSound : Fault → Bool

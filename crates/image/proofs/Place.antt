@@ -18,8 +18,8 @@ use Rattle.refusals.specs.Refusals.{placeOf}
 use Rattle.hierarchy.specs.Below.{firstRing, firstBadBelow}
 use Rattle.image.specs.declared.faults.Fault.{Fault}
 use Rattle.image.specs.declared.faults.Fault.the-variants.{Sound, Length, Block, Layout, User, Ring}
-use Rattle.image.specs.declared.faults.Checked.{Checked}
-use Rattle.image.specs.declared.faults.Checked.the-variants.{Accepted, Refused}
+use Rattle.refusals.specs.declared.answers.Checked.{Checked}
+use Rattle.refusals.specs.declared.answers.Checked.the-variants.{Accepted, Refused}
 use Rattle.image.specs.Check.{firstBadContent, recordFault, contentFault, countedFault, faultOf, shownAs, checkOf}
 use Rattle.image.specs.Lookup.{hasComponent, unlessLacking, nameAnswer}
 

@@ -15,8 +15,8 @@ use Rattle.header.proofs.Inside.{component-inside}
 use Rattle.records.specs.Fields.{componentNameField}
 use Rattle.records.proofs.MeaningComponents.{component-means}
 use Rattle.records.proofs.MeaningBlocks.{components-kept}
-use Rattle.image.specs.declared.faults.Checked.{Checked}
-use Rattle.image.specs.declared.faults.Checked.the-variants.{Accepted, Refused}
+use Rattle.refusals.specs.declared.answers.Checked.{Checked}
+use Rattle.refusals.specs.declared.answers.Checked.the-variants.{Accepted, Refused}
 use Rattle.image.specs.Check.{checkOf, IsAccepted}
 use Rattle.image.specs.Lookup.{hasComponent, componentIndex, nameOffset, nameLength, unlessLacking, nameAnswer}
 use Rattle.image.proofs.Accepted.{keeps, accepted-counted, refused-not}

@@ -2,7 +2,7 @@
 use Prim.Native.Nat.{ℕ, _-_}
 use mathlib.Core.Path.{_≡_}
 use mathlib.Core.Bool.{cond, _&&_}
-use mathlib.Core.List.{List, [], _∷_}
+use mathlib.Core.List.{List}
 use lib.Dec.{ltb}
 use Rattle.fields.specs.Scan.{firstBad}
 use Rattle.blocks.specs.Blocks.{lengthRule, blockCount, firstBadBlock}
@@ -12,13 +12,11 @@ use Rattle.records.specs.Rules.{layoutRule, firstBadRecord, contentRule}
 use Rattle.header.specs.declared.layout.Kind.{Kind}
 use Rattle.header.specs.declared.layout.Kind.the-variants as kind
 use Rattle.hierarchy.specs.Below.{firstRing, firstBadBelow}
-use Rattle.refusals.specs.Refusals.{numberOf, valuesOf}
-use Rattle.refusals.specs.declared.Refusal.{Refusal}
 use Rattle.refusals.specs.declared.Refusal.the-variants.{ImageLength, BlockCheck, ImageRule}
 use Rattle.image.specs.declared.faults.Fault.{Fault}
 use Rattle.image.specs.declared.faults.Fault.the-variants.{Sound, Length, Block, Layout, Component, Label, User, Ring}
-use Rattle.image.specs.declared.faults.Checked.{Checked}
-use Rattle.image.specs.declared.faults.Checked.the-variants.{Accepted, Refused}
+use Rattle.refusals.specs.declared.answers.Checked.{Checked}
+use Rattle.refusals.specs.declared.answers.Checked.the-variants.{Accepted, Refused}
 
 -- ---- faults in the blocks after the header
 -- the lowest block that breaks a rule; the number of blocks where none does
@@ -68,16 +66,6 @@ shownAs (Ring g) = Refused ImageRule
 -- the answer of `check`
 unfoldable pub checkOf : List ℕ → Checked
 checkOf im = shownAs (faultOf im)
-
--- what is given where an answer accepts; else what its refusal gives
-abbrev pub onChecked : {A : Type 0} → Checked → (Refusal → A) → A → A
-onChecked Accepted refuse answer = answer
-onChecked (Refused r) refuse answer = refuse r
-
--- the numbers that an answer gives back: none, or the refusal's number and its values
-abbrev pub givenBack : Checked → List ℕ
-givenBack Accepted = []
-givenBack (Refused r) = numberOf r ∷ valuesOf r
 
 -- the image keeps every rule
 abbrev pub IsAccepted : List ℕ → Type 0

@@ -10,8 +10,8 @@ use Rattle.fields.specs.Scan.{firstWhere}
 use Rattle.header.specs.Layout.{levels, compartments, groups, users, labels, componentNameOffset, componentRecord, labelRecord, userRecord}
 use Rattle.records.specs.Fields.{componentNameLength, tagOf, userName}
 use Rattle.refusals.specs.declared.Refusal.the-variants.{NoComponent}
-use Rattle.image.specs.declared.faults.Checked.{Checked}
-use Rattle.image.specs.declared.faults.Checked.the-variants.{Accepted, Refused}
+use Rattle.refusals.specs.declared.answers.Checked.{Checked}
+use Rattle.refusals.specs.declared.answers.Checked.the-variants.{Accepted, Refused}
 use Rattle.image.specs.Check.{checkOf}
 
 -- ---- a component's name, by class (1 level, 2 compartment, 3 group) and place in its class

@@ -3,6 +3,7 @@ ghost use mathlib.Core.Path.{_≡_};
 ghost use Rattle.image.specs.Check.{shownAs, recordFault};
 use header::layout::Kind;
 use refusals::Refusal;
+use refusals::answers::Checked;
 
 // The first fault of an image. Document 01 tells all but the first three as 3; each names what a policy desk looks for.
 pub enum Fault {
@@ -20,12 +21,6 @@ pub enum Fault {
     User(usize, usize),
     // The parents of this group never end.
     Ring(usize),
-}
-
-// The answer of a check, and of other calls that either are done or are refused.
-pub enum Checked {
-    Accepted,
-    Refused(Refusal),
 }
 
 pub fn shown(fault: Fault) -> Checked

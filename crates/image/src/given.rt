@@ -5,7 +5,7 @@ ghost use mathlib.Core.Path.{_≡_};
 ghost use Rattle.fields.specs.Names.{sameName};
 ghost use Rattle.header.specs.Layout.{users, userRecord};
 ghost use Rattle.records.specs.Fields.{userName};
-ghost use Rattle.records.specs.Rules.{Counted};
+ghost use Rattle.header.specs.Limits.{Counted};
 ghost use Rattle.image.specs.Check.{IsAccepted};
 ghost use Rattle.image.specs.Lookup.{Split, labelOfTag, userOfName};
 use fields::names::same_name;

@@ -2,7 +2,7 @@
 ghost use Prim.Native.Nat.{_≤_, _<_};
 ghost use mathlib.Core.Path.{_≡_};
 ghost use Rattle.header.specs.Layout.{blocksNeeded};
-ghost use Rattle.records.specs.Rules.{Counted};
+ghost use Rattle.header.specs.Limits.{Counted};
 ghost use Rattle.image.specs.Check.{firstBadContent, contentFault, countedFault, faultOf};
 use crate::faults::Fault;
 use crate::faults::record_fault;
@@ -58,7 +58,7 @@ fn counted_fault(image: &[u8]) -> Fault
     if g < layout::groups(image) {
         return Fault::Ring(g);
     }
-    let mut lineages = [0u64; 64];
+    let mut lineages = table::EMPTY;
     table::fill(image, &mut lineages);
     let u = table::first_bad_below(image, &lineages);
     if u < layout::users(image) {

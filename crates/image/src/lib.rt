@@ -7,8 +7,8 @@ pub mod lookup;
 ghost use mathlib.Core.Path.{_≡_};
 ghost use Rattle.image.specs.Check.{checkOf};
 ghost use Rattle.image.specs.Lookup.{nameAnswer, namePart};
-use faults::Checked;
 use refusals::Refusal;
+use refusals::answers::Checked;
 
 // Is the image accepted? Refusals: 1, 2 with the lowest block, 3.
 pub fn check(image: &[u8]) -> Checked

@@ -9,11 +9,10 @@ use lib.Dec.{eqb, ltb}
 use lib.ListN.{length, getD}
 use Rattle.refusals.specs.declared.Refusal.the-variants.{PayloadLength, NoRow, RowNotWritable}
 use Rattle.fields.proofs.Both.{either}
-use Rattle.image.specs.declared.faults.Checked.{Checked}
-use Rattle.image.specs.declared.faults.Checked.the-variants.{Accepted, Refused}
-use Rattle.image.specs.Check.{onChecked}
+use Rattle.refusals.specs.declared.answers.Checked.{Checked}
+use Rattle.refusals.specs.declared.answers.Checked.the-variants.{Accepted, Refused}
+use Rattle.refusals.specs.Answers.{onChecked, orRefuse}
 use Rattle.image.proofs.Accepted.{refused-not}
-use Rattle.access.specs.NewLabels.{orRefuse}
 use Rattle.sessions.specs.Session.{SessionMarks, sessionRights}
 use Rattle.rows.specs.Table.{payloadLength, rowWritable, readableRows, widthRule, tableRule, tableAnswer}
 use Rattle.rows.specs.Reading.{handedOut, readRowsOf}

@@ -4,7 +4,7 @@ use Prim.Native.Nat.{ℕ}
 use mathlib.Core.Path.{_≡_, sym, ap, _∙_, subst}
 use mathlib.Core.Bool.{true}
 use mathlib.Core.List.{List}
-use Rattle.image.specs.declared.faults.Checked.the-variants.{Accepted}
+use Rattle.refusals.specs.declared.answers.Checked.the-variants.{Accepted}
 use Rattle.access.specs.Verdicts.{readableAtMaximum}
 use Rattle.access.proofs.Maximum.{maximum-reads}
 use Rattle.sessions.specs.Session.{SessionMarks, lentAnswer, sessionRights}

@@ -5,7 +5,7 @@ use mathlib.Core.Bool.{Bool, true, false, true≢false}
 use mathlib.Core.List.{List, []}
 use native.Mathlib.Omega.{arith}
 use lib.ListN.{length, getD}
-use Rattle.image.specs.declared.faults.Checked.the-variants.{Accepted}
+use Rattle.refusals.specs.declared.answers.Checked.the-variants.{Accepted}
 use Rattle.sessions.specs.Session.{SessionMarks, lentAnswer, sessionRights}
 use Rattle.rows.specs.Table.{rowsOf, payloadLength, withPayload, rowReadable, kept, tableRule}
 use Rattle.rows.specs.Updating.{changedNth, tableUpdated}

@@ -6,7 +6,7 @@ use mathlib.Core.Bool.{Bool, true, false, not, _&&_, _||_}
 use mathlib.Core.List.{List, [], _∷_, map}
 use lib.Dec.{eqb}
 use lib.ListN.{length, replicate, getD}
-use Rattle.image.specs.declared.faults.Checked.the-variants.{Accepted}
+use Rattle.refusals.specs.declared.answers.Checked.the-variants.{Accepted}
 use Rattle.access.specs.Verdicts.{readableAtMaximum}
 use Rattle.sessions.specs.Session.{SessionMarks}
 use Rattle.rows.specs.Table.{rowsOf, rowTag, kept, widthRule, tableShape}

@@ -10,7 +10,8 @@ use lib.Dec.{eqb}
 use Rattle.fields.specs.Scan.{firstBad}
 use Rattle.fields.proofs.Scan.{bad-shift, bad-same}
 use Rattle.header.specs.Layout.{levels, compartments, groups, components}
-use Rattle.records.specs.Rules.{Counted, otherName}
+use Rattle.records.specs.Rules.{otherName}
+use Rattle.header.specs.Limits.{Counted}
 use Rattle.image.specs.Lookup.{hasComponent, componentIndex}
 use Rattle.labels.specs.Parse.{matches, classCount, placeOfName}
 

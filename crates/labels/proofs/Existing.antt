@@ -12,8 +12,8 @@ use Rattle.sets.proofs.Bounds.{none-below, one-below, union-below}
 use Rattle.refusals.specs.declared.Refusal.{Refusal}
 use Rattle.refusals.specs.declared.Refusal.the-variants.{TextShape, UnknownName}
 use Rattle.header.specs.Layout.{levels, compartments, groups}
-use Rattle.image.specs.declared.faults.Checked.{Checked}
-use Rattle.image.specs.declared.faults.Checked.the-variants.{Accepted, Refused}
+use Rattle.refusals.specs.declared.answers.Checked.{Checked}
+use Rattle.refusals.specs.declared.answers.Checked.the-variants.{Accepted, Refused}
 use Rattle.image.specs.Check.{checkOf}
 use Rattle.labels.specs.Label.{Marks}
 use Rattle.labels.specs.Text.{comma, colon, split, shapeRule}

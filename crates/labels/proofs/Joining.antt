@@ -13,7 +13,7 @@ use Rattle.sets.specs.Groups.{placesOf}
 use Rattle.sets.specs.declared.groups.Groups.{Groups}
 use Rattle.refusals.specs.declared.Refusal.the-variants.{UnknownName}
 use Rattle.header.specs.Layout.{compartments}
-use Rattle.records.specs.Rules.{Counted}
+use Rattle.header.specs.Limits.{Counted}
 use Rattle.labels.specs.declared.names.Found.the-variants.{At, Nothing}
 use Rattle.labels.specs.declared.lists.Names as code
 use Rattle.labels.specs.declared.lists.Names.the-variants as names

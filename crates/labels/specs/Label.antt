@@ -1,6 +1,11 @@
 -- A label: a level place, a set of compartments and a set of groups.
 use Prim.Native.Nat.{ℕ}
+use mathlib.Core.Bool.{Bool, _&&_}
+use mathlib.Core.List.{List}
+use lib.Dec.{ltb}
+use Rattle.sets.specs.Sets.{within, allBelow}
 use Rattle.sets.specs.Groups.{placesOf}
+use Rattle.header.specs.Layout.{levels, compartments, groups}
 use Rattle.labels.specs.declared.label.Label.{Label}
 
 -- what a label stands for: numbers and sets of places
@@ -11,3 +16,8 @@ pub record Marks : Type 0 where
 
 abbrev pub marksOf : Label → Marks
 marksOf l = record { level = l .level; compartments = l .compartments; groups = placesOf (l .groups) }
+
+-- the policy has every component that the label names
+unfoldable pub labelExists : List ℕ → Marks → Bool
+labelExists im m =
+    ltb (m .level) (levels im) && within (m .compartments) (allBelow (compartments im)) && within (m .groups) (allBelow (groups im))

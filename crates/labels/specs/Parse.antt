@@ -11,8 +11,8 @@ use Rattle.refusals.specs.declared.Refusal.{Refusal}
 use Rattle.refusals.specs.declared.Refusal.the-variants.{TextShape, UnknownName, RepeatedName}
 use Rattle.header.specs.Layout.{levels, compartments, groups, componentRecord}
 use Rattle.records.specs.Fields.{componentName}
-use Rattle.image.specs.declared.faults.Checked.{Checked}
-use Rattle.image.specs.declared.faults.Checked.the-variants.{Accepted, Refused}
+use Rattle.refusals.specs.declared.answers.Checked.{Checked}
+use Rattle.refusals.specs.declared.answers.Checked.the-variants.{Accepted, Refused}
 use Rattle.image.specs.Check.{checkOf}
 use Rattle.image.specs.Lookup.{componentIndex}
 use Rattle.labels.specs.declared.answers.Reason.{Reason}

@@ -1,6 +1,6 @@
 // Reading a text, for the crates above, once the image is known to be accepted.
 ghost use mathlib.Core.Path.{_≡_};
-ghost use Rattle.records.specs.Rules.{Counted};
+ghost use Rattle.header.specs.Limits.{Counted};
 ghost use Rattle.labels.specs.Parse.{readText, readOf};
 use crate::answers::Parsed;
 use crate::answers::Reason;

@@ -11,7 +11,7 @@ ghost use mathlib.Core.Path.{_≡_};
 ghost use Rattle.labels.specs.Parse.{readOf, parseOf};
 use answers::Parsed;
 use image::check;
-use image::faults::Checked;
+use refusals::answers::Checked;
 
 // The label that the text names. Refusals: 1, 2, 3 of the image; 5; then 6 or 7 with the offset of the leftmost such name.
 pub fn parse(image: &[u8], text: &[u8]) -> Parsed

@@ -2,7 +2,7 @@
 ghost use Prim.Native.Nat.{_+_, _≤_};
 ghost use mathlib.Core.Path.{_≡_};
 ghost use lib.ListN.{length, drop};
-ghost use Rattle.records.specs.Rules.{Counted};
+ghost use Rattle.header.specs.Limits.{Counted};
 ghost use Rattle.sets.specs.Groups.{placesOf};
 ghost use Rattle.labels.specs.Text.{comma, split};
 ghost use Rattle.labels.specs.Parse.{readNames, readList};

@@ -2,7 +2,7 @@
 ghost use Prim.Native.Nat.{_+_, _≤_};
 ghost use mathlib.Core.Path.{_≡_};
 ghost use Rattle.header.specs.Layout.{components};
-ghost use Rattle.records.specs.Rules.{Counted};
+ghost use Rattle.header.specs.Limits.{Counted};
 ghost use Rattle.image.specs.Lookup.{componentIndex};
 ghost use Rattle.labels.specs.Parse.{classCount, placeOfName};
 ghost use Rattle.labels.specs.Lists.{foundOf};

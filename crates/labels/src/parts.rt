@@ -3,7 +3,7 @@
 ghost use Prim.Native.Nat.{_+_, _≤_};
 ghost use mathlib.Core.Path.{_≡_};
 ghost use lib.ListN.{length};
-ghost use Rattle.records.specs.Rules.{Counted};
+ghost use Rattle.header.specs.Limits.{Counted};
 ghost use Rattle.labels.specs.Text.{colon, split};
 ghost use Rattle.labels.specs.Parse.{readSets, readParts, readOf};
 ghost use Rattle.labels.specs.Lists.{afterMark, groupsAfter};

@@ -15,7 +15,8 @@ use Rattle.image.proofs.Policy.{label-found, user-found}
 use Rattle.access.specs.Verdicts.{labelAt, knownTag, readsLabel, writesLabel, mayRead, mayWrite}
 use Rattle.sessions.specs.Session.{sessionRights}
 use Rattle.sessions.specs.Opening.{session, defaultSession, openAccepted, openOf}
-use Rattle.sessions.specs.Asking.{verdictOf, mayReadOf, mayWriteOf}
+use Rattle.sessions.specs.Asking.{mayReadOf, mayWriteOf}
+use Rattle.refusals.specs.Answers.{verdictOf}
 use Rattle.sessions.proofs.Passing.{default-lent}
 use Rattle.lines.specs.Lines.{refusedLine, outputOf}
 

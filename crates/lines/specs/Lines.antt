@@ -13,7 +13,8 @@ use Rattle.refusals.specs.Refusals.{numberOf, placeOf}
 use Rattle.buffers.specs.Pasting.{Written}
 use Rattle.header.specs.Layout.{users, labels, userRecord, labelRecord}
 use Rattle.records.specs.Fields.{tagOf, userName}
-use Rattle.image.specs.Check.{onChecked, checkOf, IsAccepted}
+use Rattle.image.specs.Check.{checkOf, IsAccepted}
+use Rattle.refusals.specs.Answers.{onChecked}
 use Rattle.labels.specs.Label.{Marks}
 use Rattle.access.specs.Rights.{Rights}
 use Rattle.access.specs.Verdicts.{labelAt, readsLabel, writesLabel}

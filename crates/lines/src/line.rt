@@ -5,7 +5,7 @@ ghost use mathlib.Core.List.{_∷_};
 ghost use lib.ListN.{length};
 ghost use Rattle.header.specs.Layout.{labels, labelRecord};
 ghost use Rattle.records.specs.Fields.{tagOf};
-ghost use Rattle.records.specs.Rules.{Counted};
+ghost use Rattle.header.specs.Limits.{Counted};
 ghost use Rattle.labels.specs.Label.{marksOf};
 ghost use Rattle.access.specs.Rights.{rightsOf};
 ghost use Rattle.buffers.specs.Pasting.{Written};

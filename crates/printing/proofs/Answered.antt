@@ -9,9 +9,9 @@ use lib.ListN.{length, drop}
 use Rattle.refusals.specs.declared.Refusal.the-variants.{NoComponent, Room}
 use Rattle.buffers.proofs.Pasted.{front}
 use Rattle.image.specs.Check.{IsAccepted}
-use Rattle.labels.specs.Label.{Marks}
+use Rattle.labels.specs.Label.{Marks, labelExists}
 use Rattle.printing.specs.declared.printing.Printed.the-variants as printed
-use Rattle.printing.specs.Print.{textOf, labelExists, acceptedAnswer, printOf}
+use Rattle.printing.specs.Print.{textOf, acceptedAnswer, printOf}
 use Rattle.buffers.specs.Pasting.{Written}
 use Rattle.printing.proofs.Whole.{text-short}
 

@@ -13,8 +13,8 @@ use Rattle.header.specs.Layout.{levels, compartments, groups}
 use Rattle.image.specs.Check.{IsAccepted}
 use Rattle.image.specs.Lookup.{hasComponent}
 use Rattle.image.proofs.Accepted.{accepted-counted}
-use Rattle.labels.specs.Label.{Marks}
-use Rattle.printing.specs.Print.{nameAt, section, textOf, labelExists, Named}
+use Rattle.labels.specs.Label.{Marks, labelExists}
+use Rattle.printing.specs.Print.{nameAt, section, textOf, Named}
 use Rattle.buffers.specs.Pasting.{Written}
 use Rattle.printing.proofs.Listed.{name-short, listed-short}
 use Rattle.buffers.proofs.Left.{written-then, written-long}

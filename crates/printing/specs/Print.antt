@@ -1,20 +1,20 @@
 -- Printing a label: its level's name, then its lists with places rising; empty tails are dropped.
 use Prim.Native.Nat.{ℕ, zero, suc, _+_, _≤_, _<_}
 use mathlib.Core.Path.{_≡_}
-use mathlib.Core.Bool.{Bool, true, cond, _&&_}
+use mathlib.Core.Bool.{true, cond}
 use mathlib.Core.List.{List, [], _∷_, _++_}
-use lib.Dec.{leb, ltb}
+use lib.Dec.{leb}
 use lib.ListN.{length, drop}
 use Rattle.buffers.specs.Pasting.{atFront}
-use Rattle.sets.specs.Sets.{has, empty, within, allBelow}
+use Rattle.sets.specs.Sets.{has, empty}
 use Rattle.refusals.specs.declared.Refusal.the-variants.{NoComponent, Room}
-use Rattle.header.specs.Layout.{levels, compartments, groups, componentRecord}
+use Rattle.header.specs.Layout.{compartments, groups, componentRecord}
 use Rattle.records.specs.Fields.{componentName}
-use Rattle.image.specs.declared.faults.Checked.{Checked}
-use Rattle.image.specs.declared.faults.Checked.the-variants.{Accepted, Refused}
+use Rattle.refusals.specs.declared.answers.Checked.{Checked}
+use Rattle.refusals.specs.declared.answers.Checked.the-variants.{Accepted, Refused}
 use Rattle.image.specs.Check.{checkOf, IsAccepted}
 use Rattle.image.specs.Lookup.{componentIndex, hasComponent}
-use Rattle.labels.specs.Label.{Marks}
+use Rattle.labels.specs.Label.{Marks, labelExists}
 use Rattle.labels.specs.Text.{comma, colon}
 use Rattle.printing.specs.declared.printing.Printed.{Printed}
 use Rattle.printing.specs.declared.printing.Printed.the-variants as printed
@@ -46,11 +46,6 @@ textOf im m =
     let first = section im 2 (compartments im) (m .compartments) in
     let second = section im 3 (groups im) (m .groups) in
     nameAt im 1 (m .level) ++ cond (empty (m .groups)) (cond (empty (m .compartments)) [] first) (first ++ second)
-
--- the policy has every component that the label names
-unfoldable pub labelExists : List ℕ → Marks → Bool
-labelExists im m =
-    ltb (m .level) (levels im) && within (m .compartments) (allBelow (compartments im)) && within (m .groups) (allBelow (groups im))
 
 -- ---- what print answers, with the buffer after it
 -- 13 where the text is longer than the buffer. A print that is done reports its length and changes only its own bytes

@@ -5,9 +5,9 @@ ghost use mathlib.Core.Path.{_≡_};
 ghost use Rattle.labels.specs.Label.{marksOf};
 ghost use Rattle.printing.specs.Print.{printOf};
 use image::check;
-use image::faults::Checked;
 use labels::label::Label;
 use printing::Printed;
+use refusals::answers::Checked;
 
 // Prints a label to the front of the buffer. Refusals: 1, 2, 3, 18, 13; a refusal leaves the buffer as it was.
 pub fn print(image: &[u8], label: Label, buffer: &mut [u8]) -> Printed

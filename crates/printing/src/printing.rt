@@ -6,15 +6,15 @@ ghost use lib.ListN.{length};
 ghost use Rattle.image.specs.Check.{IsAccepted};
 ghost use Rattle.image.specs.Lookup.{hasComponent};
 ghost use Rattle.header.specs.Layout.{compartments, groups};
-ghost use Rattle.records.specs.Rules.{Counted};
 ghost use Rattle.sets.specs.Groups.{placesOf};
-ghost use Rattle.labels.specs.Label.{marksOf};
-ghost use Rattle.printing.specs.Print.{nameAt, entryAt, listed, section, textOf, labelExists, acceptedAnswer, Named};
+ghost use Rattle.labels.specs.Label.{marksOf, labelExists};
+ghost use Rattle.printing.specs.Print.{nameAt, entryAt, listed, section, textOf, acceptedAnswer, Named};
 ghost use Rattle.buffers.specs.Pasting.{Written};
 use buffers::given::put;
 use header::layout;
 use image::lookup;
 use labels::label::Label;
+use labels::label::label_exists;
 use records::components;
 use refusals::Refusal;
 use sets::groups::Groups;
@@ -132,21 +132,6 @@ fn write_section(
         return at + 1;
     }
     end
-}
-
-// Has the policy every component that the label names?
-pub fn label_exists(image: &[u8], label: Label) -> bool
-    requires { ⌜ Counted (now image) ⌝ }
-    ensures { λ r. ⌜ r ≡ labelExists (now (image .entry)) (marksOf label) ⌝ }
-{
-    ((label.level as usize) < layout::levels(image))
-        & word::within(
-            label.compartments,
-            word::all_below(layout::compartments(image)),
-        )
-        & label
-            .groups
-            .within(Groups::all_below(layout::groups(image)))
 }
 
 // How many bytes a colon and the compartments need.

@@ -10,7 +10,7 @@ use Rattle.fields.proofs.Both.{parts}
 use Rattle.fields.proofs.Meaning.{zero-part}
 use Rattle.header.specs.Layout.{levels, compartments, groups, users, labels, blocksNeeded, Fitted}
 use Rattle.header.specs.Header.{headerRule, fitRule}
-use Rattle.records.specs.Rules.{Counted}
+use Rattle.header.specs.Limits.{Counted}
 
 -- kind 80, 0 records, edition 1, counts within their limits, and bytes 12..509 unused
 pub record HeaderKept (im : List ℕ) : Type 0 where

@@ -1,5 +1,5 @@
 -- The rules of an image's records. Each is a Boolean; proofs/Meaning*.antt say what each means for places and bytes.
-use Prim.Native.Nat.{ℕ, _+_, _-_, _*_, _≤_}
+use Prim.Native.Nat.{ℕ, _+_, _-_, _*_}
 use mathlib.Core.Bool.{Bool, cond, not, _&&_, _||_}
 use mathlib.Core.List.{List}
 use lib.Dec.{eqb, leb, ltb}
@@ -9,7 +9,7 @@ use Rattle.fields.specs.Scan.{firstBad, everywhere}
 use Rattle.sets.specs.Sets.{within, allBelow}
 use Rattle.header.specs.declared.layout.Kind.{Kind}
 use Rattle.header.specs.declared.layout.Kind.the-variants.{Component, Label, User}
-use Rattle.header.specs.Layout.{levels, compartments, groups, users, labels, components, Fitted, componentRecord, labelRecord, userRecord, kindByte, contentsOf}
+use Rattle.header.specs.Layout.{levels, compartments, groups, users, labels, components, componentRecord, labelRecord, userRecord, kindByte, contentsOf}
 use Rattle.records.specs.Fields.{classOf, componentNameField, componentName, numericForm, parentOf, tagOf, labelLevel, labelCompartments, labelGroups, userNameField, userName, privileges, maximumLevel, minimumLevel, defaultLevel, rowLevel, readCompartments, writeCompartments, defaultCompartments, rowCompartments, readGroups, writeGroups, defaultGroups, rowGroups}
 
 -- ---- components: levels, then compartments, then groups
@@ -125,12 +125,3 @@ firstBadRecord im b = let held = contentsOf im b in firstBad (recordRule im (hel
 -- its layout is right and so is every record
 unfoldable pub contentRule : List ℕ → ℕ → Bool
 contentRule im b = layoutRule im b && eqb (firstBadRecord im b) (contentsOf im b .to)
-
--- ---- what code may take for granted once the header and the length are sound
-pub record Counted (im : List ℕ) : Type 0 where
-  pub fitted : Fitted im
-  pub levelsLimit : levels im ≤ 32
-  pub compartmentsLimit : compartments im ≤ 64
-  pub groupsLimit : groups im ≤ 64
-  pub usersLimit : users im ≤ 96
-  pub labelsLimit : labels im ≤ 1680

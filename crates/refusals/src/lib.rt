@@ -1,6 +1,8 @@
 // What every call answers when it does not do what was asked: one case for each number of the scope
 // document's table "Numbers given back", in the table's order. A case holds what the table says is
 // returned with the number, and nothing else.
+pub mod answers;
+
 ghost use mathlib.Core.Path.{_≡_};
 ghost use Rattle.refusals.specs.Refusals.{numberOf, placeOf};
 

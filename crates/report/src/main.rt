@@ -11,12 +11,12 @@ use header::layout;
 use hierarchy::table;
 use hierarchy::table::Table;
 use image::check;
-use image::faults::Checked;
 use libc::STDIN_FILENO;
 use libc::STDOUT_FILENO;
 use lines::parts::user_lines;
 use lines::refused::refusal_line;
 use refusals::Refusal;
+use refusals::answers::Checked;
 use sessions::given::opened_rights;
 
 fn write_refusal(refusal: Refusal) {
@@ -51,7 +51,7 @@ fn write_user(image: &[u8], table: &Table, u: usize)
 fn write_users(image: &[u8])
     requires { ⌜ IsAccepted (now image) ⌝ }
 {
-    let mut table = [0u64; 64];
+    let mut table = table::EMPTY;
     table::fill(image, &mut table);
     let count = layout::users(image);
     let mut u = 0;

@@ -9,14 +9,14 @@ use lib.ListN.{length, take, drop}
 use lib.Seq.{take-at}
 use Rattle.refusals.specs.declared.Refusal.{Refusal}
 use Rattle.refusals.specs.declared.Refusal.the-variants.{NoComponent, Room}
-use Rattle.image.specs.declared.faults.Checked.{Checked}
-use Rattle.image.specs.declared.faults.Checked.the-variants.{Accepted, Refused}
+use Rattle.refusals.specs.declared.answers.Checked.{Checked}
+use Rattle.refusals.specs.declared.answers.Checked.the-variants.{Accepted, Refused}
 use Rattle.image.specs.Check.{checkOf}
-use Rattle.labels.specs.Label.{Marks}
+use Rattle.labels.specs.Label.{Marks, labelExists}
 use Rattle.printing.specs.declared.printing.Printed.{Printed}
 use Rattle.printing.specs.declared.printing.Printed.the-variants as printed
 use Rattle.labels.specs.Parse.{label, parseOf}
-use Rattle.printing.specs.Print.{textOf, labelExists, unlessRefused, acceptedAnswer, printOf}
+use Rattle.printing.specs.Print.{textOf, unlessRefused, acceptedAnswer, printOf}
 use Rattle.roundtrip.proofs.RoundTrip.{parse-of-print}
 
 not-done : (r : Refusal) (n : ℕ) → printed.Refused r ≡ printed.Done n → ⊥

@@ -13,13 +13,13 @@ use Rattle.sets.proofs.Bounds.{below-within}
 use Rattle.sets.proofs.Meets.{empty-none}
 use Rattle.header.specs.Layout.{levels, compartments, groups}
 use Rattle.refusals.specs.declared.Refusal.the-variants.{TextShape}
-use Rattle.image.specs.declared.faults.Checked.{Checked}
-use Rattle.image.specs.declared.faults.Checked.the-variants.{Accepted, Refused}
+use Rattle.refusals.specs.declared.answers.Checked.{Checked}
+use Rattle.refusals.specs.declared.answers.Checked.the-variants.{Accepted, Refused}
 use Rattle.image.specs.Check.{checkOf, IsAccepted}
-use Rattle.labels.specs.Label.{Marks}
+use Rattle.labels.specs.Label.{Marks, labelExists}
 use Rattle.labels.specs.Text.{colon, split, shapeRule}
 use Rattle.labels.specs.Parse.{read, readList, Read, label, refused, readSets, readParts, unlessRefused, parseOf}
-use Rattle.printing.specs.Print.{nameAt, listText, textOf, labelExists}
+use Rattle.printing.specs.Print.{nameAt, listText, textOf}
 use Rattle.labels.proofs.Existing.{parsed-exists}
 use Rattle.roundtrip.proofs.OwnNames.{place-of-own-name}
 use Rattle.roundtrip.proofs.ListsRead.{list-read}

@@ -9,10 +9,10 @@ use Rattle.sets.specs.Sets.{none}
 use Rattle.refusals.specs.declared.Refusal.the-variants.{TextShape, UnknownName}
 use Rattle.header.specs.Layout.{levels}
 use Rattle.image.specs.Check.{IsAccepted}
-use Rattle.labels.specs.Label.{Marks}
+use Rattle.labels.specs.Label.{Marks, labelExists}
 use Rattle.labels.specs.Text.{comma, colon, split, isEmpty, shapeRule}
 use Rattle.labels.specs.Parse.{placeOfName, Names, read, unknown, repeated, readList, Read, label, refused, badImage, thenRead, readSets, readParts, parseOf}
-use Rattle.printing.specs.Print.{labelExists, textOf}
+use Rattle.printing.specs.Print.{textOf}
 use Rattle.roundtrip.proofs.AnyOrder.{Reordered, any-order}
 use Rattle.roundtrip.proofs.RoundTrip.{parsed-accepted, parse-of-print}
 

@@ -14,10 +14,10 @@ use Rattle.sets.proofs.Bounds.{below-has, within-below}
 use Rattle.sets.proofs.Meets.{empty-lacks, empty-place}
 use Rattle.header.specs.Layout.{levels, compartments, groups}
 use Rattle.image.specs.Check.{IsAccepted}
-use Rattle.labels.specs.Label.{Marks}
+use Rattle.labels.specs.Label.{Marks, labelExists}
 use Rattle.labels.specs.Text.{comma, colon, split, isEmpty, isName, allNames, isList, shapeOfParts, shapeRule}
 use Rattle.labels.specs.Parse.{classCount}
-use Rattle.printing.specs.Print.{nameAt, entryAt, listed, listText, section, textOf, labelExists}
+use Rattle.printing.specs.Print.{nameAt, entryAt, listed, listText, section, textOf}
 use Rattle.roundtrip.proofs.Unmarked.{lacks, split-alone, split-joined}
 use Rattle.printing.proofs.Listed.{entry-has, entry-lacks}
 use Rattle.printing.proofs.Whole.{text-short}

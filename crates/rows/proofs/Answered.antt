@@ -12,15 +12,13 @@ use lib.Seq.{drop-drop, length-take-le}
 use Rattle.fields.specs.Bytes.{part}
 use Rattle.fields.proofs.Laws.{drop-take}
 use Rattle.refusals.specs.declared.Refusal.the-variants.{Room, PayloadLength, NoRow, RowNotWritable, TableShape}
-use Rattle.image.specs.declared.faults.Checked.{Checked}
-use Rattle.image.specs.declared.faults.Checked.the-variants as checked
-use Rattle.image.specs.Check.{onChecked}
-use Rattle.access.specs.NewLabels.{orRefuse}
+use Rattle.refusals.specs.declared.answers.Checked.{Checked}
+use Rattle.refusals.specs.declared.answers.Checked.the-variants as checked
+use Rattle.refusals.specs.Answers.{onChecked, orRefuse, verdictOf}
 use Rattle.access.specs.Rights.{Rights}
-use Rattle.sessions.specs.Asking.{verdictOf}
 use Rattle.sessions.specs.Session.{SessionMarks, lentAnswer, sessionRights}
-use Rattle.sessions.specs.declared.answers.Verdict.{Verdict}
-use Rattle.sessions.specs.declared.answers.Verdict.the-variants as verdict
+use Rattle.refusals.specs.declared.answers.Verdict.{Verdict}
+use Rattle.refusals.specs.declared.answers.Verdict.the-variants as verdict
 use Rattle.buffers.specs.Pasting.{Written}
 use Rattle.buffers.proofs.Pasted.{front}
 use Rattle.rows.specs.Table.{firstRows, rowsOf, rowOffset, rowPayload, payloadOffset, payloadLength, rowReadable, rowWritable, readableRows, tableRule, tableAnswer}

@@ -5,11 +5,10 @@ use mathlib.Core.Bool.{Bool, true, false}
 use mathlib.Core.List.{List}
 use Rattle.refusals.specs.declared.Refusal.{Refusal}
 use Rattle.refusals.specs.declared.Refusal.the-variants.{TableShape}
-use Rattle.image.specs.declared.faults.Checked.{Checked}
-use Rattle.image.specs.declared.faults.Checked.the-variants as checked
-use Rattle.image.specs.Check.{onChecked}
+use Rattle.refusals.specs.declared.answers.Checked.{Checked}
+use Rattle.refusals.specs.declared.answers.Checked.the-variants as checked
+use Rattle.refusals.specs.Answers.{onChecked, orRefuse}
 use Rattle.image.proofs.Accepted.{refused-not}
-use Rattle.access.specs.NewLabels.{orRefuse}
 use Rattle.access.specs.Rights.{rightsOf}
 use Rattle.access.specs.declared.rights.View.{View}
 use Rattle.sessions.specs.Session.{SessionMarks, lentAnswer, sessionRights}

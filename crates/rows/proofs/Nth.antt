@@ -8,9 +8,9 @@ use lib.Dec.{leb}
 use lib.ListN.{length, getD, set}
 use Rattle.buffers.specs.Pasting.{atFront}
 use Rattle.refusals.specs.declared.Refusal.the-variants.{Room}
-use Rattle.image.specs.declared.faults.Checked.{Checked}
-use Rattle.image.specs.declared.faults.Checked.the-variants as checked
-use Rattle.image.specs.Check.{onChecked}
+use Rattle.refusals.specs.declared.answers.Checked.{Checked}
+use Rattle.refusals.specs.declared.answers.Checked.the-variants as checked
+use Rattle.refusals.specs.Answers.{onChecked}
 use Rattle.sessions.specs.Session.{SessionMarks, sessionRights}
 use Rattle.rows.specs.Table.{kept, readableRows, tableAnswer}
 use Rattle.rows.specs.Reading.{handedOut, readRowsOf}

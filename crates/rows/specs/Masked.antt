@@ -7,13 +7,12 @@ use denote.Ref.{RefT}
 use lib.Dec.{ltb}
 use lib.ListN.{length, getD}
 use Rattle.refusals.specs.declared.Refusal.the-variants.{NoRow}
-use Rattle.image.specs.Check.{onChecked}
+use Rattle.refusals.specs.Answers.{onChecked, verdictOf}
 use Rattle.image.specs.Lookup.{Part, partOf}
 use Rattle.access.specs.Rights.{Rights}
 use Rattle.sessions.specs.Session.{SessionMarks, sessionRights}
-use Rattle.sessions.specs.Asking.{verdictOf}
-use Rattle.sessions.specs.declared.answers.Verdict.{Verdict}
-use Rattle.sessions.specs.declared.answers.Verdict.the-variants.{Yes, No, Refused}
+use Rattle.refusals.specs.declared.answers.Verdict.{Verdict}
+use Rattle.refusals.specs.declared.answers.Verdict.the-variants.{Yes, No, Refused}
 use Rattle.rows.specs.Table.{rowsOf, payloadLength, payloadOffset, rowReadable, tableAnswer}
 
 -- ---- with those rights, once image, session and table are accepted: may the row at that place be read? 14 where there is no such row

@@ -6,7 +6,7 @@ use lib.Dec.{leb}
 use lib.ListN.{length}
 use Rattle.buffers.specs.Pasting.{atFront}
 use Rattle.refusals.specs.declared.Refusal.the-variants.{Room}
-use Rattle.image.specs.Check.{onChecked}
+use Rattle.refusals.specs.Answers.{onChecked}
 use Rattle.sessions.specs.Session.{SessionMarks, sessionRights}
 use Rattle.rows.specs.Table.{readableRows, tableAnswer}
 use Rattle.rows.specs.declared.answers.RowsRead.{RowsRead}

@@ -5,7 +5,7 @@ use mathlib.Core.Bool.{true, cond}
 use mathlib.Core.List.{List, []}
 use Rattle.access.specs.Rights.{Rights, rightsOf}
 use Rattle.image.specs.Check.{IsAccepted}
-use Rattle.image.specs.declared.faults.Checked.the-variants as checked
+use Rattle.refusals.specs.declared.answers.Checked.the-variants as checked
 use Rattle.sessions.specs.Session.{SessionMarks, sessionRights}
 use Rattle.sessions.specs.declared.given.Lent.{Lent}
 use Rattle.sessions.specs.declared.given.Lent.the-variants.{At, Refused}

@@ -6,11 +6,10 @@ use lib.Dec.{eqb}
 use lib.ListN.{length, take, drop}
 use Rattle.fields.specs.Bytes.{number4}
 use Rattle.refusals.specs.declared.Refusal.the-variants.{TableShape}
-use Rattle.image.specs.declared.faults.Checked.{Checked}
-use Rattle.image.specs.declared.faults.Checked.the-variants.{Accepted, Refused}
-use Rattle.image.specs.Check.{onChecked}
+use Rattle.refusals.specs.declared.answers.Checked.{Checked}
+use Rattle.refusals.specs.declared.answers.Checked.the-variants.{Accepted, Refused}
+use Rattle.refusals.specs.Answers.{onChecked, orRefuse}
 use Rattle.access.specs.Rights.{Rights, between}
-use Rattle.access.specs.NewLabels.{orRefuse}
 use Rattle.access.specs.Verdicts.{mayRead, mayWrite}
 use Rattle.sessions.specs.Session.{SessionMarks, lentAnswer}
 

@@ -6,10 +6,9 @@ use mathlib.Core.List.{List, [], _∷_}
 use lib.Dec.{eqb, ltb}
 use lib.ListN.{length, getD}
 use Rattle.refusals.specs.declared.Refusal.the-variants.{PayloadLength, NoRow, RowNotWritable}
-use Rattle.image.specs.declared.faults.Checked.{Checked}
-use Rattle.image.specs.declared.faults.Checked.the-variants.{Accepted, Refused}
-use Rattle.image.specs.Check.{onChecked}
-use Rattle.access.specs.NewLabels.{orRefuse}
+use Rattle.refusals.specs.declared.answers.Checked.{Checked}
+use Rattle.refusals.specs.declared.answers.Checked.the-variants.{Accepted, Refused}
+use Rattle.refusals.specs.Answers.{onChecked, orRefuse}
 use Rattle.access.specs.Rights.{Rights}
 use Rattle.sessions.specs.Session.{SessionMarks, sessionRights}
 use Rattle.rows.specs.Table.{rowsOf, withRows, payloadLength, withPayload, rowReadable, rowWritable, readableRows, tableAnswer}

@@ -13,9 +13,10 @@ ghost use Rattle.rows.specs.Updating.{updateRowOf};
 ghost use Rattle.rows.specs.Masked.{maskedVerdictOf, maskedPart};
 ghost use Rattle.rows.specs.Scan.{TableGives};
 use answers::RowsRead;
-use image::faults::Checked;
+use hierarchy::table;
 use refusals::Refusal;
-use sessions::answers::Verdict;
+use refusals::answers::Checked;
+use refusals::answers::Verdict;
 use sessions::given::Lent;
 use sessions::given::lent_rights;
 use sessions::session::Session;
@@ -34,7 +35,7 @@ fn table_ok(table: &[u8], width: usize) -> bool
 fn table_rights(image: &[u8], session: Session, table: &[u8], width: usize) -> Lent
     ensures { λ r. ⌜ TableGives (now (image .entry)) (sessionOf session) width (now (table .entry)) r ⌝ }
 {
-    let mut ancestors = [0u64; 64];
+    let mut ancestors = table::EMPTY;
     let found = lent_rights(image, &mut ancestors, session);
     match found {
         Lent::At(view) => {

@@ -6,7 +6,7 @@ ghost use Rattle.rows.specs.Scan.{Usable};
 use crate::scan::is_readable;
 use access::rights::View;
 use refusals::Refusal;
-use sessions::answers::Verdict;
+use refusals::answers::Verdict;
 
 // 14 where there is no row at that place.
 pub fn place_verdict(image: &[u8], view: View, table: &[u8], width: usize, place: usize) -> Verdict

@@ -7,8 +7,8 @@ use crate::scan::is_writable;
 use crate::scan::nth_readable;
 use access::rights::View;
 use buffers::given::put;
-use image::faults::Checked;
 use refusals::Refusal;
+use refusals::answers::Checked;
 
 // 16, 14, 15; otherwise the payload of the n-th readable row is replaced.
 pub fn update_accepted(

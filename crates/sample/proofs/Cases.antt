@@ -8,12 +8,13 @@ use Rattle.fields.specs.Scan.{firstBad}
 use Rattle.sets.specs.Sets.{has, less, empty, allBelow, within, meets, collect}
 use Rattle.header.specs.Layout.{levels, compartments, groups, labels, components, firstLabelBlock, firstUserBlock, componentOffset, labelOffset, userOffset, componentRecord, labelRecord, userRecord}
 use Rattle.hierarchy.specs.Below.{parent, hasParent, lineageWithin, lineage, below}
-use Rattle.image.specs.declared.faults.Checked.the-variants.{Accepted}
+use Rattle.refusals.specs.declared.answers.Checked.the-variants.{Accepted}
 use Rattle.image.specs.Check.{checkOf}
 use Rattle.image.specs.Lookup.{componentIndex, labelOfTag}
 use Rattle.labels.specs.Text.{split, isName, isList, shapeRule}
 use Rattle.labels.specs.Parse.{matches, placeOfName, readNames, readText, parseOf}
-use Rattle.printing.specs.Print.{entryAt, listed, listText, section, textOf, labelExists, acceptedAnswer, printOf}
+use Rattle.printing.specs.Print.{entryAt, listed, listText, section, textOf, acceptedAnswer, printOf}
+use Rattle.labels.specs.Label.{labelExists}
 use Rattle.dominance.specs.TwoLabels.{mergeLevels, mergeSets, lettersRule, mergedLabel, mergeOf}
 use Rattle.access.specs.Rights.{writeCompartmentsOf, writeGroupsOf, rightsAt}
 use Rattle.access.specs.NewLabels.{sessionGroupsRule, rowInside, sessionLabelAnswer}
@@ -21,7 +22,8 @@ use Rattle.access.specs.Verdicts.{readsAll, writesAll, holdsCompaccess, readLev
 use Rattle.sessions.specs.Session.{lentAnswer, sessionRights}
 use Rattle.sessions.specs.Opening.{session, openOf}
 use Rattle.sessions.specs.Changes.{labelChange, setLabelOf}
-use Rattle.sessions.specs.Asking.{verdictOf, mayReadOf, mayWriteOf}
+use Rattle.sessions.specs.Asking.{mayReadOf, mayWriteOf}
+use Rattle.refusals.specs.Answers.{verdictOf}
 use Rattle.sample.specs.Pieces.{mara}
 use Rattle.sample.specs.Cooperative.{casesImage, maraOpened}
 use Rattle.sample.specs.Questions.{Question, ofRow, newLabel, merged, printed, Told, toldVerdicts, toldChange, onLabel, onMerged, toldPrint, buffer, answer}

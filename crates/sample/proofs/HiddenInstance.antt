@@ -6,7 +6,7 @@ use mathlib.Core.List.{List, [], _∷_, flatten}
 use lib.ListN.{replicate}
 use Rattle.fields.specs.Bytes.{number2, number4}
 use Rattle.refusals.specs.declared.Refusal.the-variants.{NoUser, RowLabelOutside, TableShape, NoRow, RowNotWritable, SessionRules}
-use Rattle.image.specs.declared.faults.Checked.the-variants.{Accepted, Refused}
+use Rattle.refusals.specs.declared.answers.Checked.the-variants.{Accepted, Refused}
 use Rattle.sessions.specs.Session.{sessionRights}
 use Rattle.sessions.specs.Opening.{session, refused}
 use Rattle.rows.specs.Table.{firstRows, rowsOf, withRows, kept, readableRows, tableRule, tableAnswer}

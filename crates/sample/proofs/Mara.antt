@@ -8,7 +8,7 @@ use Rattle.fields.specs.Scan.{firstBad}
 use Rattle.sets.specs.Sets.{has, within, meets, collect}
 use Rattle.header.specs.Layout.{levels, compartments, groups, users, labels, components, firstLabelBlock, firstUserBlock, componentOffset, userOffset, componentRecord, userRecord}
 use Rattle.hierarchy.specs.Below.{parent, hasParent, lineageWithin, lineage, below}
-use Rattle.image.specs.declared.faults.Checked.the-variants.{Accepted}
+use Rattle.refusals.specs.declared.answers.Checked.the-variants.{Accepted}
 use Rattle.image.specs.Lookup.{componentIndex, userOfName}
 use Rattle.labels.specs.Text.{colon, split, isName, isList, shapeRule}
 use Rattle.labels.specs.Parse.{matches, placeOfName, readNames}

@@ -10,7 +10,7 @@ use Rattle.refusals.specs.declared.Refusal.the-variants.{NoUser, RowLabelOutsid
 use Rattle.header.specs.Layout.{levels, compartments, groups, users, labels, components, firstLabelBlock, firstUserBlock, componentOffset, labelOffset, userOffset, componentRecord, labelRecord, userRecord}
 use Rattle.records.specs.Fields.{privileges}
 use Rattle.hierarchy.specs.Below.{parent, hasParent, lineageWithin, lineage, below}
-use Rattle.image.specs.declared.faults.Checked.the-variants.{Accepted, Refused}
+use Rattle.refusals.specs.declared.answers.Checked.the-variants.{Accepted, Refused}
 use Rattle.image.specs.Lookup.{componentIndex, labelOfTag, userOfName}
 use Rattle.labels.specs.Text.{split, isName, isList, shapeRule}
 use Rattle.labels.specs.Parse.{matches, placeOfName, readNames}

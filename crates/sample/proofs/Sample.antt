@@ -10,7 +10,7 @@ use Rattle.header.specs.Layout.{levels, compartments, groups, users, labels, co
 use Rattle.header.specs.Header.{headerRule, fitRule}
 use Rattle.records.specs.Rules.{classAt, classStart, parentRule, componentShape, numericRule, namesDiffer, newNameRule, componentRule, labelShape, tagRule, labelRule, userLevelsRule, userCompartmentsRule, userGroupsRule, userShape, userNameRule, userRule, recordRule, layoutRule, firstBadRecord, contentRule}
 use Rattle.hierarchy.specs.Below.{parent, hasParent, endsWithin, endsRule, firstRing, lineageWithin, lineage, below, belowRule, firstBadBelow}
-use Rattle.image.specs.declared.faults.Checked.the-variants.{Accepted}
+use Rattle.refusals.specs.declared.answers.Checked.the-variants.{Accepted}
 use Rattle.image.specs.Check.{firstBadContent, contentFault, countedFault, faultOf, checkOf}
 use Rattle.sample.specs.Cooperative.{cooperative, casesImage}
 

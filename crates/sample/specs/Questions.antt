@@ -6,9 +6,9 @@ use mathlib.Core.List.{List, [], _∷_}
 use lib.ListN.{take, replicate}
 use Rattle.refusals.specs.Refusals.{numberOf, valuesOf}
 use Rattle.refusals.specs.declared.Refusal.{Refusal}
-use Rattle.image.specs.declared.faults.Checked.{Checked}
+use Rattle.refusals.specs.declared.answers.Checked.{Checked}
 use Rattle.image.specs.Lookup.{labelOfTag}
-use Rattle.image.specs.Check.{onChecked}
+use Rattle.refusals.specs.Answers.{onChecked}
 use Rattle.labels.specs.Label.{Marks}
 use Rattle.labels.specs.Parse as parse
 use Rattle.printing.specs.Print.{textOf, printOf}
@@ -20,7 +20,7 @@ use Rattle.sessions.specs.Session.{SessionMarks}
 use Rattle.sessions.specs.Opening as opening
 use Rattle.sessions.specs.Changes.{setLabelOf}
 use Rattle.sessions.specs.Asking.{mayReadOf, mayWriteOf}
-use Rattle.sessions.specs.declared.answers.Verdict.{Verdict}
+use Rattle.refusals.specs.declared.answers.Verdict.{Verdict}
 use Rattle.encoding.specs.Sessions.{sessionBytes}
 use Rattle.encoding.specs.Verdicts.{verdictCode}
 use Rattle.sample.specs.Pieces.{mara}

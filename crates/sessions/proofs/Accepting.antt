@@ -6,11 +6,12 @@ use mathlib.Core.List.{List}
 use Rattle.refusals.specs.declared.Refusal.{Refusal}
 use Rattle.refusals.specs.declared.Refusal.the-variants.{SessionRules}
 use Rattle.header.specs.Layout.{users}
-use Rattle.image.specs.declared.faults.Checked.{Checked}
-use Rattle.image.specs.declared.faults.Checked.the-variants.{Accepted, Refused}
-use Rattle.image.specs.Check.{onChecked, checkOf, IsAccepted}
+use Rattle.refusals.specs.declared.answers.Checked.{Checked}
+use Rattle.refusals.specs.declared.answers.Checked.the-variants.{Accepted, Refused}
+use Rattle.image.specs.Check.{checkOf, IsAccepted}
+use Rattle.refusals.specs.Answers.{onChecked, orRefuse}
 use Rattle.image.proofs.Accepted.{refused-not}
-use Rattle.access.specs.NewLabels.{orRefuse, sessionRule}
+use Rattle.access.specs.NewLabels.{sessionRule}
 use Rattle.access.proofs.Answers.{SessionKept, session-means, means-session}
 use Rattle.access.specs.declared.rights.View.{View}
 use Rattle.sessions.specs.declared.given.Lent.{Lent}

@@ -3,15 +3,15 @@ use Prim.Native.Nat.{ℕ}
 use mathlib.Core.Path.{_≡_, refl, sym, ap}
 use mathlib.Core.Bool.{Bool, true, false, true≢false}
 use mathlib.Core.List.{List}
-use Rattle.image.specs.declared.faults.Checked.{Checked}
-use Rattle.image.specs.declared.faults.Checked.the-variants as checked
-use Rattle.image.specs.Check.{onChecked}
+use Rattle.refusals.specs.declared.answers.Checked.{Checked}
+use Rattle.refusals.specs.declared.answers.Checked.the-variants as checked
+use Rattle.refusals.specs.Answers.{onChecked, verdictOf}
 use Rattle.access.specs.Verdicts.{mayRead, readableAtMaximum}
 use Rattle.access.proofs.Maximum.{maximum-reads}
-use Rattle.sessions.specs.declared.answers.Verdict.{Verdict}
-use Rattle.sessions.specs.declared.answers.Verdict.the-variants.{Yes, No, Refused}
+use Rattle.refusals.specs.declared.answers.Verdict.{Verdict}
+use Rattle.refusals.specs.declared.answers.Verdict.the-variants.{Yes, No, Refused}
 use Rattle.sessions.specs.Session.{SessionMarks, lentAnswer, sessionRights}
-use Rattle.sessions.specs.Asking.{verdictOf, mayReadOf}
+use Rattle.sessions.specs.Asking.{mayReadOf}
 use Rattle.sessions.proofs.Accepting.{lent-accepted, lent-rule}
 
 abbrev isYes : Verdict → Bool

@@ -10,9 +10,10 @@ use Rattle.sets.proofs.Within.{has-within, within-intersection}
 use Rattle.header.specs.Layout.{users, userRecord}
 use Rattle.records.specs.Fields.{readCompartments, writeCompartments, defaultCompartments, rowCompartments, writeGroups, defaultGroups, rowGroups}
 use Rattle.hierarchy.specs.Below.{below}
-use Rattle.image.specs.declared.faults.Checked.{Checked}
-use Rattle.image.specs.declared.faults.Checked.the-variants.{Accepted, Refused}
-use Rattle.image.specs.Check.{onChecked, checkOf, IsAccepted}
+use Rattle.refusals.specs.declared.answers.Checked.{Checked}
+use Rattle.refusals.specs.declared.answers.Checked.the-variants.{Accepted, Refused}
+use Rattle.image.specs.Check.{checkOf, IsAccepted}
+use Rattle.refusals.specs.Answers.{onChecked, allowed}
 use Rattle.image.proofs.Accepted.{refused-not}
 use Rattle.refusals.specs.declared.Refusal.{Refusal}
 use Rattle.refusals.specs.declared.Refusal.the-variants.{NoUser}
@@ -22,7 +23,7 @@ use Rattle.labels.specs.Label.{Marks}
 use Rattle.labels.specs.Parse as parse
 use Rattle.labels.specs.Parse.{Read, label, badImage, readText}
 use Rattle.access.specs.Rights.{rightsAt, writeCompartmentsOf, writeGroupsOf}
-use Rattle.access.specs.NewLabels.{allowed, sessionLabelAnswer, rowLabelAnswer, sessionRule}
+use Rattle.access.specs.NewLabels.{sessionLabelAnswer, rowLabelAnswer, sessionRule}
 use Rattle.access.proofs.Answers.{Inside, session-label-means, row-label-means, means-session}
 use Rattle.sessions.specs.Session.{SessionMarks, lentAnswer, sessionRights}
 use Rattle.sessions.specs.Opening.{Opening, session, refused, defaultLabel, defaultRowLabel, defaultSession, openAccepted, openOf}

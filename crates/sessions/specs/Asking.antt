@@ -1,15 +1,11 @@
 -- Asking a session for a verdict on a tag.
 use Prim.Native.Nat.{ℕ}
-use mathlib.Core.Bool.{Bool, cond}
 use mathlib.Core.List.{List}
-use Rattle.image.specs.Check.{onChecked}
+use Rattle.refusals.specs.Answers.{onChecked, verdictOf}
 use Rattle.access.specs.Verdicts.{mayRead, mayWrite}
 use Rattle.sessions.specs.Session.{SessionMarks, lentAnswer, sessionRights}
-use Rattle.sessions.specs.declared.answers.Verdict.{Verdict}
-use Rattle.sessions.specs.declared.answers.Verdict.the-variants.{Yes, No, Refused}
-
-abbrev pub verdictOf : Bool → Verdict
-verdictOf granted = cond granted Yes No
+use Rattle.refusals.specs.declared.answers.Verdict.{Verdict}
+use Rattle.refusals.specs.declared.answers.Verdict.the-variants.{Refused}
 
 -- the answers of `may_read` and `may_write`: 1, 2, 3, 19 before all others
 unfoldable pub mayReadOf : List ℕ → SessionMarks → ℕ → Verdict

@@ -1,9 +1,9 @@
 -- Label changes: a session goes in and comes back changed or as it was. New labels come as text.
 use Prim.Native.Nat.{ℕ}
 use mathlib.Core.List.{List}
-use Rattle.image.specs.declared.faults.Checked.{Checked}
-use Rattle.image.specs.declared.faults.Checked.the-variants.{Accepted, Refused}
-use Rattle.image.specs.Check.{onChecked}
+use Rattle.refusals.specs.declared.answers.Checked.{Checked}
+use Rattle.refusals.specs.declared.answers.Checked.the-variants.{Accepted, Refused}
+use Rattle.refusals.specs.Answers.{onChecked}
 use Rattle.labels.specs.Label.{Marks}
 use Rattle.labels.specs.Parse.{Read, label, refused, badImage, readText}
 use Rattle.access.specs.NewLabels.{sessionLabelAnswer, rowLabelAnswer}

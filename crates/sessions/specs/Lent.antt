@@ -3,7 +3,7 @@ use Prim.Native.Nat.{ℕ}
 use mathlib.Core.Path.{_≡_}
 use mathlib.Core.List.{List}
 use Rattle.hierarchy.specs.Below.{Tabled}
-use Rattle.image.specs.declared.faults.Checked.the-variants as checked
+use Rattle.refusals.specs.declared.answers.Checked.the-variants as checked
 use Rattle.access.specs.Rights.{rightsOf}
 use Rattle.sessions.specs.declared.given.Lent.{Lent}
 use Rattle.sessions.specs.declared.given.Lent.the-variants.{At, Refused}

@@ -7,7 +7,8 @@ use Rattle.refusals.specs.declared.Refusal.{Refusal}
 use Rattle.refusals.specs.declared.Refusal.the-variants.{NoUser}
 use Rattle.header.specs.Layout.{users, userRecord}
 use Rattle.records.specs.Fields.{defaultLevel, defaultCompartments, defaultGroups, rowLevel, rowCompartments, rowGroups}
-use Rattle.image.specs.Check.{onChecked, checkOf}
+use Rattle.image.specs.Check.{checkOf}
+use Rattle.refusals.specs.Answers.{onChecked}
 use Rattle.image.specs.Lookup.{userOfName}
 use Rattle.labels.specs.Label.{Marks}
 use Rattle.sessions.specs.Session.{SessionMarks, sessionOf}

@@ -2,12 +2,13 @@
 use Prim.Native.Nat.{ℕ}
 use mathlib.Core.List.{List}
 use Rattle.refusals.specs.declared.Refusal.the-variants.{SessionRules}
-use Rattle.image.specs.declared.faults.Checked.{Checked}
-use Rattle.image.specs.declared.faults.Checked.the-variants.{Accepted, Refused}
-use Rattle.image.specs.Check.{onChecked, checkOf}
+use Rattle.refusals.specs.declared.answers.Checked.{Checked}
+use Rattle.refusals.specs.declared.answers.Checked.the-variants.{Accepted, Refused}
+use Rattle.image.specs.Check.{checkOf}
+use Rattle.refusals.specs.Answers.{onChecked, orRefuse}
 use Rattle.labels.specs.Label.{Marks, marksOf}
 use Rattle.access.specs.Rights.{Rights, rightsAt}
-use Rattle.access.specs.NewLabels.{orRefuse, sessionRule}
+use Rattle.access.specs.NewLabels.{sessionRule}
 use Rattle.sessions.specs.declared.session.Session.{Session}
 
 -- what a session stands for

@@ -1,7 +1,7 @@
 // What the calls on sessions answer.
 use crate::session::Session;
-use image::faults::Checked;
 use refusals::Refusal;
+use refusals::answers::Checked;
 
 // 1, 2, 3, 4 where no session opens.
 pub enum Opened {
@@ -13,11 +13,4 @@ pub enum Opened {
 pub struct Changed {
     pub session: Session,
     pub answer: Checked,
-}
-
-// Yes, no, or the refusal where there is no verdict.
-pub enum Verdict {
-    Yes,
-    No,
-    Refused(Refusal),
 }

@@ -2,7 +2,7 @@
 ghost use Prim.Native.Nat.{_<_};
 ghost use mathlib.Core.Path.{_≡_};
 ghost use Rattle.header.specs.Layout.{users};
-ghost use Rattle.records.specs.Rules.{Counted};
+ghost use Rattle.header.specs.Limits.{Counted};
 ghost use Rattle.hierarchy.specs.Below.{Tabled};
 ghost use Rattle.labels.specs.Label.{marksOf};
 ghost use Rattle.access.specs.Rights.{rightsOf};
@@ -16,11 +16,11 @@ use access::new_labels::session_label_answer;
 use access::rights::View;
 use access::rights::rights_at;
 use hierarchy::table::Table;
-use image::faults::Checked;
 use labels::answers::Parsed;
 use labels::answers::refusal;
 use labels::given::read_text;
 use labels::label::Label;
+use refusals::answers::Checked;
 
 // The session with the new label where the rules allow it.
 fn put_label(session: Session, image: &[u8], table: &Table, new: Label) -> Changed

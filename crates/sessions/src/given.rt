@@ -2,7 +2,7 @@
 ghost use Prim.Native.Nat.{_<_};
 ghost use mathlib.Core.Path.{_≡_};
 ghost use Rattle.header.specs.Layout.{users};
-ghost use Rattle.records.specs.Rules.{Counted};
+ghost use Rattle.header.specs.Limits.{Counted};
 ghost use Rattle.hierarchy.specs.Below.{Tabled};
 ghost use Rattle.image.specs.Check.{IsAccepted};
 ghost use Rattle.access.specs.Rights.{rightsOf};
@@ -19,8 +19,8 @@ use header::layout;
 use hierarchy::table;
 use hierarchy::table::Table;
 use image::check;
-use image::faults::Checked;
 use refusals::Refusal;
+use refusals::answers::Checked;
 
 pub enum Lent {
     At(View),

@@ -9,17 +9,19 @@ ghost use mathlib.Core.Path.{_≡_};
 ghost use Rattle.sessions.specs.Session.{sessionOf};
 ghost use Rattle.sessions.specs.Opening.{openOf, openingOf};
 ghost use Rattle.sessions.specs.Changes.{setLabelOf, setRowLabelOf, changeOf};
-ghost use Rattle.sessions.specs.Asking.{verdictOf, mayReadOf, mayWriteOf};
+ghost use Rattle.sessions.specs.Asking.{mayReadOf, mayWriteOf};
+ghost use Rattle.refusals.specs.Answers.{verdictOf};
 use access::verdicts;
 use answers::Changed;
 use answers::Opened;
-use answers::Verdict;
 use changes::change_label;
 use changes::change_row_label;
 use given::Lent;
 use given::lent_rights;
+use hierarchy::table;
 use image::check;
-use image::faults::Checked;
+use refusals::answers::Checked;
+use refusals::answers::Verdict;
 use session::Session;
 
 // The session of the user of that name, with the default label and the default row label. Refusals: 1, 2, 3, 4.
@@ -39,7 +41,7 @@ impl Session {
     pub fn set_label(self, image: &[u8], text: &[u8]) -> Changed
         ensures { λ r. ⌜ changeOf r ≡ setLabelOf (now (image .entry)) (sessionOf self) (now (text .entry)) ⌝ }
     {
-        let mut table = [0u64; 64];
+        let mut table = table::EMPTY;
         let found = lent_rights(image, &mut table, self);
         match found {
             Lent::At(_view) => change_label(self, image, &table, text),
@@ -54,7 +56,7 @@ impl Session {
     pub fn set_row_label(self, image: &[u8], text: &[u8]) -> Changed
         ensures { λ r. ⌜ changeOf r ≡ setRowLabelOf (now (image .entry)) (sessionOf self) (now (text .entry)) ⌝ }
     {
-        let mut table = [0u64; 64];
+        let mut table = table::EMPTY;
         let found = lent_rights(image, &mut table, self);
         match found {
             Lent::At(view) => change_row_label(self, image, view, text),
@@ -69,7 +71,7 @@ impl Session {
     pub fn may_read(self, image: &[u8], tag: u32) -> Verdict
         ensures { λ r. ⌜ r ≡ mayReadOf (now (image .entry)) (sessionOf self) tag ⌝ }
     {
-        let mut table = [0u64; 64];
+        let mut table = table::EMPTY;
         let found = lent_rights(image, &mut table, self);
         match found {
             Lent::At(view) => verdict_of(verdicts::may_read(image, view, tag)),
@@ -81,7 +83,7 @@ impl Session {
     pub fn may_write(self, image: &[u8], tag: u32) -> Verdict
         ensures { λ r. ⌜ r ≡ mayWriteOf (now (image .entry)) (sessionOf self) tag ⌝ }
     {
-        let mut table = [0u64; 64];
+        let mut table = table::EMPTY;
         let found = lent_rights(image, &mut table, self);
         match found {
             Lent::At(view) => verdict_of(verdicts::may_write(image, view, tag)),

@@ -1,6 +1,6 @@
 use Rattle.abi.proofs.Told.{set-row-label-told}
 use Rattle.sessions.specs.Changes.{setRowLabelOf}
-use Rattle.image.specs.declared.faults.Checked.{Checked}
+use Rattle.refusals.specs.declared.answers.Checked.{Checked}
 use Rattle.sessions.specs.Session.{SessionMarks}
 use Rattle.encoding.proofs.Wide.{fits-means}
 use Rattle.abi.proofs.WideSessions.{unfit-change}

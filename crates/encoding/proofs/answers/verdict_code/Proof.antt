@@ -1,5 +1,5 @@
 use Rattle.encoding.specs.Verdicts.{verdictPlace}
-use Rattle.sessions.specs.declared.answers.Verdict.{Verdict}
+use Rattle.refusals.specs.declared.answers.Verdict.{Verdict}
 use mathlib.Core.Path.{subst}
 use Prim.Native.Nat.{_^_, _<_}
 use borrow.Author.Needs.{needs}

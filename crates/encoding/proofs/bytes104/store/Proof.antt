@@ -1,5 +1,5 @@
 use Rattle.encoding.specs.Sessions.{answerPlace}
-use Rattle.image.specs.declared.faults.Checked.{Checked}
+use Rattle.refusals.specs.declared.answers.Checked.{Checked}
 use mathlib.Core.Path.{subst}
 use Prim.Native.Nat.{_^_, _<_}
 use borrow.Author.Needs.{needs}

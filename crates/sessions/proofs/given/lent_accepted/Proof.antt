@@ -1,4 +1,4 @@
-use Rattle.access.specs.NewLabels.{allowed}
+use Rattle.refusals.specs.Answers.{allowed}
 use mathlib.Core.Path.{ap}
 use Rattle.sessions.proofs.Accepting.{lent-broken, lent-whole}
 use Rattle.access.specs.NewLabels.{sessionRule}

@@ -1,8 +1,8 @@
 use borrow.Author.Needs.{needs}
 use Rattle.header.proofs.Inside.{header-inside}
-use Rattle.printing.specs.Print.{labelExists}
-use Rattle.printing.proofs.printing.label_exists.Statement.{statement}
-use Rattle.printing.proofs.printing.label_exists.Tie as tie
+use Rattle.labels.specs.Label.{labelExists}
+use Rattle.labels.proofs.label.label_exists.Statement.{statement}
+use Rattle.labels.proofs.label.label_exists.Tie as tie
 
 cast-result : tie.Need-cast-result
 cast-result c = search needs
