@@ -1,5 +1,6 @@
 -- Labels and their text.
 pub mod Label
+pub mod GroupTest
 pub mod Text
 pub mod Parse
 pub mod States

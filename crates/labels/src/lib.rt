@@ -1,6 +1,7 @@
 // Labels, and their text read under a policy image.
 pub mod answers;
 pub mod given;
+pub mod group_test;
 pub mod label;
 mod lists;
 mod names;
