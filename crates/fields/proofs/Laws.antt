@@ -29,6 +29,9 @@ module _ (s : List ℕ) (k n : ℕ) where
   pub part-length : k + n ≤ length s → length (part s k n) ≡ n
   part-length h = simp (length-take, length-drop) (omega arith)
 
+  pub part-short : length (part s k n) ≤ n
+  part-short = simp length-take (omega arith)
+
   pub part-byte : (i : ℕ) → i < n → byteAt (part s k n) i ≡ byteAt s (k + i)
   part-byte i h = rw (getD-take, getD-drop)
 

@@ -1,4 +1,4 @@
--- What the tests of bytes and names mean: a test that is true says this of places and bytes. `sameName` is equality,
+-- What the tests of bytes and names mean, both ways: a test is true exactly if this holds of places and bytes. `sameName` is equality,
 -- `nameBefore` a strict order, and `firstWhere` the first place that passes. Assumes nothing.
 use Prim.Native.Nat.{ℕ, zero, suc, _+_, _-_, _≤_, _<_}
 use mathlib.Core.Path.{_≡_, refl, sym, ap, ap₂, _∙_}
@@ -6,14 +6,14 @@ use mathlib.Core.Bool.{Bool, true, false, not, _&&_, _||_, or-true, true≢false
 use mathlib.Core.List.{List, [], _∷_}
 use mathlib.Core.Logic.{_⊎_, inl, inr, ⊎-elim}
 use native.Mathlib.Omega.{arith}
-use borrow.Author.Tests.{ltb-true, ltb-false, leb-true, eqb-true, lt-ltb, eq-eqb, not-true, not-false}
+use borrow.Author.Tests.{ltb-true, ltb-false, leb-true, eqb-true, lt-ltb, le-leb, eq-eqb, not-true, not-false}
 use lib.Dec.{eqb, leb, ltb}
 use lib.ListN.{length, getD}
 use Rattle.fields.specs.Bytes.{byteAt, part, all, allZero}
 use Rattle.fields.specs.Names.{nameByte, nameIn, nameRule, sameName, nameBefore}
 use Rattle.fields.specs.Scan.{firstWhere}
-use Rattle.fields.proofs.Both.{both-left, both-right, parts, both, either}
-use Rattle.fields.proofs.Laws.{part-byte, part-length}
+use Rattle.fields.proofs.Both.{both-left, both-right, parts, both, either, or-left, or-right}
+use Rattle.fields.proofs.Laws.{part-byte, part-length, part-short}
 use Rattle.fields.proofs.Scan.{bad-at, bad-from, good-before}
 
 -- ---- a test of every byte
@@ -44,6 +44,12 @@ zero-part s k n e i low high =
     let q : k + (i - k) ≡ i = omega arith in
     ap (byteAt s) (sym q) ∙ sym (part-byte s k n (i - k) p) ∙ zero-means (part s k n) e (i - k)
 
+pub part-zero : (s : List ℕ) (k n : ℕ) → ((i : ℕ) → k ≤ i → i < k + n → byteAt s i ≡ 0) → allZero (part s k n) ≡ true
+part-zero s k n f =
+    means-all (λ x. eqb x 0) (part s k n)
+    (λ i h. let g : i < n = omega (arith, part-short s k n) in
+    eq-eqb _ 0 (part-byte s k n i g ∙ f (k + i) (omega arith) (omega arith)))
+
 -- ---- a name's field
 -- A to Z, 0 to 9 and underscore
 abbrev pub NameByte : ℕ → Type 0
@@ -60,6 +66,12 @@ byte-means x e =
   where
     between : (a b : ℕ) → (leb a x && leb x b) ≡ true → (a ≤ x) × (x ≤ b)
     between a b h = (leb-true a x (both-left (leb a x) (leb x b) h), leb-true x b (both-right (leb a x) (leb x b) h))
+
+pub byte-holds : (x : ℕ) → NameByte x → nameByte x ≡ true
+unfolding nameByte
+byte-holds x (inl (a, b)) = rw (le-leb 65 x a, le-leb x 90 b)
+byte-holds x (inr (inl (a, b))) = or-left _ _ (or-right (leb 65 x && leb x 90) _ (rw (le-leb 48 x a, le-leb x 57 b)))
+byte-holds x (inr (inr e)) = or-right (leb 65 x && leb x 90 || leb 48 x && leb x 57) _ (eq-eqb x 95 e)
 
 pub record NameKept (field : List ℕ) : Type 0 where
   pub shortest : 1 ≤ byteAt field 0
@@ -80,6 +92,17 @@ name-means field e =
       alphabet = λ i h. byte-means (byteAt (nameIn field) i) (all-means nameByte (nameIn field) (q2 .1) i h);
       rest = λ i low high. zero-part field (1 + n) (30 - n) (q3 .1) i (omega arith) (omega arith);
     }
+
+pub name-holds : (field : List ℕ) → NameKept field → nameRule field ≡ true
+unfolding nameRule
+name-holds field k =
+    let n : ℕ = byteAt field 0 in
+    rw (
+      le-leb _ _ (k .shortest),
+      le-leb _ _ (k .longest),
+      means-all nameByte (nameIn field) (λ i h. byte-holds (byteAt (nameIn field) i) (k .alphabet i h)),
+      part-zero field (1 + n) (30 - n) (λ i low high. k .rest i (omega arith) (omega (arith, k .longest))),
+    )
 
 -- the name in a field of 31 bytes is as long as its first byte says, and stands from the next byte on
 pub name-length : (field : List ℕ) → length field ≡ 31 → NameKept field → length (nameIn field) ≡ byteAt field 0

@@ -2,12 +2,14 @@
 use Prim.Native.Nat.{ℕ, zero, suc, _+_, _-_, _≤_, _<_}
 use mathlib.Core.Path.{_≡_, refl, sym, ap, _∙_, subst}
 use mathlib.Core.Bool.{Bool, true, false, cond}
+use mathlib.Core.List.{List, []}
 use mathlib.Core.Logic.{⊎-elim}
 use native.Mathlib.Nat.{add-zero, zero-add, add-suc, suc-add, le-refl, eq-or-lt-of-le}
 use native.Mathlib.Numerals.{add-one}
 use native.Mathlib.Omega.{arith}
 use borrow.Author.Tests.{eqb-true}
-use Rattle.fields.specs.Scan.{firstBad, everywhere}
+use lib.ListN.{length, getD}
+use Rattle.fields.specs.Scan.{firstBad, everywhere, listFrom}
 
 module _ (rule : ℕ → Bool) where
   good-step : (n k : ℕ) → rule k ≡ true → firstBad rule (suc n) k ≡ firstBad rule n (suc k)
@@ -139,3 +141,23 @@ pub bad-same : (f g : ℕ → Bool) → ((i : ℕ) → f i ≡ g i) → (n k : �
 unfolding firstBad
 bad-same f g h zero k = refl
 bad-same f g h (suc n) k = rw (h k, bad-same f g h n (suc k))
+
+-- two rules that are the same at each of the places
+pub bad-same-on : (f g : ℕ → Bool) (n k : ℕ) → ((i : ℕ) → k ≤ i → i < k + n → f i ≡ g i) → firstBad f n k ≡ firstBad g n k
+unfolding firstBad
+bad-same-on f g zero k h = refl
+bad-same-on f g (suc n) k h =
+    rw (h k (le-refl k) (omega arith), bad-same-on f g n (suc k) (λ i a b. h i (omega arith) (omega arith)))
+
+-- ---- the list of what f gives at the n places from k on
+module _ {A : Type 0} (f : ℕ → A) where
+  pub list-length : (n k : ℕ) → length (listFrom f n k) ≡ n
+  unfolding listFrom
+  list-length zero k = refl
+  list-length (suc n) k = ap suc (list-length n (suc k))
+
+  pub list-at : (n k i : ℕ) (d : A) → i < n → getD (listFrom f n k) i d ≡ f (k + i)
+  unfolding listFrom
+  list-at zero k i d h = absurd (omega arith)
+  list-at (suc n) k zero d h = rw add-zero
+  list-at (suc n) k (suc i) d h = rw (add-suc, ← suc-add) (list-at n (suc k) i d (omega arith))

@@ -1,14 +1,17 @@
--- Where the counts, blocks and records of an image stand. Above it records are named by their place among those of their kind.
-use Prim.Native.Nat.{ℕ, _+_, _-_, _*_, _/_, _%_, min}
+-- The counts in an image's header, and where by them the blocks and records stand. Above it records are named by their kind and their place among those of the kind.
+use Prim.Native.Nat.{ℕ, _+_, _-_, _*_, _/_, _%_, _≤_, _<_, min}
 use mathlib.Core.Path.{_≡_}
 use mathlib.Core.Bool.{cond}
 use mathlib.Core.List.{List}
-use lib.Dec.{ltb}
+use lib.Dec.{eqb, ltb}
 use lib.ListN.{length}
 use Rattle.fields.specs.Bytes.{byteAt, part, number2}
+use Rattle.fields.specs.Scan.{listFrom}
 use Rattle.header.specs.declared.layout.Kind.{Kind}
 use Rattle.header.specs.declared.layout.Kind.the-variants.{Component, Label, User}
+use Rattle.header.specs.declared.layout.Shape.{Shape}
 use Rattle.header.specs.declared.layout.Contents.{Contents}
+use Rattle.header.specs.declared.walk.RecordAt.{RecordAt}
 
 -- ---- block 0: the counts
 unfoldable pub levels : List ℕ → ℕ
@@ -29,62 +32,139 @@ labels im = number2 im 10
 unfoldable pub components : List ℕ → ℕ
 components im = levels im + compartments im + groups im
 
--- ---- the blocks of each kind: components, labels, users, each kind packed
-unfoldable pub firstLabelBlock : List ℕ → ℕ
-firstLabelBlock im = 1 + (components im + 11) / 12
+-- ---- what the rules of records ask of the counts: how many components there are of each class
+pub record Counts : Type 0 where
+  pub levels : ℕ
+  pub compartments : ℕ
+  pub groups : ℕ
 
-unfoldable pub firstUserBlock : List ℕ → ℕ
-firstUserBlock im = firstLabelBlock im + (labels im + 20) / 21
+abbrev pub countsOf : List ℕ → Counts
+countsOf im = record { levels = levels im; compartments = compartments im; groups = groups im }
 
-unfoldable pub blocksNeeded : List ℕ → ℕ
-blocksNeeded im = firstUserBlock im + (users im + 2) / 3
+-- ---- classes: 1 level, 2 compartment, 3 group. Levels come first, then compartments, then groups
+-- how many components a class has
+unfoldable pub classCount : Counts → ℕ → ℕ
+classCount n class = cond (eqb class 1) (n .levels) (cond (eqb class 2) (n .compartments) (n .groups))
 
--- the length is what the counts need
-abbrev pub Fitted : List ℕ → Type 0
-Fitted im = length im ≡ 512 * blocksNeeded im
+-- the place of the first component of a class, among all components
+unfoldable pub classFirst : Counts → ℕ → ℕ
+classFirst n class = cond (eqb class 1) 0 (cond (eqb class 2) (n .levels) (n .levels + n .compartments))
 
--- ---- the records of each kind: 12 of 40 bytes, 21 of 24 bytes, 3 of 128 bytes in a block
-unfoldable pub componentOffset : ℕ → ℕ
-componentOffset i = 512 * (1 + i / 12) + 4 + 40 * (i % 12)
+-- the class that the counts put at place i among all components
+unfoldable pub classAt : Counts → ℕ → ℕ
+classAt n i = cond (ltb i (n .levels)) 1 (cond (ltb i (n .levels + n .compartments)) 2 3)
 
-unfoldable pub labelOffset : List ℕ → ℕ → ℕ
-labelOffset im k = 512 * (firstLabelBlock im + k / 21) + 4 + 24 * (k % 21)
-
-unfoldable pub userOffset : List ℕ → ℕ → ℕ
-userOffset im u = 512 * (firstUserBlock im + u / 3) + 4 + 128 * (u % 3)
-
--- the block in which a user's record stands, and the record's place there
-unfoldable pub userBlock : List ℕ → ℕ → ℕ
-userBlock im u = firstUserBlock im + u / 3
-
-unfoldable pub userSlot : ℕ → ℕ
-userSlot u = u % 3
-
--- where a component's name begins
-abbrev pub componentNameOffset : ℕ → ℕ
-componentNameOffset i = componentOffset i + 2
-
-unfoldable pub componentRecord : List ℕ → ℕ → List ℕ
-componentRecord im i = part im (componentOffset i) 40
-
-unfoldable pub labelRecord : List ℕ → ℕ → List ℕ
-labelRecord im k = part im (labelOffset im k) 24
-
-unfoldable pub userRecord : List ℕ → ℕ → List ℕ
-userRecord im u = part im (userOffset im u) 128
-
--- ---- what a block after the header holds: its kind, its records from `from` up to `to`, unused bytes from `end` on
+-- ---- the kinds: components, labels, users. No other place has these numbers
 abbrev pub kindByte : Kind → ℕ
 kindByte Component = 67
 kindByte Label = 76
 kindByte User = 85
 
-abbrev pub packed : Kind → ℕ → ℕ → ℕ → ℕ → Contents
-packed kind size capacity from total =
-    record { kind = kind; from = from; to = min total (from + capacity); end = 4 + size * (min total (from + capacity) - from) }
+-- how many bytes a record has
+abbrev pub recordSize : Kind → ℕ
+recordSize Component = 40
+recordSize Label = 24
+recordSize User = 128
+
+-- how many records a block holds
+abbrev pub capacityOf : Kind → ℕ
+capacityOf Component = 12
+capacityOf Label = 21
+capacityOf User = 3
+
+-- how many records the counts name
+abbrev pub countOf : List ℕ → Kind → ℕ
+countOf im Component = components im
+countOf im Label = labels im
+countOf im User = users im
+
+-- ---- blocks: the header, then each kind packed
+-- how many blocks a kind's records need
+unfoldable pub blocksFor : ℕ → ℕ → ℕ
+blocksFor capacity count = (count + (capacity - 1)) / capacity
+
+abbrev pub blocksOf : List ℕ → Kind → ℕ
+blocksOf im kind = blocksFor (capacityOf kind) (countOf im kind)
+
+unfoldable pub firstBlock : List ℕ → Kind → ℕ
+firstBlock im Component = 1
+firstBlock im Label = 1 + blocksOf im Component
+firstBlock im User = 1 + blocksOf im Component + blocksOf im Label
+
+unfoldable pub blocksNeeded : List ℕ → ℕ
+blocksNeeded im = 1 + blocksOf im Component + blocksOf im Label + blocksOf im User
+
+-- the length is what the counts need
+abbrev pub Fitted : List ℕ → Type 0
+Fitted im = length im ≡ 512 * blocksNeeded im
+
+-- ---- a kind's shape: its first block, the size of a record, how many a block holds, how many there are
+abbrev pub shapeOf : List ℕ → Kind → Shape
+shapeOf im kind =
+    record { first = firstBlock im kind; size = recordSize kind; capacity = capacityOf kind; count = countOf im kind }
+
+-- a block holds one record or more, as many as its byte 1 can tell, and has room for them
+pub record Roomy (shape : Shape) : Type 0 where
+  pub some : 1 ≤ shape .capacity
+  pub few : shape .capacity ≤ 255
+  pub room : 4 + shape .size * shape .capacity ≤ 510
+
+-- what code is handed as the shape of a kind
+pub record Shaped (im : List ℕ) (kind : Kind) (shape : Shape) : Type 0 where
+  pub is : shape ≡ shapeOf im kind
+  pub roomy : Roomy shape
+  pub few : shape .count < 65536
+
+-- ---- where the record at place i stands: its block, its place there, and its first byte
+abbrev pub recordBlock : Shape → ℕ → ℕ
+recordBlock shape i = shape .first + i / shape .capacity
+
+abbrev pub recordSlot : Shape → ℕ → ℕ
+recordSlot shape i = i % shape .capacity
+
+unfoldable pub recordOffset : Shape → ℕ → ℕ
+recordOffset shape i = 512 * recordBlock shape i + 4 + shape .size * recordSlot shape i
+
+unfoldable pub recordAt : List ℕ → Kind → ℕ → List ℕ
+recordAt im kind i = part im (recordOffset (shapeOf im kind) i) (recordSize kind)
+
+abbrev pub componentRecord : List ℕ → ℕ → List ℕ
+componentRecord im i = recordAt im Component i
+
+abbrev pub labelRecord : List ℕ → ℕ → List ℕ
+labelRecord im k = recordAt im Label k
+
+abbrev pub userRecord : List ℕ → ℕ → List ℕ
+userRecord im u = recordAt im User u
+
+-- all records of a kind, in order
+unfoldable pub recordsOf : List ℕ → Kind → List (List ℕ)
+recordsOf im kind = listFrom (recordAt im kind) (countOf im kind) 0
+
+-- a walk stands at the record of place j: where the record begins, and how many its block has from it on
+pub record Standing (shape : Shape) (j : ℕ) (here : RecordAt) : Type 0 where
+  pub begins : here .at ≡ recordOffset shape j
+  pub more : here .left ≡ shape .capacity - recordSlot shape j
+
+-- the records from `from` up to `to` stand in one block, the first of them at `first`
+pub record OneBlock (im : List ℕ) (kind : Kind) (first from to : ℕ) : Type 0 where
+  pub begins : first ≡ recordOffset (shapeOf im kind) from
+  pub upto : to ≤ from + (capacityOf kind - recordSlot (shapeOf im kind) from)
+
+-- where a component's name begins
+abbrev pub componentNameOffset : List ℕ → ℕ → ℕ
+componentNameOffset im i = recordOffset (shapeOf im Component) i + 2
+
+-- ---- what a block after the header holds
+unfoldable pub kindAt : List ℕ → ℕ → Kind
+kindAt im b = cond (ltb b (firstBlock im Label)) Component (cond (ltb b (firstBlock im User)) Label User)
+
+-- of a kind of that shape, block b holds the records from `from` up to `to`; from `end` on its bytes are unused
+abbrev pub held : Kind → Shape → ℕ → Contents
+held kind shape b =
+    let from = shape .capacity * (b - shape .first) in
+    let to = min (shape .count) (from + shape .capacity) in
+    record { kind = kind; from = from; to = to; end = 4 + shape .size * (to - from) }
 
 unfoldable pub contentsOf : List ℕ → ℕ → Contents
-contentsOf im b =
-    cond (ltb b (firstLabelBlock im)) (packed Component 40 12 (12 * (b - 1)) (components im))
-    (cond (ltb b (firstUserBlock im)) (packed Label 24 21 (21 * (b - firstLabelBlock im)) (labels im))
-    (packed User 128 3 (3 * (b - firstUserBlock im)) (users im)))
+contentsOf im b = held (kindAt im b) (shapeOf im (kindAt im b)) b

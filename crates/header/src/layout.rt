@@ -1,9 +1,10 @@
-// Where the counts, blocks and records of an image stand.
+// The counts in an image's header, and where by them the blocks and records stand.
 ghost use Prim.Native.Nat.{_+_, _-_, _*_, _/_, _%_, _^_, _<_, _≤_, min};
 ghost use mathlib.Core.Path.{_≡_};
 ghost use lib.ListN.{length};
-ghost use Rattle.header.specs.Layout.{components, labels, users, firstLabelBlock, firstUserBlock, blocksNeeded, Fitted, componentOffset, componentNameOffset, componentRecord, labelRecord, userRecord, userBlock, userSlot, kindByte, contentsOf};
+ghost use Rattle.header.specs.Layout.{countsOf, classCount, classFirst, classAt, kindByte, recordSize, capacityOf, countOf, blocksOf, firstBlock, blocksNeeded, Fitted, Roomy, Shaped, recordBlock, recordSlot, recordOffset, recordAt, componentNameOffset};
 ghost use Rattle.header.specs.Layout as layout;
+ghost use Rattle.header.specs.declared.layout.Kind.the-variants as kind;
 use fields::numbers::number2;
 
 // What the records of a block are.
@@ -11,6 +12,14 @@ pub enum Kind {
     Component,
     Label,
     User,
+}
+
+// A kind's first block, the size of a record, how many a block holds, how many there are.
+pub struct Shape {
+    pub first: usize,
+    pub size: usize,
+    pub capacity: usize,
+    pub count: usize,
 }
 
 // What a block after the header holds: its kind, its records from `from` up to `to`, unused bytes from `end` on.
@@ -63,108 +72,47 @@ pub fn components(image: &[u8]) -> usize
     levels(image) + compartments(image) + groups(image)
 }
 
-pub fn first_label_block(image: &[u8]) -> usize
+// How many components a class has: 1 level, 2 compartment, 3 group.
+pub fn class_count(image: &[u8], class: u8) -> usize
     requires { ⌜ 512 ≤ length (now image) ⌝ }
-    ensures { λ r. ⌜ (r ≡ firstLabelBlock (now (image .entry))) × (r < 66) ⌝ }
+    ensures { λ r. ⌜ (r ≡ classCount (countsOf (now (image .entry))) class) × (r < 256) ⌝ }
 {
-    1 + (components(image) + 11) / 12
-}
-
-pub fn first_user_block(image: &[u8]) -> usize
-    requires { ⌜ 512 ≤ length (now image) ⌝ }
-    ensures { λ r. ⌜ (r ≡ firstUserBlock (now (image .entry))) × (r < 4000) ⌝ }
-{
-    first_label_block(image) + (labels(image) + 20) / 21
-}
-
-pub fn blocks_needed(image: &[u8]) -> usize
-    requires { ⌜ 512 ≤ length (now image) ⌝ }
-    ensures { λ r. ⌜ (r ≡ blocksNeeded (now (image .entry))) × (r < 30000) ⌝ }
-{
-    first_user_block(image) + (users(image) + 2) / 3
-}
-
-// Where the record of the component at place i among all components begins.
-pub fn component_offset(i: usize) -> usize
-    requires { ⌜ componentOffset i < 2 ^ 63 ⌝ }
-    ensures { λ r. ⌜ r ≡ componentOffset i ⌝ }
-{
-    512 * (1 + i / 12) + 4 + 40 * (i % 12)
-}
-
-// Where its name begins.
-pub fn component_name_offset(i: usize) -> usize
-    requires { ⌜ componentOffset i < 2 ^ 63 ⌝ }
-    ensures { λ r. ⌜ r ≡ componentNameOffset i ⌝ }
-{
-    component_offset(i) + 2
-}
-
-// Where a component's record begins, and how many records its block has from it on: a walk from block to block divides
-// nothing.
-pub struct RecordAt {
-    pub at: usize,
-    pub left: usize,
-}
-
-pub fn record_at(j: usize) -> RecordAt
-    requires { ⌜ componentOffset j < 2 ^ 63 ⌝ }
-    ensures { λ r. ⌜ (r .at ≡ componentOffset j) × (r .left ≡ 12 - j % 12) ⌝ }
-{
-    RecordAt {
-        at: component_offset(j),
-        left: 12 - j % 12,
+    if class == 1 {
+        return levels(image);
     }
-}
-
-// The first record of the next block. Between the last of a block and it stand unused bytes, the check and the block's head.
-pub fn next_block(here: RecordAt, j: usize) -> RecordAt
-    requires { ⌜ (componentOffset j < 2 ^ 63) × ((here .at ≡ componentOffset j) × (here .left ≡ 12 - j % 12)) ⌝ }
-    ensures { λ r. ⌜ (r .at ≡ componentOffset (j + here .left)) × (r .left ≡ 12 - (j + here .left) % 12) ⌝ }
-{
-    RecordAt {
-        at: here.at + 40 * here.left + 32,
-        left: 12,
+    if class == 2 {
+        return compartments(image);
     }
+    groups(image)
 }
 
-// The part of the image that starts at that record.
-pub fn component_record<'a>(image: &'a [u8], i: usize) -> &'a [u8]
-    requires { ⌜ Fitted (now image) × (i < layout.components (now image)) ⌝ }
-    ensures { λ r. ⌜ (now r ≡ componentRecord (now (image .entry)) i) × (length (now r) ≡ 40) ⌝ }
+// The place of the first component of a class, among all components.
+pub fn class_first(image: &[u8], class: u8) -> usize
+    requires { ⌜ 512 ≤ length (now image) ⌝ }
+    ensures { λ r. ⌜ (r ≡ classFirst (countsOf (now (image .entry))) class) × (r < 512) ⌝ }
 {
-    let at = component_offset(i);
-    &image[at..at + 40]
+    if class == 1 {
+        return 0;
+    }
+    if class == 2 {
+        return levels(image);
+    }
+    levels(image) + compartments(image)
 }
 
-pub fn label_record<'a>(image: &'a [u8], k: usize) -> &'a [u8]
-    requires { ⌜ Fitted (now image) × (k < layout.labels (now image)) ⌝ }
-    ensures { λ r. ⌜ (now r ≡ labelRecord (now (image .entry)) k) × (length (now r) ≡ 24) ⌝ }
+// The class that the counts put at place i among all components.
+pub fn class_at(image: &[u8], i: usize) -> u8
+    requires { ⌜ 512 ≤ length (now image) ⌝ }
+    ensures { λ r. ⌜ r ≡ classAt (countsOf (now (image .entry))) i ⌝ }
 {
-    let at = 512 * (first_label_block(image) + k / 21) + 4 + 24 * (k % 21);
-    &image[at..at + 24]
-}
-
-pub fn user_record<'a>(image: &'a [u8], u: usize) -> &'a [u8]
-    requires { ⌜ Fitted (now image) × (u < layout.users (now image)) ⌝ }
-    ensures { λ r. ⌜ (now r ≡ userRecord (now (image .entry)) u) × (length (now r) ≡ 128) ⌝ }
-{
-    let at = 512 * (first_user_block(image) + u / 3) + 4 + 128 * (u % 3);
-    &image[at..at + 128]
-}
-
-// The block in which a user's record stands, and the record's place there.
-pub fn user_block(image: &[u8], u: usize) -> usize
-    requires { ⌜ (512 ≤ length (now image)) × (u < layout.users (now image)) ⌝ }
-    ensures { λ r. ⌜ r ≡ userBlock (now (image .entry)) u ⌝ }
-{
-    first_user_block(image) + u / 3
-}
-
-pub fn user_slot(u: usize) -> usize
-    ensures { λ r. ⌜ r ≡ userSlot u ⌝ }
-{
-    u % 3
+    let levels = levels(image);
+    if i < levels {
+        return 1;
+    }
+    if i < levels + compartments(image) {
+        return 2;
+    }
+    3
 }
 
 pub fn kind_byte(kind: Kind) -> u8
@@ -177,47 +125,118 @@ pub fn kind_byte(kind: Kind) -> u8
     }
 }
 
-pub fn lower(a: usize, b: usize) -> usize
-    ensures { λ r. ⌜ r ≡ min a b ⌝ }
+// How many bytes a record has.
+pub fn size(kind: Kind) -> usize
+    ensures { λ r. ⌜ r ≡ recordSize kind ⌝ }
 {
-    if a < b { a } else { b }
+    match kind {
+        Kind::Component => 40,
+        Kind::Label => 24,
+        Kind::User => 128,
+    }
 }
 
-// What block b holds, for a block after the header.
-pub fn block_contents(image: &[u8], b: usize) -> Contents
-    requires { ⌜ (512 ≤ length (now image)) × ((1 ≤ b) × (b < blocksNeeded (now image))) ⌝ }
-    ensures { λ r. ⌜ r ≡ contentsOf (now (image .entry)) b ⌝ }
+// How many records a block holds.
+fn capacity(kind: Kind) -> usize
+    ensures { λ r. ⌜ (r ≡ capacityOf kind) × ((1 ≤ r) × (r ≤ 21)) ⌝ }
 {
-    if b < first_label_block(image) {
-        let from = 12 * (b - 1);
-        let to = lower(components(image), from + 12);
-        let end = 4 + 40 * (to - from);
-        return Contents {
-            kind: Kind::Component,
-            from,
-            to,
-            end,
-        };
+    match kind {
+        Kind::Component => 12,
+        Kind::Label => 21,
+        Kind::User => 3,
     }
-    if b < first_user_block(image) {
-        let from = 21 * (b - first_label_block(image));
-        let to = lower(labels(image), from + 21);
-        let end = 4 + 24 * (to - from);
-        return Contents {
-            kind: Kind::Label,
-            from,
-            to,
-            end,
-        };
+}
+
+// How many records the counts name.
+pub fn count(image: &[u8], kind: Kind) -> usize
+    requires { ⌜ 512 ≤ length (now image) ⌝ }
+    ensures { λ r. ⌜ (r ≡ countOf (now (image .entry)) kind) × (r < 65536) ⌝ }
+{
+    match kind {
+        Kind::Component => components(image),
+        Kind::Label => labels(image),
+        Kind::User => users(image),
     }
-    let total = users(image);
-    let from = 3 * (b - first_user_block(image));
-    let to = lower(total, from + 3);
-    let end = 4 + 128 * (to - from);
-    Contents {
-        kind: Kind::User,
-        from,
-        to,
-        end,
+}
+
+// How many blocks they need.
+fn blocks(image: &[u8], kind: Kind) -> usize
+    requires { ⌜ 512 ≤ length (now image) ⌝ }
+    ensures { λ r. ⌜ (r ≡ blocksOf (now (image .entry)) kind) × (r < 65557) ⌝ }
+{
+    let held = capacity(kind);
+    (count(image, kind) + (held - 1)) / held
+}
+
+pub fn first_block(image: &[u8], kind: Kind) -> usize
+    requires { ⌜ 512 ≤ length (now image) ⌝ }
+    ensures { λ r. ⌜ (r ≡ firstBlock (now (image .entry)) kind) × (r < 131115) ⌝ }
+{
+    match kind {
+        Kind::Component => 1,
+        Kind::Label => 1 + blocks(image, Kind::Component),
+        Kind::User => 1 + blocks(image, Kind::Component) + blocks(image, Kind::Label),
     }
+}
+
+pub fn blocks_needed(image: &[u8]) -> usize
+    requires { ⌜ 512 ≤ length (now image) ⌝ }
+    ensures { λ r. ⌜ (r ≡ blocksNeeded (now (image .entry))) × (r < 200000) ⌝ }
+{
+    first_block(image, Kind::User) + blocks(image, Kind::User)
+}
+
+pub fn shape_of(image: &[u8], kind: Kind) -> Shape
+    requires { ⌜ 512 ≤ length (now image) ⌝ }
+    ensures { λ r. ⌜ Shaped (now (image .entry)) kind r ⌝ }
+{
+    Shape {
+        first: first_block(image, kind),
+        size: size(kind),
+        capacity: capacity(kind),
+        count: count(image, kind),
+    }
+}
+
+// The block in which the record at place i stands.
+pub fn record_block(shape: Shape, i: usize) -> usize
+    requires { ⌜ Roomy shape × (recordBlock shape i < 2 ^ 63) ⌝ }
+    ensures { λ r. ⌜ r ≡ recordBlock shape i ⌝ }
+{
+    shape.first + i / shape.capacity
+}
+
+// Its place there.
+pub fn record_slot(shape: Shape, i: usize) -> usize
+    requires { ⌜ Roomy shape ⌝ }
+    ensures { λ r. ⌜ r ≡ recordSlot shape i ⌝ }
+{
+    i % shape.capacity
+}
+
+// Where it begins.
+pub fn record_offset(shape: Shape, i: usize) -> usize
+    requires { ⌜ Roomy shape × (recordOffset shape i < 2 ^ 63) ⌝ }
+    ensures { λ r. ⌜ r ≡ recordOffset shape i ⌝ }
+{
+    let block = shape.first + i / shape.capacity;
+    let slot = i % shape.capacity;
+    512 * block + 4 + shape.size * slot
+}
+
+// The part of the image that starts at that record.
+pub fn record_part<'a>(image: &'a [u8], kind: Kind, i: usize) -> &'a [u8]
+    requires { ⌜ Fitted (now image) × (i < countOf (now image) kind) ⌝ }
+    ensures { λ r. ⌜ (now r ≡ recordAt (now (image .entry)) kind i) × (length (now r) ≡ recordSize kind) ⌝ }
+{
+    let at = record_offset(shape_of(image, kind), i);
+    &image[at..at + size(kind)]
+}
+
+// Where the name of the component at place i among all components begins.
+pub fn component_name_offset(image: &[u8], i: usize) -> usize
+    requires { ⌜ Fitted (now image) × (i < layout.components (now image)) ⌝ }
+    ensures { λ r. ⌜ r ≡ componentNameOffset (now (image .entry)) i ⌝ }
+{
+    record_offset(shape_of(image, Kind::Component), i) + 2
 }

@@ -1,4 +1,3 @@
-pub mod Held
 pub mod MeaningBlocks
 pub mod MeaningComponents
 pub mod MeaningHeader

@@ -1,171 +1,214 @@
--- What the rules of component records mean. Assumes nothing.
+-- What the rules of component records mean, both ways: a rule holds exactly if what it says holds. Assumes nothing.
 use Prim.Native.Nat.{ℕ, suc, _+_, _-_, _≤_, _<_}
 use mathlib.Core.Path.{_≡_, refl, sym}
-use mathlib.Core.Bool.{Bool, true, false, cond}
+use mathlib.Core.Bool.{Bool, true, false, cond, not}
 use mathlib.Core.List.{List}
 use mathlib.Core.Logic.{_⊎_, inl, inr, ⊎-elim}
 use native.Mathlib.Nat.{lt-trans}
 use native.Mathlib.Omega.{arith}
-use borrow.Author.Tests.{leb-true, eqb-true, ltb-true, ltb-false, lt-ltb, le-ltb, not-true}
-use lib.Dec.{ltb}
+use borrow.Author.Tests.{leb-true, eqb-true, ltb-true, ltb-false, le-leb, eq-eqb, lt-ltb, le-ltb, not-true}
+use lib.Dec.{ltb, eqb}
+use lib.ListN.{length}
 use Rattle.fields.specs.Bytes.{byteAt}
 use Rattle.fields.specs.Names.{sameName}
-use Rattle.fields.proofs.Both.{parts, either}
-use Rattle.fields.proofs.Meaning.{zero-part, NameKept, name-means, differ-means}
-use Rattle.fields.proofs.Scan.{everywhere-at}
-use Rattle.header.specs.Layout.{levels, compartments, groups, components, componentRecord}
+use Rattle.fields.proofs.Both.{parts, either, both, or-left, or-right}
+use Rattle.fields.proofs.Meaning.{zero-part, part-zero, NameKept, name-means, name-holds, differ-means, same-means}
+use Rattle.fields.proofs.Scan.{everywhere-at, all-good}
+use Rattle.header.specs.Layout.{Counts, classFirst, classAt}
 use Rattle.records.specs.Fields.{classOf, componentNameField, componentName, numericForm, parentOf}
-use Rattle.records.specs.Rules.{classAt, classStart, parentRule, componentShape, numericRule, namesDiffer, newNameRule, componentRule}
+use Rattle.records.specs.Rules.{recordIn, classStart, parentRule, componentShape, numericRule, otherName, newNameRule, componentRule}
 use Rattle.records.proofs.Rising.{rise, apart}
 
 -- ---- the class at a place: levels, then compartments, then groups
-module _ (im : List ℕ) (i : ℕ) where
-  pub class-level : i < levels im → classAt im i ≡ 1
+module _ (n : Counts) (i : ℕ) where
+  pub class-level : i < n .levels → classAt n i ≡ 1
   unfolding classAt
-  class-level h = rw (lt-ltb i (levels im) h)
+  class-level h = rw (lt-ltb i (n .levels) h)
 
-  pub class-compartment : levels im ≤ i → i < levels im + compartments im → classAt im i ≡ 2
+  pub class-compartment : n .levels ≤ i → i < n .levels + n .compartments → classAt n i ≡ 2
   unfolding classAt
-  class-compartment g h = rw (le-ltb i (levels im) g, lt-ltb i (levels im + compartments im) h)
+  class-compartment g h = rw (le-ltb i (n .levels) g, lt-ltb i (n .levels + n .compartments) h)
 
-  pub class-group : levels im + compartments im ≤ i → classAt im i ≡ 3
+  pub class-group : n .levels + n .compartments ≤ i → classAt n i ≡ 3
   unfolding classAt
   class-group h =
-      let g : levels im ≤ i = omega arith in
-      rw (le-ltb i (levels im) g, le-ltb i (levels im + compartments im) h)
+      let g : n .levels ≤ i = omega arith in
+      rw (le-ltb i (n .levels) g, le-ltb i (n .levels + n .compartments) h)
+
+  -- a class begins no later than its components
+  pub class-begun : classStart n i ≤ i
+  unfolding classAt classFirst
+  class-begun = at (ltb i (n .levels)) refl (ltb i (n .levels + n .compartments)) refl
+    where
+      at : (s : Bool) → ltb i (n .levels) ≡ s → (t : Bool) → ltb i (n .levels + n .compartments) ≡ t
+          → classFirst n (cond s 1 (cond t 2 3)) ≤ i
+      at true e t d = omega arith
+      at false e true d = ltb-false i (n .levels) e
+      at false e false d = ltb-false i (n .levels + n .compartments) d
 
 -- of two components of one class, the earlier stands from the class's start on
-pub class-from : (im : List ℕ) (j k : ℕ) → classAt im j ≡ classAt im k → classStart im k ≤ j
-unfolding classAt classStart
-class-from im j k =
-    at (ltb j (levels im)) refl (ltb j (levels im + compartments im)) refl
-    (ltb k (levels im)) (ltb k (levels im + compartments im))
-  where
-    at : (s : Bool) → ltb j (levels im) ≡ s → (t : Bool) → ltb j (levels im + compartments im) ≡ t → (u v : Bool)
-        → _≡_ {A = ℕ} (cond s 1 (cond t 2 3)) (cond u 1 (cond v 2 3))
-        → cond u 0 (cond v (levels im) (levels im + compartments im)) ≤ j
-    at s e t d true v q = omega arith
-    at true e t d false true q = absurd (omega arith)
-    at true e t d false false q = absurd (omega arith)
-    at false e t d false true q = ltb-false j (levels im) e
-    at false e true d false false q = absurd (omega arith)
-    at false e false d false false q = ltb-false j (levels im + compartments im) d
+pub class-from : (n : Counts) (j k : ℕ) → classAt n j ≡ classAt n k → classStart n k ≤ j
+class-from n j k e = rw (← e) (class-begun n j)
 
--- the components from a class's start up to one of the class have the same start
-pub class-between : (im : List ℕ) (j k : ℕ) → classStart im k ≤ j → j ≤ k → classStart im j ≡ classStart im k
-unfolding classStart
-class-between im j k =
-    at (ltb j (levels im)) refl (ltb j (levels im + compartments im)) refl
-    (ltb k (levels im)) refl (ltb k (levels im + compartments im)) refl
+-- the components from a class's start up to one of the class are of the class
+pub class-between : (n : Counts) (j k : ℕ) → classStart n k ≤ j → j ≤ k → classAt n j ≡ classAt n k
+unfolding classAt classFirst
+class-between n j k =
+    at (ltb j (n .levels)) refl (ltb j (n .levels + n .compartments)) refl
+    (ltb k (n .levels)) refl (ltb k (n .levels + n .compartments)) refl
   where
-    at : (s : Bool) → ltb j (levels im) ≡ s → (t : Bool) → ltb j (levels im + compartments im) ≡ t
-        → (u : Bool) → ltb k (levels im) ≡ u → (v : Bool) → ltb k (levels im + compartments im) ≡ v
-        → cond u 0 (cond v (levels im) (levels im + compartments im)) ≤ j → j ≤ k
-        → cond s 0 (cond t (levels im) (levels im + compartments im)) ≡ cond u 0 (cond v (levels im) (levels im + compartments im))
+    at : (s : Bool) → ltb j (n .levels) ≡ s → (t : Bool) → ltb j (n .levels + n .compartments) ≡ t
+        → (u : Bool) → ltb k (n .levels) ≡ u → (v : Bool) → ltb k (n .levels + n .compartments) ≡ v
+        → classFirst n (cond u 1 (cond v 2 3)) ≤ j → j ≤ k
+        → _≡_ {A = ℕ} (cond s 1 (cond t 2 3)) (cond u 1 (cond v 2 3))
     at true e t d true f v g low high = refl
-    at true e t d false f true g low high = absurd (omega (arith, ltb-true j (levels im) e))
-    at true e t d false f false g low high = absurd (omega (arith, ltb-true j (levels im) e))
-    at false e t d true f v g low high = absurd (omega (arith, ltb-false j (levels im) e, ltb-true k (levels im) f))
+    at true e t d false f true g low high = absurd (omega (arith, ltb-true j (n .levels) e))
+    at true e t d false f false g low high = absurd (omega (arith, ltb-true j (n .levels) e))
+    at false e t d true f v g low high = absurd (omega (arith, ltb-false j (n .levels) e, ltb-true k (n .levels) f))
     at false e true d false f true g low high = refl
-    at false e true d false f false g low high = absurd (omega (arith, ltb-true j (levels im + compartments im) d))
+    at false e true d false f false g low high = absurd (omega (arith, ltb-true j (n .levels + n .compartments) d))
     at false e false d false f true g low high =
-        absurd (omega (arith, ltb-false j (levels im + compartments im) d, ltb-true k (levels im + compartments im) g))
+        absurd (omega (arith, ltb-false j (n .levels + n .compartments) d, ltb-true k (n .levels + n .compartments) g))
     at false e false d false f false g low high = refl
 
 -- ---- a record by itself
 -- a level or a compartment has no parent; a group has none, 255, or a group that exists
-pub parent-means : (class count parent : ℕ) → parentRule class count parent ≡ true
-    → (parent ≡ 255) ⊎ ((class ≡ 3) × (parent < count))
+abbrev pub ParentKept : ℕ → ℕ → ℕ → Type 0
+ParentKept class count parent = (parent ≡ 255) ⊎ ((class ≡ 3) × (parent < count))
+
+pub parent-means : (class count parent : ℕ) → parentRule class count parent ≡ true → ParentKept class count parent
 unfolding parentRule
 parent-means class count parent e =
     ⊎-elim (λ p. inl (eqb-true parent 255 p))
     (λ p. let q = parts _ _ p in inr (eqb-true class 3 (q .0), ltb-true parent count (q .1)))
     (either _ _ e)
 
+pub parent-holds : (class count parent : ℕ) → ParentKept class count parent → parentRule class count parent ≡ true
+unfolding parentRule
+parent-holds class count parent (inl e) = or-left _ _ (eq-eqb parent 255 e)
+parent-holds class count parent (inr (e, h)) = or-right (eqb parent 255) _ (rw (eq-eqb class 3 e, lt-ltb parent count h))
+
 pub record ComponentKept (class count : ℕ) (rec : List ℕ) : Type 0 where
   pub classed : classOf rec ≡ class
   pub named : NameKept (componentNameField rec)
   pub numericLimit : numericForm rec ≤ 9999
-  pub parent : (parentOf rec ≡ 255) ⊎ ((class ≡ 3) × (parentOf rec < count))
+  pub parent : ParentKept class count (parentOf rec)
   pub unused : (i : ℕ) → 35 ≤ i → i < 40 → byteAt rec i ≡ 0
 
-pub component-shape-means : (class count : ℕ) (rec : List ℕ) → componentShape class count rec ≡ true → ComponentKept class count rec
-unfolding componentShape
-component-shape-means class count rec e =
-    let q4 = parts _ _ e in
-    let q3 = parts _ _ (q4 .0) in
-    let q2 = parts _ _ (q3 .0) in
-    let q1 = parts _ _ (q2 .0) in
-    record {
-      classed = eqb-true _ _ (q1 .0);
-      named = name-means _ (q1 .1);
-      numericLimit = leb-true _ _ (q2 .1);
-      parent = parent-means class count (parentOf rec) (q3 .1);
-      unused = zero-part rec 35 5 (q4 .1);
-    }
+module _ (class count : ℕ) (rec : List ℕ) where
+  pub component-shape-means : componentShape class count rec ≡ true → ComponentKept class count rec
+  unfolding componentShape
+  component-shape-means e =
+      let q4 = parts _ _ e in
+      let q3 = parts _ _ (q4 .0) in
+      let q2 = parts _ _ (q3 .0) in
+      let q1 = parts _ _ (q2 .0) in
+      record {
+        classed = eqb-true _ _ (q1 .0);
+        named = name-means _ (q1 .1);
+        numericLimit = leb-true _ _ (q2 .1);
+        parent = parent-means class count (parentOf rec) (q3 .1);
+        unused = zero-part rec 35 5 (q4 .1);
+      }
 
--- so a level or a compartment holds 255
-pub no-parent : (class count : ℕ) (rec : List ℕ) → ComponentKept class count rec → (class ≡ 3 → ⊥) → parentOf rec ≡ 255
-no-parent class count rec k other = ⊎-elim (λ e. e) (λ p. absurd (other (p .0))) (k .parent)
+  pub component-shape-holds : ComponentKept class count rec → componentShape class count rec ≡ true
+  unfolding componentShape
+  component-shape-holds k =
+      rw (
+        eq-eqb _ _ (k .classed),
+        name-holds _ (k .named),
+        le-leb _ _ (k .numericLimit),
+        parent-holds class count (parentOf rec) (k .parent),
+        part-zero rec 35 5 (k .unused),
+      )
+
+  -- so a level or a compartment holds 255
+  pub no-parent : ComponentKept class count rec → (class ≡ 3 → ⊥) → parentOf rec ≡ 255
+  no-parent k other = ⊎-elim (λ e. e) (λ p. absurd (other (p .0))) (k .parent)
 
 -- ---- among the others
-module _ (im : List ℕ) (i : ℕ) where
+module _ (n : Counts) (records : List (List ℕ)) (i : ℕ) where
   -- the first of its class, or above the one before it
-  pub numeric-means : numericRule im i ≡ true
-      → (i ≡ classStart im i) ⊎ (numericForm (componentRecord im (i - 1)) < numericForm (componentRecord im i))
+  abbrev pub NumericRises : Type 0
+  NumericRises = (i ≡ classStart n i) ⊎ (numericForm (recordIn records (i - 1)) < numericForm (recordIn records i))
+
+  pub numeric-means : numericRule n records i ≡ true → NumericRises
   unfolding numericRule
   numeric-means e = ⊎-elim (λ p. inl (eqb-true _ _ p)) (λ p. inr (ltb-true _ _ p)) (either _ _ e)
 
+  pub numeric-holds : NumericRises → numericRule n records i ≡ true
+  unfolding numericRule
+  numeric-holds = ⊎-elim (λ p. or-left _ _ (eq-eqb _ _ p)) (λ p. or-right (eqb i (classStart n i)) _ (lt-ltb _ _ p))
+
   -- no earlier component of the class has its name
-  pub new-name-means : newNameRule im i ≡ true → (j : ℕ) → classStart im i ≤ j → j < i
-      → componentName (componentRecord im j) ≡ componentName (componentRecord im i) → ⊥
-  unfolding newNameRule namesDiffer
+  abbrev pub NameNew : Type 0
+  NameNew = (j : ℕ) → classStart n i ≤ j → j < i → componentName (recordIn records j) ≡ componentName (recordIn records i) → ⊥
+
+  pub new-name-means : newNameRule n records i ≡ true → NameNew
+  unfolding newNameRule otherName
   new-name-means e j low high =
-      differ-means (componentName (componentRecord im j)) (componentName (componentRecord im i))
-      (not-true (sameName (componentName (componentRecord im j)) (componentName (componentRecord im i)))
-      (everywhere-at (namesDiffer im i) (i - classStart im i) (classStart im i) j e low (omega arith)))
+      let name : List ℕ = componentName (recordIn records i) in
+      differ-means (componentName (recordIn records j)) name
+      (not-true (sameName (componentName (recordIn records j)) name)
+      (everywhere-at (λ j. not (sameName (componentName (recordIn records j)) name)) (i - classStart n i) (classStart n i) j e low (omega arith)))
+
+  pub new-name-holds : NameNew → newNameRule n records i ≡ true
+  unfolding newNameRule otherName
+  new-name-holds f =
+      let name : List ℕ = componentName (recordIn records i) in
+      eq-eqb _ _ (all-good (λ j. not (sameName (componentName (recordIn records j)) name)) (i - classStart n i) (classStart n i)
+      (λ j low high. differs (componentName (recordIn records j)) name (f j low (omega (arith, class-begun n i)))))
+    where
+      differs : (a b : List ℕ) → (a ≡ b → ⊥) → not (sameName a b) ≡ true
+      differs a b g = at (sameName a b) refl
+        where
+          at : (t : Bool) → sameName a b ≡ t → not t ≡ true
+          at true e = absurd (g (same-means a b e))
+          at false e = refl
 
   pub record ComponentAmong : Type 0 where
-    pub kept : ComponentKept (classAt im i) (groups im) (componentRecord im i)
-    pub rises : (i ≡ classStart im i) ⊎ (numericForm (componentRecord im (i - 1)) < numericForm (componentRecord im i))
-    pub renamed : (j : ℕ) → classStart im i ≤ j → j < i
-        → componentName (componentRecord im j) ≡ componentName (componentRecord im i) → ⊥
+    pub kept : ComponentKept (classAt n i) (n .groups) (recordIn records i)
+    pub rises : NumericRises
+    pub nameNew : NameNew
 
-  pub component-means : componentRule im i ≡ true → ComponentAmong
+  pub component-means : componentRule n records i ≡ true → ComponentAmong
   unfolding componentRule
   component-means e =
       let q2 = parts _ _ e in
       let q1 = parts _ _ (q2 .0) in
       record {
-        kept = component-shape-means (classAt im i) (groups im) (componentRecord im i) (q1 .0);
+        kept = component-shape-means (classAt n i) (n .groups) (recordIn records i) (q1 .0);
         rises = numeric-means (q1 .1);
-        renamed = new-name-means (q2 .1);
+        nameNew = new-name-means (q2 .1);
       }
 
+  pub component-holds : ComponentAmong → componentRule n records i ≡ true
+  unfolding componentRule
+  component-holds a =
+      rw (component-shape-holds (classAt n i) (n .groups) (recordIn records i) (a .kept), numeric-holds (a .rises), new-name-holds (a .nameNew))
+
 -- ---- all of them
-module _ (im : List ℕ) (kept : (i : ℕ) → i < components im → componentRule im i ≡ true) where
+module _ (n : Counts) (records : List (List ℕ)) where
   -- inside a class the numeric form rises strictly
-  pub numeric-rise : (j k : ℕ) → classAt im j ≡ classAt im k → j < k → k < components im
-      → numericForm (componentRecord im j) < numericForm (componentRecord im k)
-  numeric-rise j k same less high =
-      rise (λ a b. numericForm (componentRecord im a) < numericForm (componentRecord im b)) (λ a b c. lt-trans)
-      (classStart im k) (suc k) step j k (class-from im j k same) less (omega arith)
+  pub numeric-rise : ((i : ℕ) → i < length records → NumericRises n records i)
+      → (j k : ℕ) → classAt n j ≡ classAt n k → j < k → k < length records
+      → numericForm (recordIn records j) < numericForm (recordIn records k)
+  numeric-rise rises j k same less high =
+      rise (λ a b. numericForm (recordIn records a) < numericForm (recordIn records b)) (λ a b c. lt-trans)
+      (classStart n k) (suc k) step j k (class-from n j k same) less (omega arith)
     where
-      step : (m : ℕ) → classStart im k < m → m < suc k
-          → numericForm (componentRecord im (m - 1)) < numericForm (componentRecord im m)
+      step : (m : ℕ) → classStart n k < m → m < suc k → numericForm (recordIn records (m - 1)) < numericForm (recordIn records m)
       step m low upto =
-          let e : classStart im m ≡ classStart im k = class-between im m k (omega arith) (omega arith) in
-          ⊎-elim (λ q. absurd (omega arith)) (λ l. l) (component-means im m (kept m (omega arith)) .rises)
+          let e : classAt n m ≡ classAt n k = class-between n m k (omega arith) (omega arith) in
+          let s : classStart n m ≡ classStart n k = rw e in
+          ⊎-elim (λ q. absurd (omega arith)) (λ l. l) (rises m (omega arith))
 
-  -- inside a class names differ
-  pub names-differ : (j k : ℕ) → classAt im j ≡ classAt im k → j < k → k < components im
-      → componentName (componentRecord im j) ≡ componentName (componentRecord im k) → ⊥
-  names-differ j k same less high = component-means im k (kept k high) .renamed j (class-from im j k same) less
-
-  -- so class and name tell components apart
-  pub component-unique : (j k : ℕ) → j < components im → k < components im → classAt im j ≡ classAt im k
-      → componentName (componentRecord im j) ≡ componentName (componentRecord im k) → j ≡ k
-  component-unique j k hj hk same named =
-      apart (λ a b. (classAt im a ≡ classAt im b) × (componentName (componentRecord im a) ≡ componentName (componentRecord im b)))
-      (λ a b p. (sym (p .0), sym (p .1))) (components im) (λ a b less high p. names-differ a b (p .0) less high (p .1))
+  -- class and name tell components apart
+  pub component-unique : ((i : ℕ) → i < length records → NameNew n records i)
+      → (j k : ℕ) → j < length records → k < length records → classAt n j ≡ classAt n k
+      → componentName (recordIn records j) ≡ componentName (recordIn records k) → j ≡ k
+  component-unique new j k hj hk same named =
+      apart (λ a b. (classAt n a ≡ classAt n b) × (componentName (recordIn records a) ≡ componentName (recordIn records b)))
+      (λ a b p. (sym (p .0), sym (p .1))) (length records)
+      (λ a b less high p. new b high a (class-from n a b (p .0)) less (p .1))
       j k hj hk (same, named)

@@ -1,16 +1,16 @@
--- What the header's rules mean. Assumes nothing.
+-- What the header's rules mean, both ways: a rule holds exactly if what it says holds. Assumes nothing.
 use Prim.Native.Nat.{ℕ, _≤_, _<_, _*_}
 use mathlib.Core.Path.{_≡_}
 use mathlib.Core.Bool.{true}
 use mathlib.Core.List.{List}
-use borrow.Author.Tests.{leb-true, eqb-true}
+use borrow.Author.Tests.{leb-true, eqb-true, le-leb, eq-eqb}
 use lib.ListN.{length}
 use Rattle.fields.specs.Bytes.{byteAt}
 use Rattle.fields.proofs.Both.{parts}
-use Rattle.fields.proofs.Meaning.{zero-part}
+use Rattle.fields.proofs.Meaning.{zero-part, part-zero}
 use Rattle.header.specs.Layout.{levels, compartments, groups, users, labels, blocksNeeded, Fitted}
 use Rattle.header.specs.Header.{headerRule, fitRule}
-use Rattle.header.specs.Limits.{Counted}
+use Rattle.header.specs.Limits.{limitsOf, Counted}
 
 -- kind 80, 0 records, edition 1, counts within their limits, and bytes 12..509 unused
 pub record HeaderKept (im : List ℕ) : Type 0 where
@@ -18,11 +18,11 @@ pub record HeaderKept (im : List ℕ) : Type 0 where
   pub none : byteAt im 1 ≡ 0
   pub edition : byteAt im 4 ≡ 1
   pub levelsSome : 1 ≤ levels im
-  pub levelsLimit : levels im ≤ 32
-  pub compartmentsLimit : compartments im ≤ 64
-  pub groupsLimit : groups im ≤ 64
-  pub usersLimit : users im ≤ 96
-  pub labelsLimit : labels im ≤ 1680
+  pub levelsLimit : levels im ≤ limitsOf im .levels
+  pub compartmentsLimit : compartments im ≤ limitsOf im .compartments
+  pub groupsLimit : groups im ≤ limitsOf im .groups
+  pub usersLimit : users im ≤ limitsOf im .users
+  pub labelsLimit : labels im ≤ limitsOf im .labels
   pub unused : (i : ℕ) → 12 ≤ i → i < 510 → byteAt im i ≡ 0
 
 pub header-means : (im : List ℕ) → headerRule im ≡ true → HeaderKept im
@@ -50,10 +50,30 @@ header-means im e =
       unused = zero-part im 12 498 (q9 .1);
     }
 
+pub header-holds : (im : List ℕ) → HeaderKept im → headerRule im ≡ true
+unfolding headerRule
+header-holds im k =
+    rw (
+      eq-eqb _ _ (k .kind),
+      eq-eqb _ _ (k .none),
+      eq-eqb _ _ (k .edition),
+      le-leb _ _ (k .levelsSome),
+      le-leb _ _ (k .levelsLimit),
+      le-leb _ _ (k .compartmentsLimit),
+      le-leb _ _ (k .groupsLimit),
+      le-leb _ _ (k .usersLimit),
+      le-leb _ _ (k .labelsLimit),
+      part-zero im 12 498 (k .unused),
+    )
+
 -- there are as many blocks as the counts need
 pub fit-means : (im : List ℕ) → fitRule im ≡ true → Fitted im
 unfolding fitRule
 fit-means im e = eqb-true (length im) (512 * blocksNeeded im) e
+
+pub fit-holds : (im : List ℕ) → Fitted im → fitRule im ≡ true
+unfolding fitRule
+fit-holds im e = eq-eqb (length im) (512 * blocksNeeded im) e
 
 -- what code may take for granted once both rules hold
 pub counted : (im : List ℕ) → headerRule im ≡ true → fitRule im ≡ true → Counted im

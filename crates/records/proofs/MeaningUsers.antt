@@ -1,4 +1,4 @@
--- What the rules of user records mean, but for those of below. Assumes nothing.
+-- What the rules of user records mean, but for those of below, both ways: a rule holds exactly if what it says holds. Assumes nothing.
 use Prim.Native.Nat.{ℕ, _-_, _≤_, _<_}
 use mathlib.Core.Path.{_≡_, sym, ap, _∙_}
 use mathlib.Core.Bool.{true, false}
@@ -6,18 +6,20 @@ use mathlib.Core.List.{List}
 use mathlib.Core.Logic.{_⊎_, inl, inr, ⊎-elim}
 use native.Mathlib.Nat.{le-refl}
 use native.Mathlib.Omega.{arith}
-use borrow.Author.Tests.{leb-true, eqb-true, ltb-true}
+use borrow.Author.Tests.{leb-true, eqb-true, ltb-true, le-leb, eq-eqb, lt-ltb}
+use lib.Dec.{eqb}
+use lib.ListN.{length}
 use Rattle.fields.specs.Bytes.{byteAt}
 use Rattle.fields.specs.Names.{nameBefore}
-use Rattle.fields.proofs.Both.{parts, either}
-use Rattle.fields.proofs.Meaning.{zero-part, NameKept, name-means, before-irrefl, before-trans}
+use Rattle.fields.proofs.Both.{parts, either, both, or-left, or-right}
+use Rattle.fields.proofs.Meaning.{zero-part, part-zero, NameKept, name-means, name-holds, before-irrefl, before-trans}
 use Rattle.sets.specs.Sets.{has}
 use Rattle.sets.proofs.Bounds.{below-lacks}
-use Rattle.sets.proofs.Within.{within-has}
-use Rattle.header.specs.Layout.{levels, compartments, groups, users, userRecord}
+use Rattle.sets.proofs.Within.{within-has, has-within}
+use Rattle.header.specs.Layout.{Counts}
 use Rattle.records.specs.Fields.{userNameField, userName, privileges, maximumLevel, minimumLevel, defaultLevel, rowLevel, readCompartments, writeCompartments, defaultCompartments, rowCompartments, readGroups, writeGroups, defaultGroups, rowGroups}
-use Rattle.records.specs.Rules.{userLevelsRule, userCompartmentsRule, userGroupsRule, userShape, userNameRule, userRule}
-use Rattle.records.proofs.MeaningLabels.{exist-means}
+use Rattle.records.specs.Rules.{recordIn, userLevelsRule, userCompartmentsRule, userGroupsRule, userShape, userNameRule, userRule}
+use Rattle.records.proofs.MeaningLabels.{exist-means, exist-holds}
 use Rattle.records.proofs.Rising.{rise, apart}
 
 -- ---- levels: minimum ≤ row ≤ default ≤ maximum, and all exist
@@ -39,6 +41,11 @@ user-levels-means count rec e =
       defaultMaximum = leb-true _ _ (q2 .1);
       maximumExists = ltb-true _ _ (q3 .1);
     }
+
+pub user-levels-holds : (count : ℕ) (rec : List ℕ) → LevelsKept count rec → userLevelsRule count rec ≡ true
+unfolding userLevelsRule
+user-levels-holds count rec k =
+    rw (le-leb _ _ (k .minimumRow), le-leb _ _ (k .rowDefault), le-leb _ _ (k .defaultMaximum), lt-ltb _ _ (k .maximumExists))
 
 -- ---- compartments: write and default lie in read, row in default and in write, and all exist
 pub record CompartmentsKept (count : ℕ) (rec : List ℕ) : Type 0 where
@@ -63,6 +70,17 @@ user-compartments-means count rec e =
       rowInWrite = within-has (rowCompartments rec) (writeCompartments rec) (q4 .1);
     }
 
+pub user-compartments-holds : (count : ℕ) (rec : List ℕ) → CompartmentsKept count rec → userCompartmentsRule count rec ≡ true
+unfolding userCompartmentsRule
+user-compartments-holds count rec k =
+    rw (
+      exist-holds (readCompartments rec) count (k .readExist),
+      has-within (writeCompartments rec) (readCompartments rec) (k .writeInRead),
+      has-within (defaultCompartments rec) (readCompartments rec) (k .defaultInRead),
+      has-within (rowCompartments rec) (defaultCompartments rec) (k .rowInDefault),
+      has-within (rowCompartments rec) (writeCompartments rec) (k .rowInWrite),
+    )
+
 -- ---- groups: all four sets name only groups that exist
 pub record GroupsKept (count : ℕ) (rec : List ℕ) : Type 0 where
   pub readExist : (p : ℕ) → has (readGroups rec) p ≡ true → p < count
@@ -83,73 +101,110 @@ user-groups-means count rec e =
       rowExist = exist-means (rowGroups rec) count (q3 .1);
     }
 
+pub user-groups-holds : (count : ℕ) (rec : List ℕ) → GroupsKept count rec → userGroupsRule count rec ≡ true
+unfolding userGroupsRule
+user-groups-holds count rec k =
+    rw (
+      exist-holds (readGroups rec) count (k .readExist),
+      exist-holds (writeGroups rec) count (k .writeExist),
+      exist-holds (defaultGroups rec) count (k .defaultExist),
+      exist-holds (rowGroups rec) count (k .rowExist),
+    )
+
 -- ---- a record by itself
 -- the privilege bit 128 is place 7; bytes 36..39 and 104..127 are unused
-pub record UserKept (im rec : List ℕ) : Type 0 where
+pub record UserKept (n : Counts) (rec : List ℕ) : Type 0 where
   pub named : NameKept (userNameField rec)
   pub privilegesLimit : privileges rec < 128
-  pub lastBit : has (privileges rec) 7 ≡ false
   pub unusedLevels : (i : ℕ) → 36 ≤ i → i < 40 → byteAt rec i ≡ 0
   pub unusedEnd : (i : ℕ) → 104 ≤ i → i < 128 → byteAt rec i ≡ 0
-  pub levelsKept : LevelsKept (levels im) rec
-  pub compartmentsKept : CompartmentsKept (compartments im) rec
-  pub groupsKept : GroupsKept (groups im) rec
+  pub levelsKept : LevelsKept (n .levels) rec
+  pub compartmentsKept : CompartmentsKept (n .compartments) rec
+  pub groupsKept : GroupsKept (n .groups) rec
 
-pub user-shape-means : (im rec : List ℕ) → userShape im rec ≡ true → UserKept im rec
-unfolding userShape
-user-shape-means im rec e =
-    let q6 = parts _ _ e in
-    let q5 = parts _ _ (q6 .0) in
-    let q4 = parts _ _ (q5 .0) in
-    let q3 = parts _ _ (q4 .0) in
-    let q2 = parts _ _ (q3 .0) in
-    let q1 = parts _ _ (q2 .0) in
-    let low : privileges rec < 128 = ltb-true _ _ (q1 .1) in
-    record {
-      named = name-means _ (q1 .0);
-      privilegesLimit = low;
-      lastBit = below-lacks (privileges rec) 7 low 7 (le-refl 7);
-      unusedLevels = zero-part rec 36 4 (q2 .1);
-      unusedEnd = zero-part rec 104 24 (q3 .1);
-      levelsKept = user-levels-means (levels im) rec (q4 .1);
-      compartmentsKept = user-compartments-means (compartments im) rec (q5 .1);
-      groupsKept = user-groups-means (groups im) rec (q6 .1);
-    }
+module _ (n : Counts) (rec : List ℕ) where
+  pub user-shape-means : userShape n rec ≡ true → UserKept n rec
+  unfolding userShape
+  user-shape-means e =
+      let q6 = parts _ _ e in
+      let q5 = parts _ _ (q6 .0) in
+      let q4 = parts _ _ (q5 .0) in
+      let q3 = parts _ _ (q4 .0) in
+      let q2 = parts _ _ (q3 .0) in
+      let q1 = parts _ _ (q2 .0) in
+      record {
+        named = name-means _ (q1 .0);
+        privilegesLimit = ltb-true _ _ (q1 .1);
+        unusedLevels = zero-part rec 36 4 (q2 .1);
+        unusedEnd = zero-part rec 104 24 (q3 .1);
+        levelsKept = user-levels-means (n .levels) rec (q4 .1);
+        compartmentsKept = user-compartments-means (n .compartments) rec (q5 .1);
+        groupsKept = user-groups-means (n .groups) rec (q6 .1);
+      }
+
+  pub user-shape-holds : UserKept n rec → userShape n rec ≡ true
+  unfolding userShape
+  user-shape-holds k =
+      rw (
+        name-holds _ (k .named),
+        lt-ltb _ _ (k .privilegesLimit),
+        part-zero rec 36 4 (k .unusedLevels),
+        part-zero rec 104 24 (k .unusedEnd),
+        user-levels-holds (n .levels) rec (k .levelsKept),
+        user-compartments-holds (n .compartments) rec (k .compartmentsKept),
+        user-groups-holds (n .groups) rec (k .groupsKept),
+      )
+
+  -- the last privilege bit is zero
+  pub last-bit : UserKept n rec → has (privileges rec) 7 ≡ false
+  last-bit k = below-lacks (privileges rec) 7 (k .privilegesLimit) 7 (le-refl 7)
 
 -- ---- among the others
-module _ (im : List ℕ) (u : ℕ) where
+module _ (records : List (List ℕ)) (u : ℕ) where
   -- the first, or after the one before it
-  pub user-name-means : userNameRule im u ≡ true
-      → (u ≡ 0) ⊎ (nameBefore (userName (userRecord im (u - 1))) (userName (userRecord im u)) ≡ true)
+  abbrev pub NameRises : Type 0
+  NameRises = (u ≡ 0) ⊎ (nameBefore (userName (recordIn records (u - 1))) (userName (recordIn records u)) ≡ true)
+
+  pub user-name-means : userNameRule records u ≡ true → NameRises
   unfolding userNameRule
   user-name-means e = ⊎-elim (λ p. inl (eqb-true _ _ p)) (λ p. inr p) (either _ _ e)
 
-  pub record UserAmong : Type 0 where
-    pub kept : UserKept im (userRecord im u)
-    pub rises : (u ≡ 0) ⊎ (nameBefore (userName (userRecord im (u - 1))) (userName (userRecord im u)) ≡ true)
+  pub user-name-holds : NameRises → userNameRule records u ≡ true
+  unfolding userNameRule
+  user-name-holds = ⊎-elim (λ p. or-left _ _ (eq-eqb _ _ p)) (λ p. or-right (eqb u 0) _ p)
 
-  pub user-means : userRule im u ≡ true → UserAmong
+module _ (n : Counts) (records : List (List ℕ)) (u : ℕ) where
+  pub record UserAmong : Type 0 where
+    pub kept : UserKept n (recordIn records u)
+    pub rises : NameRises records u
+
+  pub user-means : userRule n records u ≡ true → UserAmong
   unfolding userRule
   user-means e =
       let q = parts _ _ e in
-      record { kept = user-shape-means im (userRecord im u) (q .0); rises = user-name-means (q .1) }
+      record { kept = user-shape-means n (recordIn records u) (q .0); rises = user-name-means records u (q .1) }
+
+  pub user-holds : UserAmong → userRule n records u ≡ true
+  unfolding userRule
+  user-holds a = both _ _ (user-shape-holds n (recordIn records u) (a .kept)) (user-name-holds records u (a .rises))
 
 -- ---- all of them
-module _ (im : List ℕ) (kept : (u : ℕ) → u < users im → userRule im u ≡ true) where
-  pub names-rise : (j k : ℕ) → j < k → k < users im → nameBefore (userName (userRecord im j)) (userName (userRecord im k)) ≡ true
+module _ (records : List (List ℕ)) (rises : (u : ℕ) → u < length records → NameRises records u) where
+  pub names-rise : (j k : ℕ) → j < k → k < length records
+      → nameBefore (userName (recordIn records j)) (userName (recordIn records k)) ≡ true
   names-rise j k less high =
-      rise (λ a b. nameBefore (userName (userRecord im a)) (userName (userRecord im b)) ≡ true)
-      (λ a b c. before-trans (userName (userRecord im a)) (userName (userRecord im b)) (userName (userRecord im c)))
-      0 (users im) step j k (omega arith) less high
+      rise (λ a b. nameBefore (userName (recordIn records a)) (userName (recordIn records b)) ≡ true)
+      (λ a b c. before-trans (userName (recordIn records a)) (userName (recordIn records b)) (userName (recordIn records c)))
+      0 (length records) step j k (omega arith) less high
     where
-      step : (m : ℕ) → 0 < m → m < users im
-          → nameBefore (userName (userRecord im (m - 1))) (userName (userRecord im m)) ≡ true
-      step m low upto = ⊎-elim (λ q. absurd (omega arith)) (λ l. l) (user-means im m (kept m upto) .rises)
+      step : (m : ℕ) → 0 < m → m < length records
+          → nameBefore (userName (recordIn records (m - 1))) (userName (recordIn records m)) ≡ true
+      step m low upto = ⊎-elim (λ q. absurd (omega arith)) (λ l. l) (rises m upto)
 
   -- so a name is that of one user
-  pub user-unique : (j k : ℕ) → j < users im → k < users im
-      → userName (userRecord im j) ≡ userName (userRecord im k) → j ≡ k
+  pub user-unique : (j k : ℕ) → j < length records → k < length records
+      → userName (recordIn records j) ≡ userName (recordIn records k) → j ≡ k
   user-unique =
-      apart (λ a b. userName (userRecord im a) ≡ userName (userRecord im b)) (λ a b. sym) (users im)
-      (λ a b less high e. before-irrefl (userName (userRecord im b))
-      (ap (λ (s : List ℕ). nameBefore s (userName (userRecord im b))) (sym e) ∙ names-rise a b less high))
+      apart (λ a b. userName (recordIn records a) ≡ userName (recordIn records b)) (λ a b. sym) (length records)
+      (λ a b less high e. before-irrefl (userName (recordIn records b))
+      (ap (λ (s : List ℕ). nameBefore s (userName (recordIn records b))) (sym e) ∙ names-rise a b less high))

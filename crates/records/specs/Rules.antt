@@ -1,25 +1,28 @@
--- The rules of an image's records. Each is a Boolean; proofs/Meaning*.antt say what each means for places and bytes.
+-- The rules of an image's records: of a record by itself, and of a record among those before it in the list of its kind. Each is a
+-- Boolean; proofs/Meaning*.antt say what each means for places and bytes.
 use Prim.Native.Nat.{ℕ, _+_, _-_, _*_}
 use mathlib.Core.Bool.{Bool, cond, not, _&&_, _||_}
-use mathlib.Core.List.{List}
+use mathlib.Core.List.{List, []}
 use lib.Dec.{eqb, leb, ltb}
+use lib.ListN.{getD}
 use Rattle.fields.specs.Bytes.{byteAt, part, allZero}
 use Rattle.fields.specs.Names.{nameRule, sameName, nameBefore}
 use Rattle.fields.specs.Scan.{firstBad, everywhere}
 use Rattle.sets.specs.Sets.{within, allBelow}
 use Rattle.header.specs.declared.layout.Kind.{Kind}
 use Rattle.header.specs.declared.layout.Kind.the-variants.{Component, Label, User}
-use Rattle.header.specs.Layout.{levels, compartments, groups, users, labels, components, componentRecord, labelRecord, userRecord, kindByte, contentsOf}
+use Rattle.header.specs.Layout.{Counts, countsOf, classFirst, classAt, kindByte, recordAt, recordsOf, contentsOf}
 use Rattle.records.specs.Fields.{classOf, componentNameField, componentName, numericForm, parentOf, tagOf, labelLevel, labelCompartments, labelGroups, userNameField, userName, privileges, maximumLevel, minimumLevel, defaultLevel, rowLevel, readCompartments, writeCompartments, defaultCompartments, rowCompartments, readGroups, writeGroups, defaultGroups, rowGroups}
 
--- ---- components: levels, then compartments, then groups
--- the class that the counts put at place i: 1 level, 2 compartment, 3 group
-unfoldable pub classAt : List ℕ → ℕ → ℕ
-classAt im i = cond (ltb i (levels im)) 1 (cond (ltb i (levels im + compartments im)) 2 3)
+-- ---- lists of records
+-- the record at place i
+abbrev pub recordIn : List (List ℕ) → ℕ → List ℕ
+recordIn records i = getD records i []
 
--- the place of the first component of that class
-unfoldable pub classStart : List ℕ → ℕ → ℕ
-classStart im i = cond (ltb i (levels im)) 0 (cond (ltb i (levels im + compartments im)) (levels im) (levels im + compartments im))
+-- ---- components: levels, then compartments, then groups
+-- the place of the first component of the class that the counts put at place i
+abbrev pub classStart : Counts → ℕ → ℕ
+classStart n i = classFirst n (classAt n i)
 
 -- a parent is 255 for none; a group may have a group that exists
 unfoldable pub parentRule : ℕ → ℕ → ℕ → Bool
@@ -32,38 +35,40 @@ componentShape class count rec =
     && parentRule class count (parentOf rec) && allZero (part rec 35 5)
 
 -- inside a class the numeric form rises strictly
-unfoldable pub numericRule : List ℕ → ℕ → Bool
-numericRule im i =
-    eqb i (classStart im i) || ltb (numericForm (componentRecord im (i - 1))) (numericForm (componentRecord im i))
+unfoldable pub numericRule : Counts → List (List ℕ) → ℕ → Bool
+numericRule n records i =
+    eqb i (classStart n i) || ltb (numericForm (recordIn records (i - 1))) (numericForm (recordIn records i))
 
--- the component at j has another name
-unfoldable pub otherName : List ℕ → List ℕ → ℕ → Bool
-otherName im name j = not (sameName (componentName (componentRecord im j)) name)
+-- the component has another name
+unfoldable pub otherName : List ℕ → List ℕ → Bool
+otherName name rec = not (sameName (componentName rec) name)
 
--- the components at j and i have different names
-unfoldable pub namesDiffer : List ℕ → ℕ → ℕ → Bool
-namesDiffer im i j = not (sameName (componentName (componentRecord im j)) (componentName (componentRecord im i)))
+-- the same of the component at place j of an image
+abbrev pub othersNamed : List ℕ → List ℕ → ℕ → Bool
+othersNamed im name j = otherName name (recordAt im Component j)
 
 -- inside a class names differ: no earlier component of the class has the name of the one at i
-unfoldable pub newNameRule : List ℕ → ℕ → Bool
-newNameRule im i = everywhere (namesDiffer im i) (i - classStart im i) (classStart im i)
+unfoldable pub newNameRule : Counts → List (List ℕ) → ℕ → Bool
+newNameRule n records i =
+    everywhere (λ j. otherName (componentName (recordIn records i)) (recordIn records j)) (i - classStart n i) (classStart n i)
 
-unfoldable pub componentRule : List ℕ → ℕ → Bool
-componentRule im i = componentShape (classAt im i) (groups im) (componentRecord im i) && numericRule im i && newNameRule im i
+unfoldable pub componentRule : Counts → List (List ℕ) → ℕ → Bool
+componentRule n records i =
+    componentShape (classAt n i) (n .groups) (recordIn records i) && numericRule n records i && newNameRule n records i
 
 -- ---- labels
 -- what a label record must be, whatever the others are: tag 1 to 99,999,999, level and sets that exist, the rest unused
-unfoldable pub labelShape : List ℕ → List ℕ → Bool
-labelShape im rec =
-    leb 1 (tagOf rec) && leb (tagOf rec) 99999999 && ltb (labelLevel rec) (levels im) && allZero (part rec 5 3)
-    && within (labelCompartments rec) (allBelow (compartments im)) && within (labelGroups rec) (allBelow (groups im))
+unfoldable pub labelShape : Counts → List ℕ → Bool
+labelShape n rec =
+    leb 1 (tagOf rec) && leb (tagOf rec) 99999999 && ltb (labelLevel rec) (n .levels) && allZero (part rec 5 3)
+    && within (labelCompartments rec) (allBelow (n .compartments)) && within (labelGroups rec) (allBelow (n .groups))
 
 -- tags rise strictly
-unfoldable pub tagRule : List ℕ → ℕ → Bool
-tagRule im k = eqb k 0 || ltb (tagOf (labelRecord im (k - 1))) (tagOf (labelRecord im k))
+unfoldable pub tagRule : List (List ℕ) → ℕ → Bool
+tagRule records k = eqb k 0 || ltb (tagOf (recordIn records (k - 1))) (tagOf (recordIn records k))
 
-unfoldable pub labelRule : List ℕ → ℕ → Bool
-labelRule im k = labelShape im (labelRecord im k) && tagRule im k
+unfoldable pub labelRule : Counts → List (List ℕ) → ℕ → Bool
+labelRule n records k = labelShape n (recordIn records k) && tagRule records k
 
 -- ---- users
 -- minimum ≤ row level ≤ default ≤ maximum, and the maximum exists, so that all four do
@@ -86,29 +91,27 @@ userGroupsRule count rec =
     && within (defaultGroups rec) (allBelow count) && within (rowGroups rec) (allBelow count)
 
 -- what a user record must be, whatever the others are; privilege bit 128 is zero
-unfoldable pub userShape : List ℕ → List ℕ → Bool
-userShape im rec =
+unfoldable pub userShape : Counts → List ℕ → Bool
+userShape n rec =
     nameRule (userNameField rec) && ltb (privileges rec) 128 && allZero (part rec 36 4) && allZero (part rec 104 24)
-    && userLevelsRule (levels im) rec && userCompartmentsRule (compartments im) rec && userGroupsRule (groups im) rec
+    && userLevelsRule (n .levels) rec && userCompartmentsRule (n .compartments) rec && userGroupsRule (n .groups) rec
 
 -- user names rise strictly in byte order
-unfoldable pub userNameRule : List ℕ → ℕ → Bool
-userNameRule im u = eqb u 0 || nameBefore (userName (userRecord im (u - 1))) (userName (userRecord im u))
+unfoldable pub userNameRule : List (List ℕ) → ℕ → Bool
+userNameRule records u = eqb u 0 || nameBefore (userName (recordIn records (u - 1))) (userName (recordIn records u))
 
-unfoldable pub userRule : List ℕ → ℕ → Bool
-userRule im u = userShape im (userRecord im u) && userNameRule im u
+unfoldable pub userRule : Counts → List (List ℕ) → ℕ → Bool
+userRule n records u = userShape n (recordIn records u) && userNameRule records u
 
--- ---- a record of any kind
--- how many records of the kind there are
-abbrev pub totalOf : List ℕ → Kind → ℕ
-totalOf im Component = components im
-totalOf im Label = labels im
-totalOf im User = users im
+-- ---- a record of any kind, among the records of its kind
+unfoldable pub ruleOf : Kind → Counts → List (List ℕ) → ℕ → Bool
+ruleOf Component = componentRule
+ruleOf Label = labelRule
+ruleOf User = userRule
 
-unfoldable pub recordRule : List ℕ → Kind → ℕ → Bool
-recordRule im Component i = componentRule im i
-recordRule im Label k = labelRule im k
-recordRule im User u = userRule im u
+-- a record of an image, among the image's
+abbrev pub recordRule : List ℕ → Kind → ℕ → Bool
+recordRule im kind i = ruleOf kind (countsOf im) (recordsOf im kind) i
 
 -- ---- a block after the header
 -- its kind and number of records are those that the counts ask for, and the bytes after its records are zero

@@ -2,19 +2,19 @@
 ghost use Prim.Native.Nat.{_-_, _<_, _≤_};
 ghost use mathlib.Core.Path.{_≡_};
 ghost use Rattle.fields.specs.Scan.{firstBad};
-ghost use Rattle.header.specs.Layout.{blocksNeeded};
-ghost use Rattle.records.specs.Rules.{recordRule, layoutRule, firstBadRecord, contentRule, totalOf};
+ghost use Rattle.header.specs.Layout.{countOf, blocksNeeded};
+ghost use Rattle.records.specs.Rules.{recordRule, layoutRule, firstBadRecord, contentRule};
 ghost use Rattle.header.specs.Limits.{Counted};
 use crate::components::component_ok;
 use crate::labels::label_ok;
 use crate::users::user_ok;
 use fields::numbers::all_zero;
 use header::layout::Kind;
-use header::layout::block_contents;
+use header::contents::block_contents;
 use header::layout::kind_byte;
 
 fn record_ok(image: &[u8], kind: Kind, i: usize) -> bool
-    requires { ⌜ Counted (now image) × (i < totalOf (now image) kind) ⌝ }
+    requires { ⌜ Counted (now image) × (i < countOf (now image) kind) ⌝ }
     ensures { λ r. ⌜ r ≡ recordRule (now (image .entry)) kind i ⌝ }
 {
     match kind {
@@ -25,7 +25,7 @@ fn record_ok(image: &[u8], kind: Kind, i: usize) -> bool
 }
 
 fn first_bad(image: &[u8], kind: Kind, from: usize, to: usize) -> usize
-    requires { ⌜ Counted (now image) × ((from ≤ to) × (to ≤ totalOf (now image) kind)) ⌝ }
+    requires { ⌜ Counted (now image) × ((from ≤ to) × (to ≤ countOf (now image) kind)) ⌝ }
     ensures { λ r. ⌜ r ≡ firstBad (recordRule (now (image .entry)) kind) (to - from) from ⌝ }
 {
     let mut i = from;

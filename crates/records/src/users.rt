@@ -4,16 +4,18 @@ ghost use mathlib.Core.Path.{_≡_};
 ghost use lib.ListN.{length};
 ghost use Rattle.fields.specs.Bytes.{number8};
 ghost use Rattle.sets.specs.Groups.{placesOf};
-ghost use Rattle.header.specs.Layout.{users, userRecord};
+ghost use Rattle.header.specs.declared.layout.Kind.the-variants.{User};
+ghost use Rattle.header.specs.Layout.{users, countsOf, recordSize, userRecord, recordsOf};
 ghost use Rattle.records.specs.Fields as fields;
 ghost use Rattle.records.specs.Fields.{userName};
 ghost use Rattle.records.specs.Users.{levelsOf, compartmentsOf, GroupsAre};
-ghost use Rattle.records.specs.Rules.{userLevelsRule, userCompartmentsRule, userGroupsRule, userShape, userNameRule, userRule};
+ghost use Rattle.records.specs.Rules.{userLevelsRule, userCompartmentsRule, userGroupsRule, userShape, userNameRule, recordRule};
 ghost use Rattle.header.specs.Limits.{Counted};
 use fields::names;
 use fields::numbers::all_zero;
 use fields::numbers::number8;
 use header::layout;
+use header::layout::Kind;
 use sets::groups::Groups;
 use sets::word;
 
@@ -21,13 +23,13 @@ pub fn name<'a>(image: &'a [u8], u: usize) -> &'a [u8]
     requires { ⌜ Counted (now image) × (u < users (now image)) ⌝ }
     ensures { λ r. ⌜ now r ≡ userName (userRecord (now (image .entry)) u) ⌝ }
 {
-    let rec = layout::user_record(image, u);
+    let rec = layout::record_part(image, Kind::User, u);
     names::name_in(&rec[0..31])
 }
 
 // The set of groups in the eight bytes from k on.
 pub fn group_set(rec: &[u8], k: usize) -> Groups
-    requires { ⌜ (length (now rec) ≡ 128) × (k ≤ 120) ⌝ }
+    requires { ⌜ (length (now rec) ≡ recordSize User) × (k ≤ 120) ⌝ }
     ensures { λ r. ⌜ placesOf r ≡ number8 (now (rec .entry)) k ⌝ }
 {
     Groups::of_word(number8(rec, k))
@@ -37,7 +39,7 @@ pub fn privileges(image: &[u8], u: usize) -> u8
     requires { ⌜ Counted (now image) × (u < users (now image)) ⌝ }
     ensures { λ r. ⌜ r ≡ fields.privileges (userRecord (now (image .entry)) u) ⌝ }
 {
-    let rec = layout::user_record(image, u);
+    let rec = layout::record_part(image, Kind::User, u);
     rec[31]
 }
 
@@ -53,7 +55,7 @@ pub fn user_levels(image: &[u8], u: usize) -> Levels
     requires { ⌜ Counted (now image) × (u < users (now image)) ⌝ }
     ensures { λ r. ⌜ r ≡ levelsOf (userRecord (now (image .entry)) u) ⌝ }
 {
-    let rec = layout::user_record(image, u);
+    let rec = layout::record_part(image, Kind::User, u);
     Levels {
         maximum: rec[32],
         minimum: rec[33],
@@ -74,7 +76,7 @@ pub fn compartment_sets(image: &[u8], u: usize) -> CompartmentSets
     requires { ⌜ Counted (now image) × (u < users (now image)) ⌝ }
     ensures { λ r. ⌜ r ≡ compartmentsOf (userRecord (now (image .entry)) u) ⌝ }
 {
-    let rec = layout::user_record(image, u);
+    let rec = layout::record_part(image, Kind::User, u);
     CompartmentSets {
         read: number8(rec, 40),
         write: number8(rec, 48),
@@ -95,7 +97,7 @@ pub fn group_sets(image: &[u8], u: usize) -> GroupSets
     requires { ⌜ Counted (now image) × (u < users (now image)) ⌝ }
     ensures { λ r. ⌜ GroupsAre (userRecord (now (image .entry)) u) r ⌝ }
 {
-    let rec = layout::user_record(image, u);
+    let rec = layout::record_part(image, Kind::User, u);
     GroupSets {
         read: group_set(rec, 72),
         write: group_set(rec, 80),
@@ -105,7 +107,7 @@ pub fn group_sets(image: &[u8], u: usize) -> GroupSets
 }
 
 fn levels_ok(rec: &[u8], count: usize) -> bool
-    requires { ⌜ length (now rec) ≡ 128 ⌝ }
+    requires { ⌜ length (now rec) ≡ recordSize User ⌝ }
     ensures { λ r. ⌜ r ≡ userLevelsRule count (now (rec .entry)) ⌝ }
 {
     (rec[33] <= rec[35])
@@ -115,7 +117,7 @@ fn levels_ok(rec: &[u8], count: usize) -> bool
 }
 
 fn compartments_ok(rec: &[u8], count: usize) -> bool
-    requires { ⌜ (length (now rec) ≡ 128) × (count ≤ 64) ⌝ }
+    requires { ⌜ (length (now rec) ≡ recordSize User) × (count ≤ 64) ⌝ }
     ensures { λ r. ⌜ r ≡ userCompartmentsRule count (now (rec .entry)) ⌝ }
 {
     let read = number8(rec, 40);
@@ -130,7 +132,7 @@ fn compartments_ok(rec: &[u8], count: usize) -> bool
 }
 
 fn groups_ok(rec: &[u8], count: usize) -> bool
-    requires { ⌜ (length (now rec) ≡ 128) × (count ≤ 64) ⌝ }
+    requires { ⌜ (length (now rec) ≡ recordSize User) × (count ≤ 64) ⌝ }
     ensures { λ r. ⌜ r ≡ userGroupsRule count (now (rec .entry)) ⌝ }
 {
     let all = Groups::all_below(count);
@@ -142,8 +144,8 @@ fn groups_ok(rec: &[u8], count: usize) -> bool
 
 // What a record must be whatever the others are.
 fn shape_ok(image: &[u8], rec: &[u8]) -> bool
-    requires { ⌜ Counted (now image) × (length (now rec) ≡ 128) ⌝ }
-    ensures { λ r. ⌜ r ≡ userShape (now (image .entry)) (now (rec .entry)) ⌝ }
+    requires { ⌜ Counted (now image) × (length (now rec) ≡ recordSize User) ⌝ }
+    ensures { λ r. ⌜ r ≡ userShape (countsOf (now (image .entry))) (now (rec .entry)) ⌝ }
 {
     names::name_ok(&rec[0..31])
         & (rec[31] < 128)
@@ -157,7 +159,7 @@ fn shape_ok(image: &[u8], rec: &[u8]) -> bool
 // User names rise strictly in byte order.
 fn user_name_ok(image: &[u8], u: usize) -> bool
     requires { ⌜ Counted (now image) × (u < users (now image)) ⌝ }
-    ensures { λ r. ⌜ r ≡ userNameRule (now (image .entry)) u ⌝ }
+    ensures { λ r. ⌜ r ≡ userNameRule (recordsOf (now (image .entry)) User) u ⌝ }
 {
     if u == 0 {
         return true;
@@ -167,7 +169,7 @@ fn user_name_ok(image: &[u8], u: usize) -> bool
 
 pub fn user_ok(image: &[u8], u: usize) -> bool
     requires { ⌜ Counted (now image) × (u < users (now image)) ⌝ }
-    ensures { λ r. ⌜ r ≡ userRule (now (image .entry)) u ⌝ }
+    ensures { λ r. ⌜ r ≡ recordRule (now (image .entry)) User u ⌝ }
 {
-    shape_ok(image, layout::user_record(image, u)) & user_name_ok(image, u)
+    shape_ok(image, layout::record_part(image, Kind::User, u)) & user_name_ok(image, u)
 }

@@ -1,6 +1,6 @@
 use borrow.Author.Needs.{needs}
 use Rattle.records.specs.Rules.{firstBadRecord}
-use Rattle.records.proofs.Held.{held-is}
+use Rattle.header.proofs.Inside.{held-is}
 use Rattle.records.proofs.blocks.first_bad_record.Statement.{statement}
 use Rattle.records.proofs.blocks.first_bad_record.Tie as tie
 

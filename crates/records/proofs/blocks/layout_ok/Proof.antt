@@ -3,7 +3,7 @@ use mathlib.Core.Path.{_≡_}
 use native.Mathlib.Omega.{arith}
 use borrow.Author.Needs.{needs}
 use Rattle.records.specs.Rules.{layoutRule}
-use Rattle.records.proofs.Held.{held-by, block-inside}
+use Rattle.header.proofs.Inside.{held-by, block-inside}
 use Rattle.records.proofs.blocks.layout_ok.Statement.{statement}
 use Rattle.records.proofs.blocks.layout_ok.Tie as tie
 

@@ -1,5 +1,4 @@
 use borrow.Author.Needs.{needs}
-use Rattle.records.specs.Rules.{recordRule}
 use Rattle.records.proofs.blocks.record_ok.Statement.{statement}
 use Rattle.records.proofs.blocks.record_ok.Tie as tie
 
@@ -22,15 +21,12 @@ user-ok-requires : tie.Need-user-ok-requires
 user-ok-requires c κs = (c .before .before .before .pre .0, rw (c .enum-told3 .given .1) at (c .before .before .before .pre .1))
 
 returns : tie.Need-returns
-unfolding recordRule
 returns c = rw (c .before .enum-told .given .1) (c .component-ok .ensures)
 
 returns-2 : tie.Need-returns-2
-unfolding recordRule
 returns-2 c = rw (c .before .enum-told2 .given .1) (c .label-ok .ensures)
 
 returns-3 : tie.Need-returns-3
-unfolding recordRule
 returns-3 c = rw (c .before .enum-told3 .given .1) (c .user-ok .ensures)
 
 pub record-ok-spec : {M : Type 1} → statement M

@@ -1,45 +1,25 @@
-use Prim.Native.Nat.{_+_, _≤_, _<_}
-use native.Mathlib.Omega.{arith}
 use borrow.Author.Needs.{needs}
-use borrow.Author.Tests.{lt-ltb, le-ltb}
-use Rattle.header.specs.Layout.{levels, compartments}
+use Rattle.records.proofs.MeaningComponents.{class-begun}
+use Rattle.header.specs.Layout.{countsOf}
+use mathlib.Core.Path.{_≡_, sym, subst, ap, _∙_}
+use Prim.Native.Nat.{ℕ, _≤_}
+use Rattle.header.specs.Layout.{classFirst}
 use Rattle.records.specs.Rules.{classStart}
 use Rattle.records.proofs.components.class_start.Statement.{statement}
 use Rattle.records.proofs.components.class_start.Tie as tie
 
-levels-requires : tie.Need-levels-requires
-levels-requires c κs = search needs
+class-at-requires : tie.Need-class-at-requires
+class-at-requires c κs = search needs
+
+class-first-requires : tie.Need-class-first-requires
+class-first-requires c κs = search needs
 
 returns : tie.Need-returns
-unfolding classStart
 returns c =
-    let a = c .before .before .before .args in
-    let h : a .i < levels (a .image .now) = omega arith in
-    (rw (lt-ltb _ _ h), omega arith)
-
-compartments-requires : tie.Need-compartments-requires
-compartments-requires c κs = search needs
-
-add-others : tie.Need-add-others
-add-others c = search needs
-
-returns-2 : tie.Need-returns-2
-unfolding classStart
-returns-2 c =
-    let a = c .before .before .before .before .before .args in
-    let g : levels (a .image .now) ≤ a .i = omega arith in
-    let h : a .i < levels (a .image .now) + compartments (a .image .now) = omega arith in
-    (rw (le-ltb _ _ g, lt-ltb _ _ h) (omega arith), omega arith)
-
-returns-3 : tie.Need-returns-3
-unfolding classStart
-returns-3 c =
-    let a = c .before .before .before .before .before .args in
-    let g : levels (a .image .now) ≤ a .i = omega arith in
-    let h : levels (a .image .now) + compartments (a .image .now) ≤ a .i = omega arith in
-    (rw (le-ltb _ _ g, le-ltb _ _ h) (omega arith), omega arith)
+    let start = c .before .before .before in
+    let n = countsOf (start .args .image .now) in
+    let e : c .class-first .result ≡ classStart n (start .args .i) = c .class-first .ensures .0 ∙ ap (classFirst n) (c .before .class-at .ensures) in
+    (e, subst (λ (r : ℕ). r ≤ start .args .i) (sym e) (class-begun n (start .args .i)))
 
 pub class-start-spec : {M : Type 1} → statement M
-class-start-spec =
-    tie.close
-    (tie.spec levels-requires returns compartments-requires add-others returns-2 returns-3)
+class-start-spec = tie.close (tie.spec class-at-requires class-first-requires returns)

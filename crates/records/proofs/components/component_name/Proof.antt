@@ -2,8 +2,8 @@ use borrow.Author.Needs.{needs}
 use Rattle.records.proofs.components.component_name.Statement.{statement}
 use Rattle.records.proofs.components.component_name.Tie as tie
 
-component-record-requires : tie.Need-component-record-requires
-component-record-requires c κs = search needs
+record-part-requires : tie.Need-record-part-requires
+record-part-requires c κs = search needs
 
 sub-name-in : tie.Need-sub-name-in
 sub-name-in c = search needs
@@ -18,13 +18,13 @@ name-in-requires : tie.Need-name-in-requires
 name-in-requires c κs = search needs
 
 returns : tie.Need-returns
-returns c = rw (← c .before .before .component-record .ensures .0) (c .name-in .ensures)
+returns c = rw (← c .before .before .record-part .ensures .0) (c .name-in .ensures)
 
 pub component-name-spec : {M : Type 1} → statement M
 component-name-spec =
     tie.close
     (tie.spec
-    component-record-requires
+    record-part-requires
     sub-name-in
     part-name-in-start
     part-name-in-end

@@ -1,11 +1,12 @@
 use borrow.Author.Needs.{needs}
-use Rattle.records.specs.Rules.{componentRule}
-use Rattle.header.proofs.Inside.{header-inside}
+use Rattle.records.specs.Rules.{ruleOf, componentRule}
+use Rattle.header.specs.declared.layout.Kind.the-variants.{Component}
+use Rattle.header.proofs.Inside.{header-inside, record-of}
 use Rattle.records.proofs.components.component_ok.Statement.{statement}
 use Rattle.records.proofs.components.component_ok.Tie as tie
 
-component-record-requires : tie.Need-component-record-requires
-component-record-requires c κs = search needs
+record-part-requires : tie.Need-record-part-requires
+record-part-requires c κs = search needs
 
 class-at-requires : tie.Need-class-at-requires
 class-at-requires c κs = header-inside _ (c .before .before .pre .0)
@@ -23,22 +24,25 @@ new-name-ok-requires : tie.Need-new-name-ok-requires
 new-name-ok-requires c κs = search needs
 
 returns : tie.Need-returns
-unfolding componentRule
+unfolding ruleOf componentRule
 returns c =
+    let listed = c .before .before .before .before .before in
+    let start = listed .before .before in
     rw (
+      record-of (start .args .image .now) Component (start .args .i) (start .pre .1),
       c .before .before .shape-ok .ensures,
       c .before .numeric-ok .ensures,
       c .new-name-ok .ensures,
       c .before .before .before .before .class-at .ensures,
       c .before .before .before .groups .ensures .0,
-      c .before .before .before .before .before .component-record .ensures .0,
+      listed .record-part .ensures .0,
     )
 
 pub component-ok-spec : {M : Type 1} → statement M
 component-ok-spec =
     tie.close
     (tie.spec
-    component-record-requires
+    record-part-requires
     class-at-requires
     groups-requires
     shape-ok-requires

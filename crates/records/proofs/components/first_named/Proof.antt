@@ -1,54 +1,66 @@
-use Prim.Native.Nat.{_+_, _-_, _%_, _≤_, _<_}
-use mathlib.Core.Path.{_≡_, refl}
+use Prim.Native.Nat.{ℕ, _+_, _-_, _≤_, _<_}
+use mathlib.Core.Path.{_≡_, refl, sym, ap, subst}
 use native.Mathlib.Omega.{arith}
 use borrow.Author.Needs.{needs}
 use Rattle.fields.specs.Scan.{firstBad}
 use Rattle.fields.proofs.Scan.{loop-end, part-bad, part-good}
-use Rattle.header.specs.Layout.{componentOffset}
-use Rattle.header.proofs.Inside.{component-inside, component-end}
-use Rattle.records.specs.Rules.{otherName}
+use Rattle.header.specs.declared.layout.Kind.the-variants.{Component}
+use Rattle.header.specs.declared.layout.Shape.{Shape}
+use Rattle.header.specs.Layout.{countOf, shapeOf, Standing}
+use Rattle.header.proofs.Inside.{header-inside, record-upto}
+use Rattle.records.specs.Rules.{othersNamed}
 use Rattle.records.proofs.components.first_named.Statement.{statement}
 use Rattle.records.proofs.components.first_named.Tie as tie
 
 -- past the last place `here` may stand for none
 abbrev Inv-loop : tie.InvT-loop
-Inv-loop image start end name here₀ from₀ here from =
-    (from ≤ end) × ((from < end → (here .at ≡ componentOffset from) × (here .left ≡ 12 - from % 12))
-    × (firstBad (otherName image name) (end - from) from ≡ firstBad (otherName image name) (end - start) start))
+Inv-loop image start end name shape here₀ from₀ here from =
+    (from ≤ end) × ((from < end → Standing (shapeOf image Component) from here)
+    × (firstBad (othersNamed image name) (end - from) from ≡ firstBad (othersNamed image name) (end - start) start))
 
 abbrev μ-loop : tie.MeasureT-loop
-μ-loop image start end name here₀ from₀ here from = end - from
+μ-loop image start end name shape here₀ from₀ here from = end - from
+
+shape-of-requires : tie.Need-shape-of-requires Inv-loop μ-loop
+shape-of-requires c κs = header-inside _ (c .before .before .pre .0)
 
 record-at-requires : tie.Need-record-at-requires Inv-loop μ-loop
 record-at-requires c κs =
-    let p = c .before .before .pre in
-    let a = c .before .before .args in
-    omega (arith, component-end _ (p .0) (a .start) (omega arith))
+    let start = c .before .before .before in
+    let s = c .shape-of .ensures in
+    (s .roomy, rw (s .is) (omega (arith, record-upto _ (start .pre .0) Component (start .args .start) (omega arith))))
 
 loop-holds : tie.Need-loop-holds Inv-loop μ-loop
-loop-holds c = (omega arith, ((λ h. (c .record-at .ensures .0, c .record-at .ensures .1)), refl))
+loop-holds c =
+    let start = c .before .before .before .before in
+    let s = c .before .shape-of .ensures in
+    (omega arith, ((λ h. subst (λ (x : Shape). Standing x (start .args .start) (c .record-at .result)) (s .is) (c .record-at .ensures)), refl))
 
 add-lower : tie.Need-add-lower Inv-loop μ-loop
-unfolding componentOffset
 add-lower c =
-    let p = c .before .before .before .before .before .before .pre in
     let l = c .before .before .loop in
-    let h = l .inv .1 .0 (c .before .loop-test .taken) in
-    omega (arith, h .1, component-inside _ (p .0) (l .from) (omega arith))
+    let shaped = c .before .before .before .before in
+    let start = shaped .before .before .before in
+    let stand = l .inv .1 .0 (c .before .loop-test .taken) in
+    let s = shaped .shape-of .ensures in
+    let n : shaped .shape-of .result .count ≡ countOf (start .args .image .now) Component = ap (λ (x : Shape). x .count) (s .is) in
+    omega (arith, stand .more, s .few)
 
 lower-requires : tie.Need-lower-requires Inv-loop μ-loop
 lower-requires c κs = search needs
 
 first-in-block-requires : tie.Need-first-in-block-requires Inv-loop μ-loop
 first-in-block-requires c κs =
-    let p = c .before .before .before .before .before .before .before .pre in
-    let h = c .before .before .before .loop .inv .1 .0 (c .before .before .loop-test .taken) in
-    (p .0, (omega arith, (omega arith, (omega (arith, h .1), h .0))))
+    let at = c .before .before .before in
+    let start = at .before .before .before .before .before in
+    let stand = at .loop .inv .1 .0 (c .before .before .loop-test .taken) in
+    (start .pre .0, (omega arith, (omega arith, record { begins = stand .begins; upto = omega (arith, stand .more) })))
 
 returns : tie.Need-returns Inv-loop μ-loop
 returns c =
-    let a = c .before .before .before .before .before .before .before .before .before .args in
-    let l = c .before .before .before .before .before .loop in
+    let at = c .before .before .before .before .before in
+    let a = at .before .before .before .before .before .args in
+    let l = at .loop in
     let to = c .before .before .lower .result in
     let low : l .from ≤ to = omega arith in
     let high : to ≤ a .end = omega arith in
@@ -56,26 +68,40 @@ returns c =
 
 next-block-requires : tie.Need-next-block-requires Inv-loop μ-loop
 next-block-requires c κs =
-    let p = c .before .before .before .before .before .before .before .before .before .pre in
-    let l = c .before .before .before .before .before .loop in
-    (omega (arith, component-inside _ (p .0) (l .from) (omega arith)), l .inv .1 .0 (c .before .before .before .before .loop-test .taken))
+    let inside = c .before .before .before .before in
+    let l = inside .before .loop in
+    let shaped = inside .before .before .before in
+    let start = shaped .before .before .before in
+    let s = shaped .shape-of .ensures in
+    let stand = l .inv .1 .0 (inside .loop-test .taken) in (
+      s .roomy,
+      (
+        subst (λ (x : Shape). Standing x (l .from) (l .here)) (sym (s .is)) stand,
+        rw (s .is) (omega (arith, record-upto _ (start .pre .0) Component (l .from) (omega arith))),
+      ),
+    )
 
 loop-less : tie.Need-loop-less Inv-loop μ-loop
 loop-less c =
-    let h = c .before .before .before .before .before .before .loop .inv .1 .0 (c .before .before .before .before .before .loop-test .taken) in
-    omega (arith, h .1)
+    let inside = c .before .before .before .before .before in
+    let stand = inside .before .loop .inv .1 .0 (inside .loop-test .taken) in
+    omega (arith, stand .more)
 
 loop-again : tie.Need-loop-again Inv-loop μ-loop
 loop-again c =
-    let a = c .before .before .before .before .before .before .before .before .before .before .args in
-    let l = c .before .before .before .before .before .before .loop in
+    let inside = c .before .before .before .before .before in
+    let l = inside .before .loop in
+    let shaped = inside .before .before .before in
+    let a = shaped .before .before .before .args in
+    let im = a .image .now in
     let to = c .before .before .before .lower .result in
     let low : l .from ≤ to = omega arith in
     let high : to ≤ a .end = omega arith in
-    let next = c .next-block .ensures in (
+    let here = c .next-block .result in
+    let next = subst (λ (x : Shape). Standing x (l .from + l .here .left) here) (shaped .shape-of .ensures .is) (c .next-block .ensures) in (
       high,
       (
-        (λ (m : to < a .end). let q : l .from + l .here .left ≡ to = omega arith in (rw q at (next .0), rw q at (next .1))),
+        (λ (m : to < a .end). let q : l .from + l .here .left ≡ to = omega arith in subst (λ (n : ℕ). Standing (shapeOf im Component) n here) q next),
         part-good _ _ _ _ _ _ low high (l .inv .1 .1) (c .before .before .first-in-block .ensures) (c .before .if1 .left),
       ),
     )
@@ -89,6 +115,7 @@ first-named-spec =
     (tie.spec
     Inv-loop
     μ-loop
+    shape-of-requires
     record-at-requires
     loop-holds
     add-lower

@@ -1,10 +1,9 @@
-use Prim.Native.Nat.{ℕ, _+_, _-_, _≤_, min}
+use borrow.Author.Needs.{needs}
+use Prim.Native.Nat.{ℕ, _-_, min}
 use mathlib.Core.Path.{_≡_}
 use mathlib.Core.Bool.{true, false, not, _&&_}
 use mathlib.Core.List.{List}
-use native.Mathlib.Nat.{add-sub-cancel-left}
 use native.Mathlib.Omega.{arith}
-use borrow.Author.Needs.{needs}
 use borrow.Author.Tests.{eqb-false, ltb-true, not-true}
 use lib.Dec.{eqb, ltb}
 use lib.ListN.{length, length-take, length-drop}
@@ -12,8 +11,6 @@ use Rattle.fields.specs.Bytes.{byteAt, part}
 use Rattle.fields.specs.Names.{nameIn, sameName}
 use Rattle.fields.proofs.Both.{parts}
 use Rattle.fields.proofs.Laws.{part-length, part-byte, same-length}
-use Rattle.header.specs.Layout.{componentRecord}
-use Rattle.header.proofs.Inside.{component-inside}
 use Rattle.records.specs.Fields.{componentNameField, componentName}
 use Rattle.records.proofs.components.is_named.Statement.{statement}
 use Rattle.records.proofs.components.is_named.Tie as tie
@@ -32,18 +29,6 @@ other-length rec name l t =
     let g : length (part field 1 (byteAt field 0)) ≡ min (byteAt field 0) (length field - 1) = simp (length-take, length-drop) in
     same-length _ _ (λ e. d (omega (arith, e, g, b, f)))
 
-add-rec : tie.Need-add-rec
-add-rec c = omega (arith, component-inside _ (c .before .before .pre .0) _ (c .before .before .pre .1 .0))
-
-sub-rec : tie.Need-sub-rec
-sub-rec c = search needs
-
-part-rec-start : tie.Need-part-rec-start
-part-rec-start c = search needs
-
-part-rec-end : tie.Need-part-rec-end
-part-rec-end c = omega (arith, component-inside _ (c .before .before .pre .0) _ (c .before .before .pre .1 .0))
-
 shared-slice-read-n : tie.Need-shared-slice-read-n
 shared-slice-read-n c = search needs
 
@@ -51,13 +36,9 @@ cast-n : tie.Need-cast-n
 cast-n c = omega (arith, c .shared-slice-known3 .given 1)
 
 returns : tie.Need-returns
-unfolding componentRecord
 returns c =
-    let p = c .before .before .before .before .before .pre in
-    let a = c .before .before .before .before .before .args in
-    let im = a .image .now in
-    let fits : a .at + 40 ≤ length im = omega (arith, component-inside _ (p .0) _ (p .1 .0)) in
-    rw (← p .1 .1) (other-length (part im (a .at) 40) (a .name .now) (part-length im _ _ fits) (rw add-sub-cancel-left at (c .if1 .taken)))
+    let start = c .before .before .before .before in
+    other-length (start .args .rec .now) (start .args .name .now) (start .pre) (c .if1 .taken)
 
 sub-name-in : tie.Need-sub-name-in
 sub-name-in c = search needs
@@ -75,17 +56,12 @@ same-name-requires : tie.Need-same-name-requires
 same-name-requires c κs = search needs
 
 returns-2 : tie.Need-returns-2
-unfolding componentRecord
-returns-2 c = rw (← c .before .before .before .before .before .before .before .before .pre .1 .1, c .same-name .ensures, c .before .name-in .ensures, add-sub-cancel-left)
+returns-2 c = rw (c .same-name .ensures, c .before .name-in .ensures)
 
 pub is-named-spec : {M : Type 1} → statement M
 is-named-spec =
     tie.close
     (tie.spec
-    add-rec
-    sub-rec
-    part-rec-start
-    part-rec-end
     shared-slice-read-n
     cast-n
     returns

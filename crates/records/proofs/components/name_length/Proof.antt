@@ -3,8 +3,8 @@ use borrow.Author.Needs.{needs}
 use Rattle.records.proofs.components.name_length.Statement.{statement}
 use Rattle.records.proofs.components.name_length.Tie as tie
 
-component-record-requires : tie.Need-component-record-requires
-component-record-requires c κs = search needs
+record-part-requires : tie.Need-record-part-requires
+record-part-requires c κs = search needs
 
 shared-slice-read-result : tie.Need-shared-slice-read-result
 shared-slice-read-result c = search needs
@@ -13,8 +13,8 @@ cast-result : tie.Need-cast-result
 cast-result c = omega (arith, c .shared-slice-known2 .given 1)
 
 returns : tie.Need-returns
-returns c = rw (c .before .component-record .ensures .0)
+returns c = rw (c .before .record-part .ensures .0)
 
 pub name-length-spec : {M : Type 1} → statement M
 name-length-spec =
-    tie.close (tie.spec component-record-requires shared-slice-read-result cast-result returns)
+    tie.close (tie.spec record-part-requires shared-slice-read-result cast-result returns)

@@ -1,5 +1,10 @@
+use Prim.Native.Nat.{_-_, _<_}
+use native.Mathlib.Omega.{arith}
 use borrow.Author.Needs.{needs}
 use borrow.Author.Tests.{eq-eqb, ne-eqb}
+use Rattle.header.specs.declared.layout.Kind.the-variants.{Label}
+use Rattle.header.specs.Layout.{countOf}
+use Rattle.header.proofs.Inside.{record-of}
 use Rattle.records.specs.Rules.{tagRule}
 use Rattle.records.proofs.labels.tag_ok.Statement.{statement}
 use Rattle.records.proofs.labels.tag_ok.Tie as tie
@@ -19,7 +24,13 @@ tag-requires-2 c κs = search needs
 
 returns-2 : tie.Need-returns-2
 unfolding tagRule
-returns-2 c = rw (ne-eqb _ _ (c .before .before .if1 .left), c .before .tag .ensures, c .tag2 .ensures)
+returns-2 c =
+    let start = c .before .before .before .before in
+    let im = start .args .image .now in
+    let k = start .args .k in
+    let before : k - 1 < countOf im Label = omega arith in
+    let here : k < countOf im Label = omega arith in
+    rw (ne-eqb _ _ (c .before .before .if1 .left), record-of im Label (k - 1) before, record-of im Label k here, c .before .tag .ensures, c .tag2 .ensures)
 
 pub tag-ok-spec : {M : Type 1} → statement M
 tag-ok-spec = tie.close (tie.spec returns sub-tag tag-requires tag-requires-2 returns-2)

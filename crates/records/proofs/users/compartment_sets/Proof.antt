@@ -2,8 +2,8 @@ use borrow.Author.Needs.{needs}
 use Rattle.records.proofs.users.compartment_sets.Statement.{statement}
 use Rattle.records.proofs.users.compartment_sets.Tie as tie
 
-user-record-requires : tie.Need-user-record-requires
-user-record-requires c κs = search needs
+record-part-requires : tie.Need-record-part-requires
+record-part-requires c κs = search needs
 
 number8-requires : tie.Need-number8-requires
 number8-requires c κs = search needs
@@ -18,13 +18,13 @@ number8-requires-4 : tie.Need-number8-requires-4
 number8-requires-4 c κs = search needs
 
 returns : tie.Need-returns
-returns c = rw (← c .before .before .before .before .user-record .ensures .0, c .before .before .before .number8 .ensures, c .before .before .number82 .ensures, c .before .number83 .ensures, c .number84 .ensures)
+returns c = rw (← c .before .before .before .before .record-part .ensures .0, c .before .before .before .number8 .ensures, c .before .before .number82 .ensures, c .before .number83 .ensures, c .number84 .ensures)
 
 pub compartment-sets-spec : {M : Type 1} → statement M
 compartment-sets-spec =
     tie.close
     (tie.spec
-    user-record-requires
+    record-part-requires
     number8-requires
     number8-requires-2
     number8-requires-3

@@ -2,8 +2,8 @@ use borrow.Author.Needs.{needs}
 use Rattle.records.proofs.users.name.Statement.{statement}
 use Rattle.records.proofs.users.name.Tie as tie
 
-user-record-requires : tie.Need-user-record-requires
-user-record-requires c κs = search needs
+record-part-requires : tie.Need-record-part-requires
+record-part-requires c κs = search needs
 
 sub-name-in : tie.Need-sub-name-in
 sub-name-in c = search needs
@@ -18,13 +18,13 @@ name-in-requires : tie.Need-name-in-requires
 name-in-requires c κs = search needs
 
 returns : tie.Need-returns
-returns c = rw (← c .before .before .user-record .ensures .0) (c .name-in .ensures)
+returns c = rw (← c .before .before .record-part .ensures .0) (c .name-in .ensures)
 
 pub name-spec : {M : Type 1} → statement M
 name-spec =
     tie.close
     (tie.spec
-    user-record-requires
+    record-part-requires
     sub-name-in
     part-name-in-start
     part-name-in-end

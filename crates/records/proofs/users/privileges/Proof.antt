@@ -2,14 +2,14 @@ use borrow.Author.Needs.{needs}
 use Rattle.records.proofs.users.privileges.Statement.{statement}
 use Rattle.records.proofs.users.privileges.Tie as tie
 
-user-record-requires : tie.Need-user-record-requires
-user-record-requires c κs = search needs
+record-part-requires : tie.Need-record-part-requires
+record-part-requires c κs = search needs
 
 shared-slice-read-result : tie.Need-shared-slice-read-result
 shared-slice-read-result c = search needs
 
 returns : tie.Need-returns
-returns c = rw (← c .before .user-record .ensures .0)
+returns c = rw (← c .before .record-part .ensures .0)
 
 pub privileges-spec : {M : Type 1} → statement M
-privileges-spec = tie.close (tie.spec user-record-requires shared-slice-read-result returns)
+privileges-spec = tie.close (tie.spec record-part-requires shared-slice-read-result returns)
