@@ -1,7 +1,7 @@
 #!/usr/bin/env bash
-# The bindings: the archive exports just what the C header and the Rust crate declare; the crate's tests pass; both report loops and
-# the other C examples print what is stored; valgrind finds no error in any of these programs; and examples/calls.c calls every
-# function and has every line of the examples in docs/CALLS.md. Needs target/staticlib/libabi.a.
+# The bindings: the archive exports just what the C header and the Rust crate declare, which say the same of what is lent; the crate's
+# tests pass; both report loops and the other C examples print what is stored; valgrind finds no error in any of these programs; and
+# examples/calls.c calls every function and has every line of the examples in docs/CALLS.md. Needs target/staticlib/libabi.a.
 set -eu -o pipefail
 cd "$(dirname "$0")/.."
 unset BRAWNESK_LIB_DIR
@@ -18,6 +18,17 @@ same_names() {
 test -n "$exported"
 gcc -std=c99 -E -P -Iinclude include/brawnesk.h | sed -n 's/^uint64_t \(brawnesk_[a-z0-9_]*\)(.*/\1/p' | same_names include/brawnesk.h
 sed -n 's/.*pub fn \(brawnesk_[a-z0-9_]*\)(.*/\1/p' bindings/rust/src/raw.rs | same_names bindings/rust/src/raw.rs
+
+# The text of files in one line, without the marks of comments.
+text() {
+    sed -E 's#^ *(///|//!|/\*|\*/|\*)?##; s#\*/ *$##' "$@" | tr -s ' \n' ' '
+}
+# What the header says of lending, and of groups past the 64th, docs/CALLS.md and the crate say in the same words.
+for words in 'What a call writes overlaps .* reads none of it\.' 'Dominance and merging do not look [^.]*\.'; do
+    said=$(text include/brawnesk.h | grep -o "$words")
+    text docs/CALLS.md | grep -qF "$said" || { echo "docs/CALLS.md does not say: $said"; exit 1; }
+    text bindings/rust/src/*.rs | grep -qF "$said" || { echo "bindings/rust does not say: $said"; exit 1; }
+done
 
 cd bindings/rust
 cargo test --release --offline --quiet

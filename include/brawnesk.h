@@ -2,7 +2,12 @@
  *
  * Every function answers one 64-bit number. Below 2^63 the call is done and the number is its value. Otherwise it is refused:
  * 2^63 + number * 2^32 + place, where number is the refusal and place the block (refusal 2) or offset (6 and 7) it names.
- * A refusal changes no lent byte. Lent buffers do not overlap. A pointer to an empty slice may not be null. */
+ * A refusal changes no lent byte.
+ *
+ * Lending. What a call writes overlaps nothing else that is lent to it; parts that are only read may overlap each other. Nobody changes
+ * what is lent during the call. A slice's length is below 2^63. A pointer to an empty slice may not be null. A buffer that a call only
+ * writes (label out, session out, text out, rows out) may be uninitialised: a call that is done writes what it reports and reads none of
+ * it. */
 #ifndef BRAWNESK_H
 #define BRAWNESK_H
 
@@ -21,7 +26,8 @@ uint64_t brawnesk_check(const uint8_t *image, size_t image_length);
 uint64_t brawnesk_name(const uint8_t *image, size_t image_length, uint8_t component_class, uint8_t place);
 
 /* A label is 48 bytes: byte 4 the level's place; 8..15 the compartments and 16..47 the groups, as little-endian sets with bit p
- * for place p. The other bytes are written as zero and not looked at. */
+ * for place p. The other bytes are written as zero and not looked at. Dominance and merging do not look at groups past the 64th, bytes 24
+ * to 47 of a label; merging writes these bytes as zero. */
 enum { BRAWNESK_LABEL = 48 };
 
 /* The label that a text names: LEVEL, LEVEL:list, LEVEL:list:list or LEVEL::list. Done: 0, and the label's 48 bytes are written.
@@ -69,7 +75,7 @@ uint64_t brawnesk_update(const uint8_t *image, size_t image_length, const uint8_
 uint64_t brawnesk_masked(const uint8_t *image, size_t image_length, const uint8_t *session, const uint8_t *table, size_t table_length,
                          size_t width, size_t place, const uint8_t *mask, size_t mask_length);
 
-/* Does label 1 dominate label 2? Strictly: and the labels differ. 1 yes, 0 no; never refused. Bytes 24..47 are not looked at. */
+/* Does label 1 dominate label 2? Strictly: and the labels differ. 1 yes, 0 no; never refused. */
 uint64_t brawnesk_dominates(const uint8_t *label1, const uint8_t *label2);
 uint64_t brawnesk_strictly_dominates(const uint8_t *label1, const uint8_t *label2);
 

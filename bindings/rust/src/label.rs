@@ -8,6 +8,8 @@ pub const LABEL: usize = 48;
 
 /// A label in its bytes: byte 4 the level's place; 8..15 the compartments and 16..47 the groups, as
 /// little-endian sets with bit p for place p. The other bytes are written as zero and not looked at.
+/// Dominance and merging do not look at groups past the 64th, bytes 24 to 47 of a label; merging writes
+/// these bytes as zero.
 ///
 /// Places are those of one image. Labels of two images cannot be compared.
 #[derive(Clone, Copy, Debug, PartialEq, Eq)]
@@ -16,7 +18,7 @@ pub struct Label(pub [u8; LABEL]);
 impl Label {
     /// Does this label dominate the other: is its level at least as high, has it all compartments of
     /// the other, and has the other no groups or shares one? Groups are compared as listed. Never
-    /// refused; bytes 24..47 are not looked at.
+    /// refused.
     ///
     /// ```
     /// # use brawnesk::Image;

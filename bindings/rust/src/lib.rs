@@ -18,9 +18,11 @@
 //! **Every call that is lent an image checks it.** An [`Image`] is only a borrow; it does not say that
 //! the bytes were checked.
 //!
-//! **Lending.** What a call writes is borrowed alone, so it overlaps nothing else that is lent. Safe Rust
-//! lets parts that a call only reads overlap. The proofs assume that no lent parts do; such calls are
-//! tested only.
+//! **Lending.** What a call writes overlaps nothing else that is lent to it; parts that are only read may
+//! overlap each other. Nobody changes what is lent during the call. A slice's length is below 2^63. A
+//! pointer to an empty slice may not be null. A buffer that a call only writes (label out, session out,
+//! text out, rows out) may be uninitialised: a call that is done writes what it reports and reads none of
+//! it. Safe Rust keeps these rules of the C functions: what a call writes is borrowed alone.
 //!
 //! **Sessions.** The library cannot tell who made a session's bytes. Keep sessions where the programs
 //! of users cannot write them.

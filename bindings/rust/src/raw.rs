@@ -2,9 +2,10 @@
 //! session one pointer. `tests/declarations.rs` compares them with the library's source and with the
 //! C header.
 //!
-//! SAFETY, of every call in this crate: a pointer and a length are those of a borrowed slice, and a
-//! label or a session is a borrowed array of all its bytes. What a call writes is borrowed alone, so
-//! it overlaps nothing else that is lent. A slice's pointer is never null in Rust, not even an empty
+//! SAFETY, of every call in this crate, by the rules under "Lending" of the crate's page: a pointer and
+//! a length are those of a borrowed slice, and a label or a session is a borrowed array of all its
+//! bytes. What a call writes is borrowed alone; what it only reads is shared, and nobody changes it. In
+//! Rust a slice's length is at most `isize::MAX`, and its pointer is never null, not even an empty
 //! one's. The library keeps no pointer.
 
 extern "C" {
