@@ -8,7 +8,7 @@ use borrow.Author.Tests.{eqb-true, eq-eqb, lt-ltb, ltb-true, ltb-false}
 use lib.Bits.{bitAnd, and-mask, and-le-l, or-lt}
 use lib.Dec.{eqb, ltb}
 use lib.Pow.{pow-pos, pow-lt, pow-mono, ones-lt}
-use Rattle.sets.specs.Sets.{has, none, one, allBelow, union, intersection, less, within, collect}
+use Rattle.sets.specs.Sets.{has, none, one, allBelow, union, intersection, difference, within, collect}
 use Rattle.sets.proofs.Has.{has-ext, allBelow-has, collect-has}
 use Rattle.sets.proofs.Within.{has-within, within-le}
 
@@ -60,9 +60,9 @@ union-below a b n h k = or-lt n a b h k
 pub intersection-below : (a b n : ℕ) → a < 2 ^ n → intersection a b < 2 ^ n
 intersection-below a b n h = lt-of-le-of-lt (and-le-l a b) h
 
-pub less-below : (a b n : ℕ) → a < 2 ^ n → less a b < 2 ^ n
-unfolding less
-less-below a b n h = lt-of-le-of-lt (sub-le a (bitAnd a b)) h
+pub difference-below : (a b n : ℕ) → a < 2 ^ n → difference a b < 2 ^ n
+unfolding difference
+difference-below a b n h = lt-of-le-of-lt (sub-le a (bitAnd a b)) h
 
 -- ---- collecting
 

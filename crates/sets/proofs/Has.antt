@@ -12,7 +12,7 @@ use lib.Arith.{bin-ind, digits-div, digits-mod, dbl-pred, lt-of-le-ne}
 use lib.Bits.{bitAnd, bitOr, and-step, or-step, and-le-l, or-shifted-r}
 use lib.Dec.{eqb, ltb, eqb·zero-suc, eqb·suc-zero, eqb·suc-suc, leb·suc-suc, leb·suc-zero}
 use lib.Pow.{pow-pos}
-use Rattle.sets.specs.Sets.{has, none, one, allBelow, union, intersection, less, collect}
+use Rattle.sets.specs.Sets.{has, none, one, allBelow, union, intersection, difference, collect}
 
 -- ---- the lowest place, and the half
 
@@ -153,12 +153,12 @@ pub intersection-both : (a b p : ℕ) → has (intersection a b) p ≡ true → 
 intersection-both a b p h = and-eq-true-iff (has a p) (has b p) .0 (sym (intersection-has a b p) ∙ h)
 
 -- a difference of digits never borrows: a digit of the intersection is at most that of a
-less-step : (a b : ℕ) → less a b ≡ less (a / 2) (b / 2) * 2 + (a % 2 - min (a % 2) (b % 2))
-unfolding less
-less-step a b = omega (arith, and-step a b, and-le-l (a / 2) (b / 2), div-add-mod' a 2, min-le-left (a % 2) (b % 2))
+difference-step : (a b : ℕ) → difference a b ≡ difference (a / 2) (b / 2) * 2 + (a % 2 - min (a % 2) (b % 2))
+unfolding difference
+difference-step a b = omega (arith, and-step a b, and-le-l (a / 2) (b / 2), div-add-mod' a 2, min-le-left (a % 2) (b % 2))
 
-pub less-has : (a b p : ℕ) → has (less a b) p ≡ (has a p && not (has b p))
-less-has a b p = digits-has less (λ x y. x - min x y) (λ s t. s && not t) less-step small p a b
+pub difference-has : (a b p : ℕ) → has (difference a b) p ≡ (has a p && not (has b p))
+difference-has a b p = digits-has difference (λ x y. x - min x y) (λ s t. s && not t) difference-step small p a b
   where
     small : (x y : ℕ) → x < 2 → y < 2 → (x - min x y < 2) × (eqb (x - min x y) 1 ≡ (eqb x 1 && not (eqb y 1)))
     small =

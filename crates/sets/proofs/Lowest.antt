@@ -10,8 +10,8 @@ use lib.Arith.{lt-of-le-ne}
 use lib.Bits.{bitAnd}
 use lib.Count.{trailingZeros, under}
 use lib.Dec.{eqb, ltb}
-use Rattle.sets.specs.Sets.{has, one, less, empty, Lowest}
-use Rattle.sets.proofs.Has.{has-zero, has-suc, one-has, less-has}
+use Rattle.sets.specs.Sets.{has, one, difference, empty, Lowest}
+use Rattle.sets.proofs.Has.{has-zero, has-suc, one-has, difference-has}
 use Rattle.sets.proofs.Meets.{empty-lacks, empty-place}
 use Rattle.sets.proofs.Bounds.{below-has}
 
@@ -73,16 +73,16 @@ lowest-same n s p q l m = at (ltb p q) (ltb q p) refl refl
 
 -- ---- a set without a place
 
-pub without-lacks : (s p : ℕ) → has (less s (one p)) p ≡ false
-without-lacks s p = less-has s (one p) p ∙ at (has s p)
+pub without-lacks : (s p : ℕ) → has (difference s (one p)) p ≡ false
+without-lacks s p = difference-has s (one p) p ∙ at (has s p)
   where
     at : (t : Bool) → (t && not (has (one p) p)) ≡ false
     at true = ap not (one-has p p ∙ eq-eqb p p refl)
     at false = refl
 
 -- without one of its places it is smaller, so that a loop which takes place after place ends
-pub without-smaller : (s p : ℕ) → has s p ≡ true → less s (one p) < s
-unfolding less
+pub without-smaller : (s p : ℕ) → has s p ≡ true → difference s (one p) < s
+unfolding difference
 without-smaller s p h =
     lt-of-le-ne (sub-le s (bitAnd s (one p)))
     (λ e. true≢false (sym h ∙ ap (λ (x : ℕ). has x p) (sym e) ∙ without-lacks s p))

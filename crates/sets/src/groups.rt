@@ -103,18 +103,18 @@ impl Groups {
     }
 
     // The places that are not in `other`.
-    pub fn less(self, other: Groups) -> Self
-        ensures { λ r. ⌜ placesOf r ≡ sets.less (placesOf self) (placesOf other) ⌝ }
+    pub fn difference(self, other: Groups) -> Self
+        ensures { λ r. ⌜ placesOf r ≡ sets.difference (placesOf self) (placesOf other) ⌝ }
     {
         Self {
-            w0: word::less(self.w0, other.w0),
+            w0: word::difference(self.w0, other.w0),
         }
     }
 
     // The set but for the place p.
     pub fn without(self, p: usize) -> Self
         requires { ⌜ p < width ⌝ }
-        ensures { λ r. ⌜ placesOf r ≡ sets.less (placesOf self) (one p) ⌝ }
+        ensures { λ r. ⌜ placesOf r ≡ sets.difference (placesOf self) (one p) ⌝ }
     {
         Self {
             w0: word::without(self.w0, p),
