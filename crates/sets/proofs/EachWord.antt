@@ -1,7 +1,6 @@
 -- Sets of several words, word by word: what an operation or a test of two such sets does to their words, one place put in or taken out, the
 -- places below n, and the lowest place. Each law holds for any number of words. The tests are joined from the left, as the code joins
 -- them: `t0 & t1 & t2`. Assumes nothing.
-use Prim.{Unit}
 use mathlib.Core.Path.{_≡_, refl, sym, ap, ap₂, _∙_, fun-ext}
 use mathlib.Core.Bool.{Bool, true, false, not, _&&_, _||_, and-true, or-false, and-assoc, or-assoc}
 use mathlib.Core.List.{List, [], _∷_, map, zipWith, foldl}
@@ -18,7 +17,7 @@ use Rattle.sets.specs.Sets.{has, one, allBelow, union, intersection, dif
 use Rattle.sets.specs.Words.{wordOf, wordsOf, joined}
 use Rattle.sets.proofs.Has.{has-ext, one-has, allBelow-has, union-has, intersection-has, difference-has}
 use Rattle.sets.proofs.Bounds.{allBelow-below}
-use Rattle.sets.proofs.Words.{wordOf-has, wordOf-zero, wordOf-suc, joined-first, joined-past, joined-has, joined-whole}
+use Rattle.sets.proofs.Words.{AreWords, wordOf-has, wordOf-zero, wordOf-suc, joined-first, joined-past, joined-has, joined-whole}
 
 -- ---- an operation that goes place by place: f on the tests
 
@@ -96,11 +95,6 @@ joined-without = set-joined difference (λ s t. s && not t) difference-has and-t
 
 -- ---- tests, of words that are below 2 ^ 64
 
--- every one of them is a word
-abbrev pub AreWords : List ℕ → Type 0
-AreWords [] = Unit {0}
-AreWords (w ∷ ws) = (w < 2 ^ 64) × AreWords ws
-
 -- a test of two sets by their words: g joins the words' answers, and u is its unit
 module _ (g : Bool → Bool → Bool) (u : Bool) (assoc : (s t r : Bool) → g (g s t) r ≡ g s (g t r))
     (left : (t : Bool) → g u t ≡ t) (right : (t : Bool) → g t u ≡ t)
@@ -173,6 +167,7 @@ above-meets x y h k v w =
     not-and true t = refl
     not-and false t = refl
 
+-- the words' answers joined from the left
 abbrev pub allOf : List Bool → Bool
 allOf = foldl (λ s t. s && t) true
 

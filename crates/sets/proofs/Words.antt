@@ -1,6 +1,7 @@
 -- Sets and their words: which places a set of several words has, and that a set and its words give each other. `joined` takes each word's
--- remainder, so no law here asks that a word is below 2 ^ 64. Assumes nothing.
-use mathlib.Core.Path.{_≡_, refl, sym, ap, ap₂, _∙_, subst}
+-- remainder, so only a law that gives a word back asks that it is below 2 ^ 64. Assumes nothing.
+use Prim.{Unit}
+use mathlib.Core.Path.{_≡_, refl, sym, ap, ap₂, _∙_}
 use mathlib.Core.Bool.{Bool, _&&_, and-true}
 use mathlib.Core.List.{List, [], _∷_, map}
 use Prim.Native.Nat.{ℕ, zero, suc, _+_, _*_, _/_, _%_, _^_, _<_}
@@ -137,3 +138,18 @@ wordsOf-joined (w ∷ ws) =
 -- a word alone, with empty words past it
 pub joined-alone : (w n : ℕ) → w < 2 ^ 64 → joined (w ∷ replicate n 0) ≡ w
 joined-alone w n h = omega (arith, joined-digits w (replicate n 0), joined-none n, mod-eq-of-lt h)
+
+-- ---- words that are below 2 ^ 64
+
+-- each number of the list is below 2 ^ 64
+abbrev pub AreWords : List ℕ → Type 0
+AreWords [] = Unit {0}
+AreWords (w ∷ ws) = (w < 2 ^ 64) × AreWords ws
+
+getD-word : (ws : List ℕ) (k : ℕ) → AreWords ws → getD ws k 0 < 2 ^ 64
+getD-word [] k h = pow-pos 64
+getD-word (w ∷ ws) zero h = h .0
+getD-word (w ∷ ws) (suc k) h = getD-word ws k (h .1)
+
+pub wordOf-kept : (ws : List ℕ) (k : ℕ) → AreWords ws → wordOf (joined ws) k ≡ getD ws k 0
+wordOf-kept ws k h = wordOf-joined ws k ∙ mod-eq-of-lt (getD-word ws k h)

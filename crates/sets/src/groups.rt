@@ -1,10 +1,11 @@
 // A set of groups. Only this file knows how the places are kept: every contract speaks of them
 // through `placesOf`, so that the type can hold more places without a change above it.
 ghost use mathlib.Core.Path.{_≡_};
-ghost use Prim.Native.Nat.{_*_, _/_, _%_, _^_, _<_, _≤_};
+ghost use Prim.Native.Nat.{_<_, _≤_};
 ghost use lib.Dec.{eqb};
 ghost use Rattle.sets.specs.Sets as sets;
 ghost use Rattle.sets.specs.Sets.{one, allBelow, Lowest};
+ghost use Rattle.sets.specs.Words.{wordOf};
 ghost use Rattle.sets.specs.Groups.{placesOf, width};
 use crate::word;
 
@@ -28,7 +29,7 @@ impl Groups {
 
     // The k-th 64 places, moved down to 0..63.
     pub fn word(self, k: usize) -> u64
-        ensures { λ r. ⌜ r ≡ placesOf self / 2 ^ (64 * k) % 2 ^ 64 ⌝ }
+        ensures { λ r. ⌜ r ≡ wordOf (placesOf self) k ⌝ }
     {
         if k == 0 { self.w0 } else { 0 }
     }
