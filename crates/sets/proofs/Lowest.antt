@@ -12,7 +12,7 @@ use lib.Count.{trailingZeros, under}
 use lib.Dec.{eqb, ltb}
 use Rattle.sets.specs.Sets.{has, one, difference, empty, Lowest}
 use Rattle.sets.proofs.Has.{has-zero, has-suc, one-has, difference-has}
-use Rattle.sets.proofs.Meets.{empty-lacks, empty-place}
+use Rattle.sets.proofs.Meets.{empty-place}
 use Rattle.sets.proofs.Bounds.{below-has}
 
 -- ---- the zeros below the lowest place of a word
@@ -50,14 +50,6 @@ module _ (n s p : ℕ) (l : Lowest n s p) where
           let q = empty-place s e in
           let m : q .0 < p = omega (arith, below-has s n h (q .0) (q .1)) in
           true≢false (sym (q .1) ∙ l .lower (q .0) m))
-
-  -- of an empty set: n
-  pub lowest-none : empty s ≡ true → p ≡ n
-  lowest-none e = at (ltb p n) refl
-    where
-      at : (t : Bool) → ltb p n ≡ t → p ≡ n
-      at true k = absurd (true≢false (sym (l .here (ltb-true p n k)) ∙ empty-lacks s e p))
-      at false k = omega (arith, ltb-false p n k, l .upto)
 
   -- there is only one
   not-lower : (q : ℕ) → Lowest n s q → q < p → ⊥

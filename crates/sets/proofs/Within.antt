@@ -31,14 +31,6 @@ has-within a b f =
     at true t h = h refl
     at false t h = refl
 
--- a place that b lacks, a lacks too
-pub within-lacks : (a b : ℕ) → within a b ≡ true → (p : ℕ) → has b p ≡ false → has a p ≡ false
-within-lacks a b w p h = at (has a p) (has b p) (within-has a b w p) h
-  where
-    at : (s t : Bool) → (s ≡ true → t ≡ true) → t ≡ false → s ≡ false
-    at true t k e = absurd (true≢false (sym (k refl) ∙ e))
-    at false t k e = refl
-
 -- ---- as an order
 
 pub within-refl : (a : ℕ) → within a a ≡ true
