@@ -7,7 +7,7 @@ use lib.ListN.{length}
 use Rattle.fields.specs.Bytes.{byteAt}
 use Rattle.refusals.specs.declared.Refusal.{Refusal}
 use Rattle.refusals.specs.declared.Refusal.the-variants.{MergeLetters}
-use Rattle.sets.specs.Sets.{none, union, intersection, less, empty, within, meets}
+use Rattle.sets.specs.Sets.{none, union, intersection, difference, empty, within, meets}
 use Rattle.labels.specs.Label.{Marks, marksOf}
 use Rattle.dominance.specs.declared.merging.Merged.{Merged}
 use Rattle.dominance.specs.declared.merging.Merged.the-variants as merged
@@ -70,7 +70,7 @@ mergeLevels letter a b = cond (eqb letter letterH) (max a b) (min a b)
 -- U union, I intersection, M the first without the second, N none
 unfoldable pub mergeSets : ℕ → ℕ → ℕ → ℕ
 mergeSets letter a b =
-    cond (eqb letter letterU) (union a b) (cond (eqb letter letterI) (intersection a b) (cond (eqb letter letterM) (less a b) none))
+    cond (eqb letter letterU) (union a b) (cond (eqb letter letterI) (intersection a b) (cond (eqb letter letterM) (difference a b) none))
 
 -- ---- the answer of `merge`
 pub data Merging : Type 0 where

@@ -68,7 +68,7 @@ fn merge_compartments(letter: u8, set1: u64, set2: u64) -> u64
         return word::intersection(set1, set2);
     }
     if letter == 77 {
-        return word::less(set1, set2);
+        return word::difference(set1, set2);
     }
     0
 }
@@ -83,7 +83,7 @@ fn merge_groups(letter: u8, set1: Groups, set2: Groups) -> Groups
         return set1.intersection(set2);
     }
     if letter == 77 {
-        return set1.less(set2);
+        return set1.difference(set2);
     }
     Groups::none()
 }

@@ -15,11 +15,11 @@ use lib.ListN.{length, getD, set}
 use lib.Seq.{getD-set-same}
 use Rattle.sets.specs.declared.groups.Groups.{Groups}
 use Rattle.sets.specs.Groups.{placesOf}
-use Rattle.sets.specs.Sets.{has, none, one, allBelow, union, less, within, meets, empty, collect}
+use Rattle.sets.specs.Sets.{has, none, one, allBelow, union, difference, within, meets, empty, collect}
 use Rattle.sets.proofs.Has.{has-ext, one-has, union-has, collect-put, collect-pass}
-use Rattle.sets.proofs.Within.{within-none, less-within-same, lacks-within}
+use Rattle.sets.proofs.Within.{within-none, difference-within-same, lacks-within}
 use Rattle.sets.proofs.Meets.{empty-none, place-meets}
-use Rattle.sets.proofs.Bounds.{below-has, below-within, within-below, part-below, less-below}
+use Rattle.sets.proofs.Bounds.{below-has, below-within, within-below, part-below, difference-below}
 use Rattle.sets.proofs.Places.{places-below}
 use Rattle.header.specs.Layout.{groups, userRecord}
 use Rattle.records.specs.Fields.{readGroups, writeGroups, defaultGroups, rowGroups}
@@ -109,16 +109,16 @@ module _ (im : List ℕ) (s t : ℕ) where
       at false w = refl
 
   -- the rest is r, since the places of t lie below t
-  pub lies-rest : (all r : ℕ) → all ≡ allBelow (groups im) → within s all ≡ true → r ≡ less s t
+  pub lies-rest : (all r : ℕ) → all ≡ allBelow (groups im) → within s all ≡ true → r ≡ difference s t
       → (r < 2 ^ groups im) × (within r (below im t) ≡ within s (below im t))
-  lies-rest all r e w is = (rw is (less-below s t (groups im) inside), rw is same)
+  lies-rest all r e w is = (rw is (difference-below s t (groups im) inside), rw is same)
     where
       inside : s < 2 ^ groups im
       inside = within-below s (groups im) (rw e at w)
 
-      same : within (less s t) (below im t) ≡ within s (below im t)
+      same : within (difference s t) (below im t) ≡ within s (below im t)
       same =
-          less-within-same s (below im t) t
+          difference-within-same s (below im t) t
           (λ g m k.
           let l = below-has s (groups im) inside g m in
           true-below im t g l (place-meets (lineage im g) t g (lineage-has-self im g l) k))
@@ -129,9 +129,9 @@ module _ (im : List ℕ) (s t : ℕ) where
         lacks-within s (below im t) g h
         (under.below-has im t g ∙ rw (sym is, m) (and-false (ltb g (groups im))))
 
-    pub lies-on : g < groups im → meets w t ≡ true → within (less s (one g)) (below im t) ≡ within s (below im t)
+    pub lies-on : g < groups im → meets w t ≡ true → within (difference s (one g)) (below im t) ≡ within s (below im t)
     lies-on l m =
-        less-within-same s (below im t) (one g)
+        difference-within-same s (below im t) (one g)
         (λ p h k. rw (sym (eqb-true g p (sym (one-has g p) ∙ k))) (true-below im t g l (rw is at m)))
 
 -- no place is left

@@ -72,7 +72,7 @@ fn lies_below(image: &[u8], table: &Table, set: Groups, other: Groups) -> bool
     if !set.within(Groups::all_below(layout::groups(image))) {
         return false;
     }
-    let mut rest = set.less(other);
+    let mut rest = set.difference(other);
     while !rest.is_empty() {
         let g = rest.first();
         if !stored(table, g).meets(other) {

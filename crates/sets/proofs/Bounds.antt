@@ -4,13 +4,13 @@ use mathlib.Core.Path.{_≡_, refl, sym, ap, _∙_, subst}
 use mathlib.Core.Bool.{Bool, true, false, _&&_, true≢false}
 use Prim.Native.Nat.{ℕ, _-_, _*_, _%_, _^_, _≤_, _<_}
 use native.Mathlib.Nat.{lt-of-le-of-lt, lt-of-lt-of-le, sub-le, mod-lt, mod-eq-of-lt, div-eq-of-lt, lt-of-not-le, one-mul}
-use borrow.Author.Tests.{eqb-true, eq-eqb, lt-ltb, ltb-true, ltb-false}
+use borrow.Author.Tests.{eqb-true, eq-eqb, ltb-false}
 use lib.Bits.{bitAnd, and-mask, and-le-l, or-lt}
 use lib.Dec.{eqb, ltb}
 use lib.Pow.{pow-pos, pow-lt, pow-mono, ones-lt}
-use Rattle.sets.specs.Sets.{has, none, one, allBelow, union, intersection, less, within, collect}
-use Rattle.sets.proofs.Has.{has-ext, allBelow-has, collect-has}
-use Rattle.sets.proofs.Within.{has-within, within-le}
+use Rattle.sets.specs.Sets.{has, none, one, allBelow, union, intersection, difference, within, collect}
+use Rattle.sets.proofs.Has.{has-ext, collect-has}
+use Rattle.sets.proofs.Within.{within-le}
 
 -- ---- places and numbers
 
@@ -29,10 +29,6 @@ pub within-below : (s n : ℕ) → within s (allBelow n) ≡ true → s < 2 ^ n
 unfolding within allBelow
 within-below s n w =
     subst (λ (x : ℕ). x < 2 ^ n) (sym (and-mask s n) ∙ eqb-true (bitAnd s (2 ^ n - 1)) s w) (mod-lt s (pow-pos n))
-
--- a set all of whose places are below n
-pub has-below : (s n : ℕ) → ((p : ℕ) → has s p ≡ true → p < n) → s < 2 ^ n
-has-below s n f = within-below s n (has-within s (allBelow n) (λ p h. allBelow-has n p ∙ lt-ltb p n (f p h)))
 
 -- a part of a set
 pub part-below : (a b n : ℕ) → within a b ≡ true → b < 2 ^ n → a < 2 ^ n
@@ -60,21 +56,11 @@ union-below a b n h k = or-lt n a b h k
 pub intersection-below : (a b n : ℕ) → a < 2 ^ n → intersection a b < 2 ^ n
 intersection-below a b n h = lt-of-le-of-lt (and-le-l a b) h
 
-pub less-below : (a b n : ℕ) → a < 2 ^ n → less a b < 2 ^ n
-unfolding less
-less-below a b n h = lt-of-le-of-lt (sub-le a (bitAnd a b)) h
+pub difference-below : (a b n : ℕ) → a < 2 ^ n → difference a b < 2 ^ n
+unfolding difference
+difference-below a b n h = lt-of-le-of-lt (sub-le a (bitAnd a b)) h
 
 -- ---- collecting
-
--- tests that agree below n collect the same set
-pub collect-ext : (f g : ℕ → Bool) (n : ℕ) → ((p : ℕ) → p < n → f p ≡ g p) → collect f n ≡ collect g n
-collect-ext f g n e =
-    has-ext (collect f n) (collect g n)
-    (λ p. collect-has f n p ∙ at p (ltb p n) refl ∙ sym (collect-has g n p))
-  where
-    at : (p : ℕ) (t : Bool) → ltb p n ≡ t → (ltb p n && f p) ≡ (ltb p n && g p)
-    at p true h = ap (λ (u : Bool). ltb p n && u) (e p (ltb-true p n h))
-    at p false h = rw h
 
 -- a set of places below n is collected again
 pub collect-self : (s n : ℕ) → s < 2 ^ n → collect (has s) n ≡ s

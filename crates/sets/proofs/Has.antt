@@ -12,7 +12,7 @@ use lib.Arith.{bin-ind, digits-div, digits-mod, dbl-pred, lt-of-le-ne}
 use lib.Bits.{bitAnd, bitOr, and-step, or-step, and-le-l, or-shifted-r}
 use lib.Dec.{eqb, ltb, eqb·zero-suc, eqb·suc-zero, eqb·suc-suc, leb·suc-suc, leb·suc-zero}
 use lib.Pow.{pow-pos}
-use Rattle.sets.specs.Sets.{has, none, one, allBelow, union, intersection, less, collect}
+use Rattle.sets.specs.Sets.{has, none, one, allBelow, union, intersection, difference, collect}
 
 -- ---- the lowest place, and the half
 
@@ -28,11 +28,11 @@ has-suc s p =
 two-pos : 0 < 2
 two-pos = zero-lt-suc 1
 
-joined-zero : (h : ℕ) {d : ℕ} → d < 2 → has (h * 2 + d) 0 ≡ eqb d 1
-joined-zero h {d} k = has-zero (h * 2 + d) ∙ ap (λ (x : ℕ). eqb x 1) (digits-mod h k)
+doubled-zero : (h : ℕ) {d : ℕ} → d < 2 → has (h * 2 + d) 0 ≡ eqb d 1
+doubled-zero h {d} k = has-zero (h * 2 + d) ∙ ap (λ (x : ℕ). eqb x 1) (digits-mod h k)
 
-joined-suc : (h p : ℕ) {d : ℕ} → d < 2 → has (h * 2 + d) (suc p) ≡ has h p
-joined-suc h p {d} k = has-suc (h * 2 + d) p ∙ ap (λ (x : ℕ). has x p) (digits-div h k)
+doubled-suc : (h p : ℕ) {d : ℕ} → d < 2 → has (h * 2 + d) (suc p) ≡ has h p
+doubled-suc h p {d} k = has-suc (h * 2 + d) p ∙ ap (λ (x : ℕ). has x p) (digits-div h k)
 
 -- ---- the empty set; sets with the same places
 
@@ -46,8 +46,8 @@ bit (suc zero) h = refl
 bit (suc (suc x)) h = absurd (omega arith)
 
 -- equal digits and equal halves
-joined : {a b : ℕ} → a / 2 ≡ b / 2 → has a 0 ≡ has b 0 → a ≡ b
-joined {a} {b} h e =
+same-digits : {a b : ℕ} → a / 2 ≡ b / 2 → has a 0 ≡ has b 0 → a ≡ b
+same-digits {a} {b} h e =
     sym (div-add-mod' a 2) ∙ ap₂ (λ (x y : ℕ). x * 2 + y) h digit ∙ div-add-mod' b 2
   where
     digit : a % 2 ≡ b % 2
@@ -59,12 +59,12 @@ joined {a} {b} h e =
 zero-ext : (b : ℕ) → ((p : ℕ) → has 0 p ≡ has b p) → 0 ≡ b
 zero-ext =
     bin-ind (λ (b : ℕ). ((p : ℕ) → has 0 p ≡ has b p) → 0 ≡ b) (λ f. refl)
-    (λ b ih f. joined (ih (λ p. none-has p ∙ sym (none-has (suc p)) ∙ f (suc p) ∙ has-suc b p)) (f 0))
+    (λ b ih f. same-digits (ih (λ p. none-has p ∙ sym (none-has (suc p)) ∙ f (suc p) ∙ has-suc b p)) (f 0))
 
 pub has-ext : (a b : ℕ) → ((p : ℕ) → has a p ≡ has b p) → a ≡ b
 has-ext =
     bin-ind (λ (a : ℕ). (b : ℕ) → ((p : ℕ) → has a p ≡ has b p) → a ≡ b) zero-ext
-    (λ a ih b f. joined (ih (b / 2) (λ p. sym (has-suc a p) ∙ f (suc p) ∙ has-suc b p)) (f 0))
+    (λ a ih b f. same-digits (ih (b / 2) (λ p. sym (has-suc a p) ∙ f (suc p) ∙ has-suc b p)) (f 0))
 
 -- a set that is not empty has a place
 pub has-some : (s : ℕ) → (s ≡ 0 → ⊥) → (p : ℕ) × (has s p ≡ true)
@@ -76,7 +76,7 @@ has-some =
         → (p : ℕ) × (has s p ≡ true)
     at s ih n true h = (0, h)
     at s ih n false h =
-        let q = ih (λ z. n (joined z (h ∙ sym (none-has 0)))) in
+        let q = ih (λ z. n (same-digits z (h ∙ sym (none-has 0)))) in
         (suc (q .0), has-suc s (q .0) ∙ q .1)
 
 -- ---- one place; the places below n
@@ -88,10 +88,10 @@ pub one-has : (q p : ℕ) → has (one q) p ≡ eqb q p
 one-has zero zero = has-zero 1
 one-has zero (suc p) = has-suc 1 p ∙ none-has p ∙ sym (eqb·zero-suc p)
 one-has (suc q) zero =
-    ap (λ (x : ℕ). has x 0) (pow-suc 2 q ∙ twice (2 ^ q)) ∙ joined-zero (2 ^ q) two-pos ∙ sym (eqb·suc-zero q)
+    ap (λ (x : ℕ). has x 0) (pow-suc 2 q ∙ twice (2 ^ q)) ∙ doubled-zero (2 ^ q) two-pos ∙ sym (eqb·suc-zero q)
 one-has (suc q) (suc p) =
     ap (λ (x : ℕ). has x (suc p)) (pow-suc 2 q ∙ twice (2 ^ q))
-    ∙ joined-suc (2 ^ q) p two-pos ∙ one-has q p ∙ sym (eqb·suc-suc q p)
+    ∙ doubled-suc (2 ^ q) p two-pos ∙ one-has q p ∙ sym (eqb·suc-suc q p)
 
 ones : (n : ℕ) → 2 ^ suc n - 1 ≡ (2 ^ n - 1) * 2 + 1
 ones n = ap (λ (x : ℕ). x - 1) (pow-suc 2 n) ∙ dbl-pred (pow-pos n)
@@ -100,10 +100,10 @@ pub allBelow-has : (n p : ℕ) → has (allBelow n) p ≡ ltb p n
 unfolding allBelow
 allBelow-has zero p = none-has p ∙ sym (leb·suc-zero p)
 allBelow-has (suc n) zero =
-    ap (λ (x : ℕ). has x 0) (ones n) ∙ joined-zero (2 ^ n - 1) (omega arith) ∙ sym (lt-ltb 0 (suc n) (zero-lt-suc n))
+    ap (λ (x : ℕ). has x 0) (ones n) ∙ doubled-zero (2 ^ n - 1) (omega arith) ∙ sym (lt-ltb 0 (suc n) (zero-lt-suc n))
 allBelow-has (suc n) (suc p) =
     ap (λ (x : ℕ). has x (suc p)) (ones n)
-    ∙ joined-suc (2 ^ n - 1) p (omega arith) ∙ allBelow-has n p ∙ sym (leb·suc-suc (suc p) n)
+    ∙ doubled-suc (2 ^ n - 1) p (omega arith) ∙ allBelow-has n p ∙ sym (leb·suc-suc (suc p) n)
 
 -- ---- an operation that goes digit by digit: d on numbers below 2, f on the tests
 
@@ -116,11 +116,11 @@ module _ (op d : ℕ → ℕ → ℕ) (f : Bool → Bool → Bool)
   digits-has : (p a b : ℕ) → has (op a b) p ≡ f (has a p) (has b p)
   digits-has zero a b =
       ap (λ (x : ℕ). has x 0) (step a b)
-      ∙ joined-zero (op (a / 2) (b / 2)) (digit a b .0)
+      ∙ doubled-zero (op (a / 2) (b / 2)) (digit a b .0)
       ∙ digit a b .1 ∙ ap₂ f (sym (has-zero a)) (sym (has-zero b))
   digits-has (suc p) a b =
       ap (λ (x : ℕ). has x (suc p)) (step a b)
-      ∙ joined-suc (op (a / 2) (b / 2)) p (digit a b .0)
+      ∙ doubled-suc (op (a / 2) (b / 2)) p (digit a b .0)
       ∙ digits-has p (a / 2) (b / 2) ∙ ap₂ f (sym (has-suc a p)) (sym (has-suc b p))
 
 -- what holds of two digits holds of two numbers below 2
@@ -153,12 +153,12 @@ pub intersection-both : (a b p : ℕ) → has (intersection a b) p ≡ true → 
 intersection-both a b p h = and-eq-true-iff (has a p) (has b p) .0 (sym (intersection-has a b p) ∙ h)
 
 -- a difference of digits never borrows: a digit of the intersection is at most that of a
-less-step : (a b : ℕ) → less a b ≡ less (a / 2) (b / 2) * 2 + (a % 2 - min (a % 2) (b % 2))
-unfolding less
-less-step a b = omega (arith, and-step a b, and-le-l (a / 2) (b / 2), div-add-mod' a 2, min-le-left (a % 2) (b % 2))
+difference-step : (a b : ℕ) → difference a b ≡ difference (a / 2) (b / 2) * 2 + (a % 2 - min (a % 2) (b % 2))
+unfolding difference
+difference-step a b = omega (arith, and-step a b, and-le-l (a / 2) (b / 2), div-add-mod' a 2, min-le-left (a % 2) (b % 2))
 
-pub less-has : (a b p : ℕ) → has (less a b) p ≡ (has a p && not (has b p))
-less-has a b p = digits-has less (λ x y. x - min x y) (λ s t. s && not t) less-step small p a b
+pub difference-has : (a b p : ℕ) → has (difference a b) p ≡ (has a p && not (has b p))
+difference-has a b p = digits-has difference (λ x y. x - min x y) (λ s t. s && not t) difference-step small p a b
   where
     small : (x y : ℕ) → x < 2 → y < 2 → (x - min x y < 2) × (eqb (x - min x y) 1 ≡ (eqb x 1 && not (eqb y 1)))
     small =

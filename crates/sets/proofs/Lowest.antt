@@ -10,9 +10,9 @@ use lib.Arith.{lt-of-le-ne}
 use lib.Bits.{bitAnd}
 use lib.Count.{trailingZeros, under}
 use lib.Dec.{eqb, ltb}
-use Rattle.sets.specs.Sets.{has, one, less, empty, Lowest}
-use Rattle.sets.proofs.Has.{has-zero, has-suc, one-has, less-has}
-use Rattle.sets.proofs.Meets.{empty-lacks, empty-place}
+use Rattle.sets.specs.Sets.{has, one, difference, empty, Lowest}
+use Rattle.sets.proofs.Has.{has-zero, has-suc, one-has, difference-has}
+use Rattle.sets.proofs.Meets.{empty-place}
 use Rattle.sets.proofs.Bounds.{below-has}
 
 -- ---- the zeros below the lowest place of a word
@@ -51,14 +51,6 @@ module _ (n s p : ℕ) (l : Lowest n s p) where
           let m : q .0 < p = omega (arith, below-has s n h (q .0) (q .1)) in
           true≢false (sym (q .1) ∙ l .lower (q .0) m))
 
-  -- of an empty set: n
-  pub lowest-none : empty s ≡ true → p ≡ n
-  lowest-none e = at (ltb p n) refl
-    where
-      at : (t : Bool) → ltb p n ≡ t → p ≡ n
-      at true k = absurd (true≢false (sym (l .here (ltb-true p n k)) ∙ empty-lacks s e p))
-      at false k = omega (arith, ltb-false p n k, l .upto)
-
   -- there is only one
   not-lower : (q : ℕ) → Lowest n s q → q < p → ⊥
   not-lower q m k = true≢false (sym (m .here (omega (arith, l .upto))) ∙ l .lower q k)
@@ -73,16 +65,16 @@ lowest-same n s p q l m = at (ltb p q) (ltb q p) refl refl
 
 -- ---- a set without a place
 
-pub without-lacks : (s p : ℕ) → has (less s (one p)) p ≡ false
-without-lacks s p = less-has s (one p) p ∙ at (has s p)
+pub without-lacks : (s p : ℕ) → has (difference s (one p)) p ≡ false
+without-lacks s p = difference-has s (one p) p ∙ at (has s p)
   where
     at : (t : Bool) → (t && not (has (one p) p)) ≡ false
     at true = ap not (one-has p p ∙ eq-eqb p p refl)
     at false = refl
 
 -- without one of its places it is smaller, so that a loop which takes place after place ends
-pub without-smaller : (s p : ℕ) → has s p ≡ true → less s (one p) < s
-unfolding less
+pub without-smaller : (s p : ℕ) → has s p ≡ true → difference s (one p) < s
+unfolding difference
 without-smaller s p h =
     lt-of-le-ne (sub-le s (bitAnd s (one p)))
     (λ e. true≢false (sym h ∙ ap (λ (x : ℕ). has x p) (sym e) ∙ without-lacks s p))

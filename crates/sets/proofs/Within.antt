@@ -6,8 +6,8 @@ use Prim.Native.Nat.{ℕ, _≤_}
 use native.Mathlib.Nat.{le-trans, le-of-eq}
 use borrow.Author.Tests.{eqb-true, eq-eqb}
 use lib.Bits.{bitAnd, and-comm, and-self, and-le-r}
-use Rattle.sets.specs.Sets.{has, none, union, intersection, less, within}
-use Rattle.sets.proofs.Has.{has-ext, union-has, intersection-has, intersection-both, less-has}
+use Rattle.sets.specs.Sets.{has, none, union, intersection, difference, within}
+use Rattle.sets.proofs.Has.{has-ext, union-has, intersection-has, intersection-both, difference-has}
 
 within-eq : (a b : ℕ) → within a b ≡ true → intersection a b ≡ a
 unfolding within
@@ -30,14 +30,6 @@ has-within a b f =
     at : (s t : Bool) → (s ≡ true → t ≡ true) → (s && t) ≡ s
     at true t h = h refl
     at false t h = refl
-
--- a place that b lacks, a lacks too
-pub within-lacks : (a b : ℕ) → within a b ≡ true → (p : ℕ) → has b p ≡ false → has a p ≡ false
-within-lacks a b w p h = at (has a p) (has b p) (within-has a b w p) h
-  where
-    at : (s t : Bool) → (s ≡ true → t ≡ true) → t ≡ false → s ≡ false
-    at true t k e = absurd (true≢false (sym (k refl) ∙ e))
-    at false t k e = refl
 
 -- ---- as an order
 
@@ -86,24 +78,24 @@ within-union-both a b c v w =
     at true t f g e = f refl
     at false t f g e = g e
 
-pub less-within : (a b : ℕ) → within (less a b) a ≡ true
-less-within a b = has-within (less a b) a (λ p h. and-eq-true-iff (has a p) (not (has b p)) .0 (sym (less-has a b p) ∙ h) .0)
+pub difference-within : (a b : ℕ) → within (difference a b) a ≡ true
+difference-within a b = has-within (difference a b) a (λ p h. and-eq-true-iff (has a p) (not (has b p)) .0 (sym (difference-has a b p) ∙ h) .0)
 
 -- places of a that b has too may be left out
-pub less-within-same : (a b c : ℕ) → ((p : ℕ) → has a p ≡ true → has c p ≡ true → has b p ≡ true)
-    → within (less a c) b ≡ within a b
-less-within-same a b c f = at (within a b) refl
+pub difference-within-same : (a b c : ℕ) → ((p : ℕ) → has a p ≡ true → has c p ≡ true → has b p ≡ true)
+    → within (difference a c) b ≡ within a b
+difference-within-same a b c f = at (within a b) refl
   where
-    rest : within (less a c) b ≡ true → (p : ℕ) → has a p ≡ true → (t : Bool) → has c p ≡ t → has b p ≡ true
+    rest : within (difference a c) b ≡ true → (p : ℕ) → has a p ≡ true → (t : Bool) → has c p ≡ t → has b p ≡ true
     rest w p h true e = f p h e
     rest w p h false e =
-        within-has (less a c) b w p (less-has a c p ∙ ap₂ (λ (s t : Bool). s && not t) h e)
+        within-has (difference a c) b w p (difference-has a c p ∙ ap₂ (λ (s t : Bool). s && not t) h e)
 
-    at : (t : Bool) → within a b ≡ t → within (less a c) b ≡ t
-    at true w = within-trans (less a c) a b (less-within a c) w
-    at false w = under (within (less a c) b) refl
+    at : (t : Bool) → within a b ≡ t → within (difference a c) b ≡ t
+    at true w = within-trans (difference a c) a b (difference-within a c) w
+    at false w = under (within (difference a c) b) refl
       where
-        under : (t : Bool) → within (less a c) b ≡ t → t ≡ false
+        under : (t : Bool) → within (difference a c) b ≡ t → t ≡ false
         under true v = absurd (true≢false (sym (has-within a b (λ p h. rest v p h (has c p) refl)) ∙ w))
         under false v = refl
 

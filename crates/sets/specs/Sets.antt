@@ -2,8 +2,8 @@
 -- a set, `&` of two words is their intersection, and every law holds at any width.
 --
 -- The names: `has` is membership; `none`, `one p`, `allBelow n` and `collect f n` are sets; `union`, `intersection` and
--- `less` make a set of two; `within` (inclusion), `meets` (a common place) and `empty` are tests; `Lowest` says which place
--- is the first. A law is named by the operation and then the fact: `union-has`, `within-trans`, `less-below`. Assumes nothing.
+-- `difference` make a set of two; `within` (inclusion), `meets` (a common place) and `empty` are tests; `Lowest` says which place
+-- is the first. A law is named by the operation and then the fact: `union-has`, `within-trans`, `difference-below`. Assumes nothing.
 use mathlib.Core.Path.{_≡_}
 use mathlib.Core.Bool.{Bool, true, false, not, cond}
 use Prim.Native.Nat.{ℕ, zero, suc, _+_, _-_, _/_, _%_, _^_, _≤_, _<_}
@@ -32,8 +32,8 @@ abbrev pub intersection : ℕ → ℕ → ℕ
 intersection = bitAnd
 
 -- the places of a that are not in b
-unfoldable pub less : ℕ → ℕ → ℕ
-less a b = a - bitAnd a b
+unfoldable pub difference : ℕ → ℕ → ℕ
+difference a b = a - bitAnd a b
 
 -- every place of a is in b
 unfoldable pub within : ℕ → ℕ → Bool

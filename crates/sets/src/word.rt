@@ -63,8 +63,8 @@ pub fn intersection(a: u64, b: u64) -> u64
 }
 
 // The places of a that are not in b.
-pub fn less(a: u64, b: u64) -> u64
-    ensures { λ r. ⌜ r ≡ sets.less a b ⌝ }
+pub fn difference(a: u64, b: u64) -> u64
+    ensures { λ r. ⌜ r ≡ sets.difference a b ⌝ }
 {
     a - (a & b)
 }
@@ -72,9 +72,9 @@ pub fn less(a: u64, b: u64) -> u64
 // s but for the place p.
 pub fn without(s: u64, p: usize) -> u64
     requires { ⌜ p < 64 ⌝ }
-    ensures { λ r. ⌜ r ≡ sets.less s (one p) ⌝ }
+    ensures { λ r. ⌜ r ≡ sets.difference s (one p) ⌝ }
 {
-    less(s, 1u64 << p)
+    difference(s, 1u64 << p)
 }
 
 // The lowest place of s; 64 where s is empty.

@@ -18,12 +18,12 @@ returns-2 : tie.Need-returns-2
 unfolding mergeSets
 returns-2 c = rw (ne-eqb _ _ (c .before .before .if1 .left), eq-eqb _ _ (c .before .if2 .taken)) (c .intersection .ensures)
 
-less-requires : tie.Need-less-requires
-less-requires c κs = search needs
+difference-requires : tie.Need-difference-requires
+difference-requires c κs = search needs
 
 returns-3 : tie.Need-returns-3
 unfolding mergeSets
-returns-3 c = rw (ne-eqb _ _ (c .before .before .before .if1 .left), ne-eqb _ _ (c .before .before .if2 .left), eq-eqb _ _ (c .before .if3 .taken)) (c .less .ensures)
+returns-3 c = rw (ne-eqb _ _ (c .before .before .before .if1 .left), ne-eqb _ _ (c .before .before .if2 .left), eq-eqb _ _ (c .before .if3 .taken)) (c .difference .ensures)
 
 none-requires : tie.Need-none-requires
 none-requires c κs = search needs
@@ -40,7 +40,7 @@ merge-groups-spec =
     returns
     intersection-requires
     returns-2
-    less-requires
+    difference-requires
     returns-3
     none-requires
     returns-4)

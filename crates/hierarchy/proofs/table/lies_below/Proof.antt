@@ -4,7 +4,7 @@ use borrow.Author.Needs.{needs}
 use borrow.Author.Tests.{not-true, not-false}
 use Rattle.sets.specs.Sets.{within, allBelow}
 use Rattle.sets.specs.Groups.{placesOf}
-use Rattle.sets.proofs.Bounds.{less-below, below-has}
+use Rattle.sets.proofs.Bounds.{difference-below, below-has}
 use Rattle.sets.proofs.Lowest.{lowest-in, without-smaller}
 use Rattle.sets.proofs.Places.{places-below}
 use Rattle.header.specs.Layout.{groups}
@@ -38,15 +38,15 @@ returns c =
     let no = sym (c .before .within .ensures) ∙ not-true _ (c .if1 .taken) in
     sym (lies-outside _ _ _ (out ∙ no))
 
-less-requires : tie.Need-less-requires Inv-loop μ-loop
-less-requires c κs = search needs
+difference-requires : tie.Need-difference-requires Inv-loop μ-loop
+difference-requires c κs = search needs
 
 loop-holds : tie.Need-loop-holds Inv-loop μ-loop
 loop-holds c =
     let count = c .before .before .before .before .groups .ensures .0 in
     let all = c .before .before .before .all-below .ensures ∙ ap allBelow count in
     let yes = sym (c .before .before .within .ensures) ∙ not-false _ (c .before .if1 .left) in
-    (lies-rest _ _ _ _ _ all yes (c .less .ensures) .0, refl)
+    (lies-rest _ _ _ _ _ all yes (c .difference .ensures) .0, refl)
 
 is-empty-requires : tie.Need-is-empty-requires Inv-loop μ-loop
 is-empty-requires c κs = search needs
@@ -77,7 +77,7 @@ returns-2 c =
     let group = below-has _ _ (at .loop .inv .0) _ (found .1) in
     let is = c .before .before .stored .ensures ∙ from .before .before .before .before .before .before .pre .1 _ group in
     let apart = sym (c .before .meets .ensures) ∙ not-true _ (c .if3 .taken) in
-    sym (lies-no _ _ _ _ _ is (found .1) apart) ∙ at .loop .inv .1 ∙ lies-rest _ _ _ _ _ all yes (from .less .ensures) .1
+    sym (lies-no _ _ _ _ _ is (found .1) apart) ∙ at .loop .inv .1 ∙ lies-rest _ _ _ _ _ all yes (from .difference .ensures) .1
 
 without-requires : tie.Need-without-requires Inv-loop μ-loop
 without-requires c κs =
@@ -106,7 +106,7 @@ loop-again c =
     let is = c .before .before .before .stored .ensures ∙ from .before .before .before .before .before .before .pre .1 _ group in
     let met = sym (c .before .before .meets .ensures) ∙ not-false _ (c .before .if3 .left) in
     let less = c .without .ensures in
-    (rw less (less-below _ _ _ (at .loop .inv .0)), rw less (lies-on _ _ _ _ _ is group met ∙ at .loop .inv .1))
+    (rw less (difference-below _ _ _ (at .loop .inv .0)), rw less (lies-on _ _ _ _ _ is group met ∙ at .loop .inv .1))
 
 returns-3 : tie.Need-returns-3 Inv-loop μ-loop
 returns-3 c =
@@ -116,7 +116,7 @@ returns-3 c =
     let all = from .before .before .before .all-below .ensures ∙ ap allBelow count in
     let yes = sym (from .before .before .within .ensures) ∙ not-false _ (from .before .if1 .left) in
     let none = sym (c .before .is-empty .ensures) ∙ not-false _ (c .if2 .left) in
-    sym (lies-none _ _ _ none) ∙ at .loop .inv .1 ∙ lies-rest _ _ _ _ _ all yes (from .less .ensures) .1
+    sym (lies-none _ _ _ none) ∙ at .loop .inv .1 ∙ lies-rest _ _ _ _ _ all yes (from .difference .ensures) .1
 
 pub lies-below-spec : {M : Type 1} → statement M
 lies-below-spec =
@@ -128,7 +128,7 @@ lies-below-spec =
     all-below-requires
     within-requires
     returns
-    less-requires
+    difference-requires
     loop-holds
     is-empty-requires
     first-requires

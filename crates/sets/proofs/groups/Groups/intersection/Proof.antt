@@ -1,9 +1,10 @@
 -- `sets::groups::Groups::intersection` meets its contract, by what the words' operation ensures.
 -- Assumes nothing.
 use borrow.Author.Needs.{needs}
-use mathlib.Core.Path.{sym, ap₂, _∙_}
-use Rattle.sets.specs.Sets.{intersection}
-use Rattle.sets.proofs.Places.{places-word}
+use mathlib.Core.Path.{refl}
+use mathlib.Core.List.{zipWith}
+use Rattle.sets.specs.Groups.{placesOf, wordsIn}
+use Rattle.sets.proofs.EachWord.{joined-intersection}
 use Rattle.sets.proofs.groups.Groups.intersection.Statement.{statement}
 use Rattle.sets.proofs.groups.Groups.intersection.Tie as tie
 
@@ -11,11 +12,10 @@ intersection-requires : tie.Need-intersection-requires
 intersection-requires c κs = search needs
 
 returns : tie.Need-returns
+unfolding placesOf zipWith
 returns c =
     let a = c .before .args in
-    places-word record { w0 = c .intersection .result } (search needs)
-    ∙ c .intersection .ensures
-    ∙ sym (ap₂ intersection (places-word (a .self) (search needs)) (places-word (a .other) (search needs)))
+    rw (c .intersection .ensures) (joined-intersection (wordsIn (a .self)) (wordsIn (a .other)) refl)
 
 pub intersection-spec : {M : Type 1} → statement M
 intersection-spec = tie.close (tie.spec intersection-requires returns)

@@ -1,9 +1,9 @@
 -- `sets::groups::Groups::is_empty` meets its contract, by what the word's test ensures.
 -- Assumes nothing.
 use borrow.Author.Needs.{needs}
-use mathlib.Core.Path.{sym, ap, _∙_}
-use Rattle.sets.specs.Sets.{empty}
-use Rattle.sets.proofs.Places.{places-word}
+use mathlib.Core.Path.{_∙_}
+use Rattle.sets.specs.Groups.{placesOf, wordsIn}
+use Rattle.sets.proofs.EachWord.{joined-empty}
 use Rattle.sets.proofs.groups.Groups.is_empty.Statement.{statement}
 use Rattle.sets.proofs.groups.Groups.is_empty.Tie as tie
 
@@ -11,7 +11,8 @@ is-empty-requires : tie.Need-is-empty-requires
 is-empty-requires c κs = search needs
 
 returns : tie.Need-returns
-returns c = c .is-empty .ensures ∙ sym (ap empty (places-word (c .before .args .self) (search needs)))
+unfolding placesOf
+returns c = c .is-empty .ensures ∙ joined-empty (wordsIn (c .before .args .self)) (search needs)
 
 pub is-empty-spec : {M : Type 1} → statement M
 is-empty-spec = tie.close (tie.spec is-empty-requires returns)

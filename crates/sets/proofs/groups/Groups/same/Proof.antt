@@ -1,15 +1,17 @@
 -- `sets::groups::Groups::same` meets its contract: both sets are one word each. Assumes nothing.
 use borrow.Author.Needs.{needs}
-use mathlib.Core.Path.{sym, ap₂, _∙_}
-use lib.Dec.{eqb}
-use Rattle.sets.proofs.Places.{places-word}
+use mathlib.Core.Path.{refl}
+use mathlib.Core.List.{zipWith}
+use Rattle.sets.specs.Groups.{placesOf, wordsIn}
+use Rattle.sets.proofs.EachWord.{joined-eqb}
 use Rattle.sets.proofs.groups.Groups.same.Statement.{statement}
 use Rattle.sets.proofs.groups.Groups.same.Tie as tie
 
 returns : tie.Need-returns
+unfolding placesOf zipWith
 returns c =
     let a = c .before .before .args in
-    sym (ap₂ eqb (places-word (a .self) (search needs)) (places-word (a .other) (search needs)))
+    joined-eqb (wordsIn (a .self)) (wordsIn (a .other)) refl (search needs) (search needs)
 
 pub same-spec : {M : Type 1} → statement M
 same-spec = tie.close (tie.spec returns)

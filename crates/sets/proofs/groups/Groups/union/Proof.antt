@@ -1,9 +1,10 @@
 -- `sets::groups::Groups::union` meets its contract, by what the words' operation ensures.
 -- Assumes nothing.
 use borrow.Author.Needs.{needs}
-use mathlib.Core.Path.{sym, ap₂, _∙_}
-use Rattle.sets.specs.Sets.{union}
-use Rattle.sets.proofs.Places.{places-word}
+use mathlib.Core.Path.{refl}
+use mathlib.Core.List.{zipWith}
+use Rattle.sets.specs.Groups.{placesOf, wordsIn}
+use Rattle.sets.proofs.EachWord.{joined-union}
 use Rattle.sets.proofs.groups.Groups.union.Statement.{statement}
 use Rattle.sets.proofs.groups.Groups.union.Tie as tie
 
@@ -11,11 +12,10 @@ union-requires : tie.Need-union-requires
 union-requires c κs = search needs
 
 returns : tie.Need-returns
+unfolding placesOf zipWith
 returns c =
     let a = c .before .args in
-    places-word record { w0 = c .union .result } (search needs)
-    ∙ c .union .ensures
-    ∙ sym (ap₂ union (places-word (a .self) (search needs)) (places-word (a .other) (search needs)))
+    rw (c .union .ensures) (joined-union (wordsIn (a .self)) (wordsIn (a .other)) refl)
 
 pub union-spec : {M : Type 1} → statement M
 union-spec = tie.close (tie.spec union-requires returns)

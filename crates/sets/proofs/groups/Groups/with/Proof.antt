@@ -1,10 +1,9 @@
 -- `sets::groups::Groups::with` meets its contract, by what the word's operation ensures.
 -- Assumes nothing.
 use borrow.Author.Needs.{needs}
-use mathlib.Core.Path.{sym, ap, _∙_}
-use Prim.Native.Nat.{ℕ}
-use Rattle.sets.specs.Sets.{union, one}
-use Rattle.sets.proofs.Places.{places-word}
+use native.Mathlib.Omega.{arith}
+use Rattle.sets.specs.Groups.{placesOf, wordsIn}
+use Rattle.sets.proofs.EachWord.{joined-with}
 use Rattle.sets.proofs.groups.Groups.with.Statement.{statement}
 use Rattle.sets.proofs.groups.Groups.with.Tie as tie
 
@@ -12,11 +11,10 @@ with-requires : tie.Need-with-requires
 with-requires c κs = search needs
 
 returns : tie.Need-returns
+unfolding placesOf
 returns c =
     let a = c .before .args in
-    places-word record { w0 = c .with .result } (search needs)
-    ∙ c .with .ensures
-    ∙ sym (ap (λ (s : ℕ). union s (one (a .p))) (places-word (a .self) (search needs)))
+    rw (c .with .ensures) (joined-with (wordsIn (a .self)) 0 (a .p) (a .p) (omega arith) (search needs) (omega arith))
 
 pub with-spec : {M : Type 1} → statement M
 with-spec = tie.close (tie.spec with-requires returns)
