@@ -1,5 +1,5 @@
 use Rattle.buffers.proofs.Left.{written-none}
-use Rattle.lines.proofs.Told.{place-none, room-place, written-place}
+use Rattle.lines.proofs.RefusalText.{place-none, room-place, written-place}
 use borrow.Author.Needs.{needs}
 use Rattle.lines.proofs.refused.put_place.Statement.{statement}
 use Rattle.lines.proofs.refused.put_place.Tie as tie

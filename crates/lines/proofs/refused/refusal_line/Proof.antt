@@ -2,7 +2,7 @@ use Prim.Native.Nat.{_^_, _<_}
 use mathlib.Core.Path.{_∙_}
 use native.Mathlib.Omega.{arith}
 use lib.ListN.{length, length-set}
-use Rattle.lines.proofs.Told.{room-number, room-block, room-newline, written-refused}
+use Rattle.lines.proofs.RefusalText.{room-number, room-block, room-newline, written-refused}
 use borrow.Author.Needs.{needs}
 use Rattle.lines.proofs.refused.refusal_line.Statement.{statement}
 use Rattle.lines.proofs.refused.refusal_line.Tie as tie
