@@ -10,6 +10,7 @@ ghost use Rattle.image.specs.Check.{IsAccepted};
 ghost use Rattle.lines.specs.Parts.{stepsAt, stepsAfter};
 use hierarchy::table;
 use hierarchy::table::Table;
+use libc::STDERR_FILENO;
 use libc::STDIN_FILENO;
 use libc::STDOUT_FILENO;
 use lines::parts::Cursor;
@@ -58,20 +59,26 @@ fn write_long_input_line() {
     write_front(&text, n);
 }
 
-// Is there a byte of input past those that were read?
-fn input_left() -> bool {
+// Reads on past the bytes that were read: 0 at the input's end, 1 where there is more, and -1 where the read fails.
+fn read_past() -> isize {
     let mut next = [0u8; 1];
-    io::read_full(STDIN_FILENO, &mut next) != 0
+    libc::read(STDIN_FILENO, &mut next)
 }
 
+// A read that fails, or that stops before the input's end, is no image: it gives no report.
 fn main() {
     let mut image = [0; 65536];
     let n = io::read_full(STDIN_FILENO, &mut image);
-    if n == 65536 {
-        if input_left() {
+    let past = read_past();
+    if past == 0 {
+        write_output(&image[..n]);
+        return;
+    }
+    if past > 0 {
+        if n == 65536 {
             write_long_input_line();
             return;
         }
     }
-    write_output(&image[..n]);
+    io::write_all(STDERR_FILENO, b"read failed\n");
 }
