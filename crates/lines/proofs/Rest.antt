@@ -156,9 +156,6 @@ parts-joined (last one none) = rw none at (one .joined)
 parts-joined {im} (andThen {text} {after} {p} one more rest) =
     ap (λ (t : List ℕ). take (p .length) after ++ t) (parts-joined rest) ∙ (rw more at (one .joined))
 
--- so a run that begins with the first part writes the output, and one from the start of an accepted image the report
+-- so a run that begins with the first part writes the output: the report of an accepted image, or the refusal's line
 pub output-joined : {im : List ℕ} {parts : List (List ℕ)} → PartsOf im (outputOf im) parts → flatten parts ≡ outputOf im
 output-joined run = parts-joined run
-
-pub report-joined : {im : List ℕ} {parts : List (List ℕ)} → PartsOf im (restOf im start) parts → flatten parts ≡ reportOf im
-report-joined {im} run = parts-joined run ∙ rest-start im

@@ -12,7 +12,6 @@ use header::layout;
 use hierarchy::table;
 use hierarchy::table::Table;
 use image::check;
-use refusals::Refusal;
 use refusals::answers::Checked;
 use sessions::given::opened_rights;
 
