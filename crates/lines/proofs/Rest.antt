@@ -18,9 +18,8 @@ use Rattle.refusals.specs.declared.Refusal.{Refusal}
 use Rattle.refusals.specs.declared.Refusal.the-variants.{ImageLength}
 use Rattle.refusals.specs.declared.answers.Checked.the-variants.{Refused}
 use Rattle.lines.specs.declared.parts.Cursor.{Cursor}
-use Rattle.lines.specs.declared.parts.Part.{Part}
-use Rattle.lines.specs.Lines.{linesFrom, usersFrom, reportOf, refusedLine, outputOf}
-use Rattle.lines.specs.Parts.{userRest, restFrom, restOf, start, restAfter, PartOf, stepsAt, stepsAfter, NextPart, FirstPart, LongOutput, PartsOf, last, andThen, FilledFrom}
+use Rattle.lines.specs.Lines.{usersFrom, reportOf, refusedLine, outputOf}
+use Rattle.lines.specs.Parts.{userRest, restFrom, restOf, start, stepsAt, NextPart, FirstPart, LongOutput, PartsOf, last, andThen, FilledFrom}
 use Rattle.lines.proofs.Turns.{rest-none}
 use Rattle.lines.proofs.Saying.{past-buffer}
 

@@ -28,7 +28,7 @@ restFrom im (suc n) u k = userRest im u k ++ usersFrom im n (suc u)
 unfoldable pub restOf : List ℕ → Cursor → List ℕ
 restOf im c = restFrom im (users im - c .user) (c .user) (c .label)
 
--- the first line's
+-- the cursor of the first line
 abbrev pub start : Cursor
 start = record { user = 0; label = 0 }
 
