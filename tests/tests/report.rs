@@ -8,6 +8,8 @@ use brawnesk_tests::compare::seeds;
 use brawnesk_tests::model;
 use brawnesk_tests::program::report;
 use brawnesk_tests::rng::Rng;
+use std::fs::File;
+use std::process::Command;
 use std::time::{Duration, Instant};
 
 const CASES: u64 = 500;
@@ -111,6 +113,19 @@ fn input_past_the_buffer_is_refused() {
         b"refused 2 at block 127\n"
     );
     assert_eq!(report(&[&image[..], &[0; 513]].concat()), b"refused 1\n");
+}
+
+/// A read that fails, as of a folder, is no image: it gives no report and no refusal, and one line to standard error.
+#[test]
+fn a_failed_read_gives_no_report() {
+    let folder = File::open(env!("CARGO_MANIFEST_DIR")).expect("the folder is there");
+    let program = concat!(env!("CARGO_MANIFEST_DIR"), "/../target/bin/report");
+    let output = Command::new(program)
+        .stdin(folder)
+        .output()
+        .expect("`rt check report` builds it");
+    assert_eq!(output.stdout, b"");
+    assert_eq!(output.stderr, b"read failed\n");
 }
 
 /// Lines of every length, so that the buffer ends at every place of a line.

@@ -1,22 +1,34 @@
 -- Texts written one after the other. Assumes nothing.
-use Prim.Native.Nat.{ℕ, _+_, _≤_}
+use Prim.Native.Nat.{ℕ, _+_, _≤_, _<_}
 use mathlib.Core.Path.{_≡_, refl, sym, ap, ap₂, _∙_}
-use mathlib.Core.List.{List, [], _++_}
+use mathlib.Core.List.{List, [], _∷_, _++_}
 use native.Mathlib.Nat.{add-zero}
 use native.Mathlib.Omega.{arith}
-use lib.ListN.{length, length-append}
+use lib.ListN.{length, take, set, length-append}
 use Rattle.buffers.specs.Pasting.{pasted, Written}
-use Rattle.buffers.proofs.Pasted.{pasted-none, pasted-length, pasted-after}
+use Rattle.buffers.proofs.Pasted.{pasted-none, pasted-length, pasted-taken, pasted-after, pasted-byte, byte-after}
 
 -- nothing is written
 pub written-none : (b : List ℕ) (e : ℕ) (text : List ℕ) → text ≡ [] → Written b e text b e
 written-none b e text n =
     record { bytes = sym (ap (pasted b e) n ∙ pasted-none b e); stop = sym (ap (λ (t : List ℕ). e + length t) n ∙ add-zero e) }
 
+-- a byte alone, and a byte and then a text
+module _ (b : List ℕ) (e v : ℕ) (inside : e < length b) where
+  pub byte-alone : Written b e (v ∷ []) (set b e v) (e + 1)
+  byte-alone = record { bytes = sym (pasted-byte b e v inside); stop = refl }
+
+  pub byte-then : {y after : List ℕ} {r : ℕ} → Written (set b e v) (e + 1) y after r → Written b e (v ∷ y) after r
+  byte-then {y} w = record { bytes = w .bytes ∙ byte-after b e v y inside; stop = omega (arith, w .stop) }
+
 -- one text after another
 module _ {b : List ℕ} {e : ℕ} {x mid : List ℕ} {r : ℕ} (fits : e + length x ≤ length b) (v : Written b e x mid r) where
   pub written-long : length mid ≡ length b
   written-long = ap length (v .bytes) ∙ pasted-length b e x fits
+
+  -- the bytes up to where the text ends
+  pub written-taken : take r mid ≡ take e b ++ x
+  written-taken = ap₂ take (v .stop) (v .bytes) ∙ pasted-taken b e x fits
 
   pub written-then : {y after : List ℕ} {q : ℕ} → Written mid r y after q → Written b e (x ++ y) after q
   written-then {y} w =

@@ -31,8 +31,8 @@ module _ (b : List ℕ) (e : ℕ) (x : List ℕ) (fits : e + length x ≤ length
       ∙ length-append (take e b ++ x) (drop (e + length x) b)
       ∙ simp length-drop (omega arith)
 
-  taken : take (e + length x) (pasted b e x) ≡ take e b ++ x
-  taken = ap (take (e + length x)) regroup ∙ take-at (take e b ++ x) (drop (e + length x) b) (e + length x) head-length
+  pub pasted-taken : take (e + length x) (pasted b e x) ≡ take e b ++ x
+  pasted-taken = ap (take (e + length x)) regroup ∙ take-at (take e b ++ x) (drop (e + length x) b) (e + length x) head-length
 
   dropped : drop (e + length x) (pasted b e x) ≡ drop (e + length x) b
   dropped = ap (drop (e + length x)) regroup ∙ drop-at (take e b ++ x) (drop (e + length x) b) (e + length x) head-length
@@ -44,7 +44,7 @@ module _ (b : List ℕ) (e : ℕ) (x : List ℕ) (fits : e + length x ≤ length
   pub pasted-after : (y : List ℕ) → pasted (pasted b e x) (e + length x) y ≡ pasted b e (x ++ y)
   unfolding pasted
   pasted-after y =
-      ap₂ (λ (s t : List ℕ). s ++ y ++ t) taken (rest (length y))
+      ap₂ (λ (s t : List ℕ). s ++ y ++ t) pasted-taken (rest (length y))
       ∙ ap₂ (λ (s : List ℕ) (n : ℕ). s ++ drop n b) (append-assoc (take e b) x y)
       (add-assoc e (length x) (length y) ∙ ap (λ (n : ℕ). e + n) (sym (length-append x y)))
 

@@ -1,13 +1,12 @@
 -- A line, written as a name, a tag and an ending one after the other, and how long it is at most. Assumes nothing.
 use Prim.Native.Nat.{ℕ, _+_, _^_, _≤_, _<_}
-use mathlib.Core.Path.{_≡_, refl, ap, ap₂, subst, _∙_}
+use mathlib.Core.Path.{_≡_, refl, ap, ap₂, subst}
 use mathlib.Core.List.{List, _∷_, _++_}
 use native.Mathlib.Nat.{le-trans, le-of-eq, min-le-left}
 use native.Mathlib.Omega.{arith}
 use lib.Dec.{lit≤}
-use lib.ListN.{length, drop, set, length-append, length-take}
+use lib.ListN.{length, drop, length-append, length-take}
 use Rattle.buffers.specs.Pasting.{Written}
-use Rattle.buffers.proofs.Pasted.{byte-after}
 use Rattle.buffers.proofs.Left.{written-long, written-then}
 use Rattle.fields.specs.Bytes.{byteAt}
 use Rattle.fields.specs.Names.{nameIn}
@@ -22,11 +21,6 @@ use Rattle.sessions.specs.Session.{sessionRights}
 use Rattle.sessions.specs.Opening.{defaultSession}
 use Rattle.lines.specs.Lines.{space, decimal, ending, lineAt}
 use Rattle.lines.proofs.Digits.{count-short, decimal-length}
-
--- a byte, and then a text
-pub byte-then : (b : List ℕ) (e v : ℕ) → e < length b → {y after : List ℕ} {r : ℕ} → Written (set b e v) (e + 1) y after r
-    → Written b e (v ∷ y) after r
-byte-then b e v h {y} w = record { bytes = w .bytes ∙ byte-after b e v y h; stop = omega (arith, w .stop) }
 
 -- ---- a line
 -- a number below 10 ^ k has at most k digits

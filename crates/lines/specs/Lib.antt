@@ -1,2 +1,3 @@
--- The report's text.
+-- The report's text, and its parts.
 pub mod Lines
+pub mod Parts

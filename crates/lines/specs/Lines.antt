@@ -1,19 +1,16 @@
 -- The report: for each user and each label record, a line with the user's name, the tag and the verdicts at the session that opens
 -- for that user; for a refused image, one line with the refusal.
-use Prim.Native.Nat.{ℕ, zero, suc, _-_, _^_, _≤_, _<_}
-use mathlib.Core.Path.{_≡_}
+use Prim.Native.Nat.{ℕ, zero, suc, _^_}
 use mathlib.Core.Bool.{Bool, cond}
 use mathlib.Core.List.{List, [], _∷_, _++_}
 use lib.Dec.{eqb, ltb}
-use lib.ListN.{length}
 use Rattle.io.specs.Digits.{digits}
 use Rattle.fields.specs.Scan.{firstWhere}
 use Rattle.refusals.specs.declared.Refusal.{Refusal}
 use Rattle.refusals.specs.Refusals.{numberOf, placeOf}
-use Rattle.buffers.specs.Pasting.{Written}
 use Rattle.header.specs.Layout.{users, labels, userRecord, labelRecord}
 use Rattle.records.specs.Fields.{tagOf, userName}
-use Rattle.image.specs.Check.{checkOf, IsAccepted}
+use Rattle.image.specs.Check.{checkOf}
 use Rattle.refusals.specs.Answers.{onChecked}
 use Rattle.labels.specs.Label.{Marks}
 use Rattle.access.specs.Rights.{Rights}
@@ -29,8 +26,8 @@ abbrev pub newline : ℕ
 newline = 10
 
 -- the letter where it is granted, `-` where it is denied
-abbrev pub shownAs : Bool → ℕ → ℕ
-shownAs granted letter = cond granted letter 45
+abbrev pub grantLetter : Bool → ℕ → ℕ
+grantLetter granted letter = cond granted letter 45
 
 -- ---- a number
 -- how many digits it has: the fewest that hold it, and at least one. (The numbers here are below 2 ^ 64 and have at most 20.)
@@ -44,7 +41,7 @@ decimal n = digits 10 (digitCount n) n
 -- ---- a line: NAME TAG rw
 -- `r` or `-`, then `w` or `-`
 abbrev pub verdictText : Bool → Bool → List ℕ
-verdictText reads writes = shownAs reads 114 ∷ shownAs writes 119 ∷ []
+verdictText reads writes = grantLetter reads 114 ∷ grantLetter writes 119 ∷ []
 
 -- a space, the verdicts on a label, and the line's end
 unfoldable pub ending : Rights → Marks → List ℕ
@@ -87,19 +84,3 @@ refusedLine r = refusedText ++ decimal (numberOf r) ++ placeText (numberOf r) (p
 -- what the program writes for an image
 unfoldable pub outputOf : List ℕ → List ℕ
 outputOf im = onChecked (checkOf im) refusedLine (reportOf im)
-
--- ---- what the code fills a buffer with
--- what code may take for granted of an accepted image, a user's place and that user's rights at the opened session
-pub record Opened (im : List ℕ) (u : ℕ) (rights : Rights) : Type 0 where
-  pub accepted : IsAccepted im
-  pub user : u < users im
-  pub view : rights ≡ sessionRights im (defaultSession im u)
-
--- the user's lines from the k-th label record up to `next` stand at the buffer's front: at least one, where there is one and it has
--- room
-pub record FilledFrom (im : List ℕ) (u k : ℕ) (buffer after : List ℕ) (next end : ℕ) : Type 0 where
-  pub from : k ≤ next
-  pub upto : next ≤ labels im
-  pub some : k < labels im → 43 ≤ length buffer → k < next
-  pub inside : end ≤ length buffer
-  pub written : Written buffer 0 (linesFrom im u (next - k) k) after end

@@ -1,5 +1,5 @@
-// The text of the report, written part after part into a lent buffer, once the image is known to be accepted; and the line of a
-// refused image. The program `report` only moves bytes.
+// The output of the program `report`, written part after part into a lent buffer: the report of an accepted image, or the line of a
+// refused one. The program only moves bytes.
 pub mod line;
 pub mod numbers;
 pub mod parts;

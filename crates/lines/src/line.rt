@@ -9,7 +9,8 @@ ghost use Rattle.header.specs.Limits.{Counted};
 ghost use Rattle.labels.specs.Label.{marksOf};
 ghost use Rattle.access.specs.Rights.{rightsOf};
 ghost use Rattle.buffers.specs.Pasting.{Written};
-ghost use Rattle.lines.specs.Lines.{space, shownAs, decimal, ending, lineAt, Opened};
+ghost use Rattle.lines.specs.Lines.{space, grantLetter, decimal, ending, lineAt};
+ghost use Rattle.lines.specs.Parts.{AtOpening};
 use crate::numbers::put_number;
 use access::rights::View;
 use access::verdicts::label_at;
@@ -22,7 +23,7 @@ use records::users;
 
 // The letter where it is granted, `-` where it is denied.
 fn shown(granted: bool, letter: u8) -> u8
-    ensures { λ r. ⌜ r ≡ shownAs granted letter ⌝ }
+    ensures { λ r. ⌜ r ≡ grantLetter granted letter ⌝ }
 {
     if granted { letter } else { b'-' }
 }
@@ -51,7 +52,7 @@ fn put_tag(image: &[u8], k: usize, buffer: &mut [u8], at: usize) -> usize
 
 // Writes the line of the user at place u and the k-th label record. The view is what the user's opened session gives.
 pub fn line(image: &[u8], view: View, u: usize, k: usize, buffer: &mut [u8], at: usize) -> usize
-    requires { ⌜ Opened (now image) u (rightsOf view) × (k < labels (now image)) ⌝ }
+    requires { ⌜ AtOpening (now image) u (rightsOf view) × (k < labels (now image)) ⌝ }
     requires { ⌜ at + 43 ≤ length (now buffer) ⌝ }
     ensures { λ r. ⌜ Written (now (buffer .entry)) at (lineAt (now (image .entry)) u k) (now (buffer .exit)) r ⌝ }
 {

@@ -1,8 +1,9 @@
-// The line of a refused image.
+// The line of a refused image, and of an input that is longer than any image.
 ghost use Prim.Native.Nat.{_+_, _≤_};
 ghost use lib.ListN.{length};
 ghost use Rattle.buffers.specs.Pasting.{Written};
 ghost use Rattle.lines.specs.Lines.{placeText, refusedLine};
+ghost use Rattle.lines.specs.Parts.{LongOutput};
 use crate::numbers::put_number;
 use buffers::given::put;
 use refusals::Refusal;
@@ -33,4 +34,12 @@ pub fn refusal_line(refusal: Refusal, buffer: &mut [u8]) -> usize
     let placed = put_place(n, p, buffer, numbered);
     buffer[placed] = b'\n';
     placed + 1
+}
+
+// Writes the output of an input of more than 65,536 bytes, which is one line, to the buffer's front.
+pub fn long_input_line(buffer: &mut [u8]) -> usize
+    requires { ⌜ 64 ≤ length (now buffer) ⌝ }
+    ensures { λ r. ⌜ LongOutput (now (buffer .exit)) r ⌝ }
+{
+    refusal_line(Refusal::ImageLength, buffer)
 }

@@ -1,6 +1,6 @@
 use native.Mathlib.Omega.{arith}
 use lib.ListN.{length-set}
-use Rattle.lines.proofs.Joined.{byte-then}
+use Rattle.buffers.proofs.Left.{byte-then}
 use borrow.Author.Needs.{needs}
 use Rattle.lines.proofs.line.put_tag.Statement.{statement}
 use Rattle.lines.proofs.line.put_tag.Tie as tie

@@ -13,10 +13,10 @@ abbrev μ-loop : tie.MeasureT-loop
 μ-loop image view u k buffer₀ count next₀ length₀ buffer next length = count - next
 
 labels-requires : tie.Need-labels-requires Inv-loop μ-loop
-labels-requires c κs = header-inside _ (accepted-counted _ (c .before .before .pre .0 .accepted) .fitted)
+labels-requires c κs = header-inside _ (accepted-counted _ (c .before .before .pre .accepted) .fitted)
 
 loop-holds : tie.Need-loop-holds Inv-loop μ-loop
-loop-holds c = filling-start _ _ _ _ (c .before .before .before .pre .1)
+loop-holds c = filling-start _ _ _ _
 
 sub-if1 : tie.Need-sub-if1 Inv-loop μ-loop
 sub-if1 c =
@@ -34,7 +34,7 @@ line-requires c κs =
     let t = c .before .before in
     let pre = t .before .before .before .before .before .pre in
     let f = t .before .loop .inv in
-    ((pre .0, omega (arith, t .loop-test .taken, t .before .before .labels .ensures .0)), omega (arith, c .before .if1 .left, f .inside, f .long))
+    ((pre, omega (arith, t .loop-test .taken, t .before .before .labels .ensures .0)), omega (arith, c .before .if1 .left, f .inside, f .long))
 
 add-next : tie.Need-add-next Inv-loop μ-loop
 add-next c = omega arith
@@ -48,7 +48,7 @@ loop-again c =
     let t = l .before .before .before in
     let pre = t .before .before .before .before .before .pre in
     let f = t .before .loop .inv in
-    filling-turn _ _ _ _ f (pre .0 .accepted) (pre .0 .user) (omega (arith, t .loop-test .taken, t .before .before .labels .ensures .0))
+    filling-turn _ _ _ _ f (pre .accepted) (pre .user) (omega (arith, t .loop-test .taken, t .before .before .labels .ensures .0))
     (omega (arith, l .before .before .if1 .left, f .inside, f .long)) (l .line .ensures)
 
 same-length-2 : tie.Need-same-length-2 Inv-loop μ-loop

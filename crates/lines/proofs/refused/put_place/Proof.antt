@@ -1,5 +1,5 @@
 use Rattle.buffers.proofs.Left.{written-none}
-use Rattle.lines.proofs.Told.{place-none, room-place, written-place}
+use Rattle.lines.proofs.RefusalText.{place-none, room-place, written-place}
 use borrow.Author.Needs.{needs}
 use Rattle.lines.proofs.refused.put_place.Statement.{statement}
 use Rattle.lines.proofs.refused.put_place.Tie as tie
@@ -24,10 +24,11 @@ same-length c = search needs
 
 returns-2 : tie.Need-returns-2
 returns-2 c =
-    let p = c .before .before .before .before .before .before in
+    let number = c .before .before in
+    let p = number .before .before .before .before in
     let e = p .before .before .before in
     let at-start = e .before .before in
-    written-place _ (at-start .fits .place .fits) _ _ (at-start .pre) (p .put .ensures) _ (e .if1 .left) (c .before .before .put-number .ensures)
+    written-place _ (at-start .fits .place .fits) _ _ (at-start .pre) (p .put .ensures) _ (e .if1 .left) (number .put-number .ensures)
 
 pub put-place-spec : {M : Type 1} → statement M
 put-place-spec =

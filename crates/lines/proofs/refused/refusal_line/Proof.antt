@@ -2,7 +2,7 @@ use Prim.Native.Nat.{_^_, _<_}
 use mathlib.Core.Path.{_∙_}
 use native.Mathlib.Omega.{arith}
 use lib.ListN.{length, length-set}
-use Rattle.lines.proofs.Told.{room-number, room-block, room-newline, written-refused}
+use Rattle.lines.proofs.RefusalText.{room-number, room-block, room-newline, written-refused}
 use borrow.Author.Needs.{needs}
 use Rattle.lines.proofs.refused.refusal_line.Statement.{statement}
 use Rattle.lines.proofs.refused.refusal_line.Tie as tie
@@ -31,8 +31,8 @@ newline-room c =
     let n = number-at b in
     let p = put-at n in
     let q = place-at p in
-    room-newline (start q .args .refusal) (start q .args .buffer .now) (start q .pre) (q .before .number .ensures) (q .place .ensures) (place-fits q) (p .put .ensures)
-    (n .put-number .ensures) (b .put-place .ensures)
+    room-newline (start q .args .refusal) (start q .args .buffer .now) (start q .pre) (q .before .number .ensures) (q .place .ensures)
+    (place-fits q) (p .put .ensures) (n .put-number .ensures) (b .put-place .ensures)
 
 number-requires : tie.Need-number-requires
 number-requires c κs = search needs
@@ -53,14 +53,16 @@ put-number-requires : tie.Need-put-number-requires
 put-number-requires c κs =
     let p = c .before .before .before in
     let q = place-at p in
-    room-number (start q .args .refusal) (start q .args .buffer .now) (start q .pre) (q .before .number .ensures) (q .place .ensures) (place-fits q) (p .put .ensures)
+    room-number (start q .args .refusal) (start q .args .buffer .now) (start q .pre) (q .before .number .ensures) (q .place .ensures)
+    (place-fits q) (p .put .ensures)
 
 put-place-requires : tie.Need-put-place-requires
 put-place-requires c κs =
     let n = c .before .before .before in
     let p = put-at n in
     let q = place-at p in
-    room-block (start q .args .refusal) (start q .args .buffer .now) (start q .pre) (q .before .number .ensures) (q .place .ensures) (place-fits q) (p .put .ensures) (n .put-number .ensures)
+    room-block (start q .args .refusal) (start q .args .buffer .now) (start q .pre) (q .before .number .ensures) (q .place .ensures)
+    (place-fits q) (p .put .ensures) (n .put-number .ensures)
 
 slice-write-buffer : tie.Need-slice-write-buffer
 slice-write-buffer c = newline-room c
@@ -82,8 +84,8 @@ returns c =
     let n = number-at b in
     let p = put-at n in
     let q = place-at p in
-    written-refused (start q .args .refusal) (start q .args .buffer .now) (start q .pre) (q .before .number .ensures) (q .place .ensures) (place-fits q) (p .put .ensures)
-    (n .put-number .ensures) (b .put-place .ensures)
+    written-refused (start q .args .refusal) (start q .args .buffer .now) (start q .pre) (q .before .number .ensures) (q .place .ensures)
+    (place-fits q) (p .put .ensures) (n .put-number .ensures) (b .put-place .ensures)
 
 pub refusal-line-spec : {M : Type 1} → statement M
 refusal-line-spec =

@@ -1,24 +1,19 @@
 -- The line of a refusal, written part after part. Assumes nothing.
 use Prim.Native.Nat.{ℕ, zero-le, _+_, _^_, _≤_, _<_}
-use mathlib.Core.Path.{_≡_, refl, sym}
+use mathlib.Core.Path.{_≡_}
 use mathlib.Core.Bool.{Bool, true, false, cond}
-use mathlib.Core.List.{List, [], _∷_, _++_}
+use mathlib.Core.List.{List, [], _++_}
 use native.Mathlib.Omega.{arith}
 use borrow.Author.Tests.{ne-eqb}
 use lib.Dec.{eqb, lit≤}
 use lib.ListN.{length, set, length-append}
 use Rattle.buffers.specs.Pasting.{Written}
-use Rattle.buffers.proofs.Pasted.{pasted-byte}
-use Rattle.buffers.proofs.Left.{written-long, written-then}
+use Rattle.buffers.proofs.Left.{byte-alone, written-long, written-then}
 use Rattle.refusals.specs.declared.Refusal.{Refusal}
 use Rattle.refusals.specs.Refusals.{numberOf, placeOf}
 use Rattle.refusals.proofs.Laws.{number-to}
 use Rattle.lines.specs.Lines.{decimal, refusedText, blockText, placeText, refusedLine}
 use Rattle.lines.proofs.Joined.{decimal-short}
-
--- a byte alone
-byte-alone : (b : List ℕ) (e v : ℕ) → e < length b → Written b e (v ∷ []) (set b e v) (e + 1)
-byte-alone b e v h = record { bytes = sym (pasted-byte b e v h); stop = refl }
 
 -- a number below 2 ^ 64 has at most 20 digits
 pub word-short : (n : ℕ) → n < 2 ^ 64 → length (decimal n) ≤ 20
