@@ -1,10 +1,10 @@
--- What the rules of an image as blocks mean, and document 01's example of the check. Assumes nothing.
+-- What the rules of an image as blocks mean, both ways, and document 01's example of the check. Assumes nothing.
 use Prim.Native.Nat.{ℕ, _%_, _≤_, _<_}
 use mathlib.Core.Path.{_≡_, refl}
 use mathlib.Core.Bool.{true, false}
 use mathlib.Core.List.{List, _∷_}
 use native.Mathlib.Omega.{arith}
-use borrow.Author.Tests.{ltb-true, leb-true, eqb-true}
+use borrow.Author.Tests.{ltb-true, leb-true, eqb-true, lt-ltb, le-leb, eq-eqb}
 use lib.ListN.{length, replicate}
 use Rattle.fields.specs.Bytes.{byteAt, part, number2}
 use Rattle.fields.proofs.Both.{parts}
@@ -28,6 +28,10 @@ length-means im e =
       most = leb-true _ _ (q2 .1);
     }
 
+pub length-holds : (im : List ℕ) → LengthKept im → lengthRule im ≡ true
+unfolding lengthRule
+length-holds im k = rw (lt-ltb _ _ (k .some), eq-eqb _ _ (k .whole), le-leb _ _ (k .most))
+
 -- ---- a block: bytes 510 and 511 are the two sums of the bytes before them, bytes 2..3 the block's place
 pub record BlockKept (im : List ℕ) (b : ℕ) : Type 0 where
   pub first : byteAt (blockAt im b) 510 ≡ sumA 0 (part (blockAt im b) 0 510)
@@ -44,6 +48,10 @@ block-means im b e =
       second = eqb-true _ _ (q1 .1);
       place = eqb-true _ _ (q2 .1);
     }
+
+pub block-holds : (im : List ℕ) (b : ℕ) → BlockKept im b → blockRule im b ≡ true
+unfolding blockRule checkRule placeRule
+block-holds im b k = rw (eq-eqb _ _ (k .first), eq-eqb _ _ (k .second), eq-eqb _ _ (k .place))
 
 -- ---- the lowest bad block
 -- every block before it is sound, so that all are where there is none

@@ -6,6 +6,7 @@ use lib.Dec.{eqb, leb, ltb}
 use lib.ListN.{length}
 use Rattle.fields.specs.Bytes.{byteAt, part, number2}
 use Rattle.fields.specs.Scan.{firstBad}
+use Rattle.blocks.specs.declared.frame.Checksum.{Checksum}
 
 -- the length is not 0, a multiple of 512 and at most 65,536
 unfoldable pub lengthRule : List ℕ → Bool
@@ -24,9 +25,13 @@ unfoldable pub sumB : ℕ → ℕ → List ℕ → ℕ
 sumB a b [] = b
 sumB a b (x ∷ xs) = sumB ((a + x) % 255) ((b + (a + x) % 255) % 255) xs
 
--- the check runs over bytes 0..509, both sums from 0; byte 510 is a, byte 511 is b
+-- the check runs over bytes 0..509, both sums from 0
+abbrev pub sumsOf : List ℕ → Checksum
+sumsOf block = record { a = sumA 0 (part block 0 510); b = sumB 0 0 (part block 0 510) }
+
+-- byte 510 is a, byte 511 is b
 unfoldable pub checkRule : List ℕ → Bool
-checkRule block = eqb (byteAt block 510) (sumA 0 (part block 0 510)) && eqb (byteAt block 511) (sumB 0 0 (part block 0 510))
+checkRule block = eqb (byteAt block 510) (sumsOf block .a) && eqb (byteAt block 511) (sumsOf block .b)
 
 unfoldable pub placeRule : List ℕ → ℕ → Bool
 placeRule block b = eqb (number2 block 2) b

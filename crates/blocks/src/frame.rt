@@ -2,7 +2,7 @@
 ghost use Prim.Native.Nat.{_+_, _*_, _%_, _<_, _≤_};
 ghost use mathlib.Core.Path.{_≡_};
 ghost use lib.ListN.{length};
-ghost use Rattle.blocks.specs.Blocks.{lengthRule, checkRule, placeRule, blockRule, firstBadBlock};
+ghost use Rattle.blocks.specs.Blocks.{lengthRule, sumsOf, checkRule, placeRule, blockRule, firstBadBlock};
 use fields::numbers::number2;
 
 // The length is not 0, a multiple of 512 and at most 65,536.
@@ -27,11 +27,17 @@ fn times(y: u16, w: u16) -> u32
     (y as u32) * (w as u32)
 }
 
+// The two sums of a block, each below 255.
+pub struct Checksum {
+    pub a: u32,
+    pub b: u32,
+}
+
 // The sums of 510 bytes stay below 2^32 without a remainder, so one remainder at the end serves. Byte i counts 510 - i times
 // in the second sum; 255 times is none, so both halves of the bytes count alike.
-fn check_ok(block: &[u8]) -> bool
+pub fn sums(block: &[u8]) -> Checksum
     requires { ⌜ length (now block) ≡ 512 ⌝ }
-    ensures { λ r. ⌜ r ≡ checkRule (now (block .entry)) ⌝ }
+    ensures { λ r. ⌜ r ≡ sumsOf (now (block .entry)) ⌝ }
 {
     let mut a: u32 = 0;
     let mut b: u32 = 0;
@@ -43,7 +49,18 @@ fn check_ok(block: &[u8]) -> bool
         b += times(y, w);
         i += 1;
     }
-    (wide(block[510]) as u32 == a % 255) & (wide(block[511]) as u32 == b % 255)
+    Checksum {
+        a: a % 255,
+        b: b % 255,
+    }
+}
+
+fn check_ok(block: &[u8]) -> bool
+    requires { ⌜ length (now block) ≡ 512 ⌝ }
+    ensures { λ r. ⌜ r ≡ checkRule (now (block .entry)) ⌝ }
+{
+    let found = sums(block);
+    (wide(block[510]) as u32 == found.a) & (wide(block[511]) as u32 == found.b)
 }
 
 fn place_ok(block: &[u8], place: usize) -> bool

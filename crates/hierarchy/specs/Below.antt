@@ -8,12 +8,12 @@ use lib.Dec.{ltb}
 use lib.ListN.{getD}
 use Rattle.fields.specs.Scan.{firstBad}
 use Rattle.sets.specs.Sets.{none, one, union, meets, within, collect}
-use Rattle.header.specs.Layout.{levels, compartments, groups, users, componentRecord, userRecord}
+use Rattle.header.specs.Layout.{groups, users, countsOf, classFirst, componentRecord, userRecord}
 use Rattle.records.specs.Fields.{parentOf, readGroups, writeGroups, defaultGroups, rowGroups}
 
 -- the parent's place of group g, and whether it has one
 unfoldable pub parent : List ℕ → ℕ → ℕ
-parent im g = parentOf (componentRecord im (levels im + compartments im + g))
+parent im g = parentOf (componentRecord im (classFirst (countsOf im) 3 + g))
 
 unfoldable pub hasParent : List ℕ → ℕ → Bool
 hasParent im g = ltb (parent im g) (groups im)

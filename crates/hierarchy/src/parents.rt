@@ -15,10 +15,7 @@ pub fn parent(image: &[u8], g: usize) -> usize
     requires { ⌜ Counted (now image) × (g < groups (now image)) ⌝ }
     ensures { λ r. ⌜ (r ≡ below.parent (now (image .entry)) g) × (r < 256) ⌝ }
 {
-    components::parent(
-        image,
-        layout::levels(image) + layout::compartments(image) + g,
-    )
+    components::parent(image, layout::class_first(image, 3) + g)
 }
 
 // Do the parents of g end, where those of every group before it do? A walk that ends meets no group twice, so it takes no

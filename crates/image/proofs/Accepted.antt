@@ -14,7 +14,7 @@ use Rattle.fields.proofs.Scan.{good-before, all-good}
 use Rattle.blocks.specs.Blocks.{lengthRule, blockRule, blockCount, firstBadBlock}
 use Rattle.header.specs.declared.layout.Kind.{Kind}
 use Rattle.header.specs.declared.layout.Kind.the-variants as kind
-use Rattle.header.specs.Layout.{groups, users, firstLabelBlock, firstUserBlock, blocksNeeded, userBlock, userSlot, contentsOf}
+use Rattle.header.specs.Layout.{groups, users, blocksNeeded, contentsOf}
 use Rattle.header.specs.Header.{headerRule, fitRule}
 use Rattle.records.specs.Rules.{layoutRule, firstBadRecord, contentRule}
 use Rattle.header.specs.Limits.{Counted}
@@ -27,7 +27,7 @@ use Rattle.image.specs.declared.faults.Fault.{Fault}
 use Rattle.image.specs.declared.faults.Fault.the-variants.{Sound, Length, Block, Layout, Component, Label, User, Ring}
 use Rattle.refusals.specs.declared.answers.Checked.{Checked}
 use Rattle.refusals.specs.declared.answers.Checked.the-variants.{Accepted, Refused}
-use Rattle.image.specs.Check.{firstBadContent, recordFault, contentFault, countedFault, faultOf, shownAs, checkOf, IsAccepted}
+use Rattle.image.specs.Check.{firstBadContent, recordFault, contentFault, userFault, countedFault, faultOf, shownAs, checkOf, IsAccepted}
 use Rattle.refusals.specs.Answers.{givenBack}
 
 -- ---- telling sound from faulty
@@ -125,12 +125,12 @@ module _ (im : List ℕ) (acc : IsAccepted im) where
 
   filled : (ltb (firstBadContent im) (blocksNeeded im) ≡ false)
       × (cond (ltb (firstRing im) (groups im)) (Ring (firstRing im))
-      (cond (ltb (firstBadBelow im) (users im)) (User (userBlock im (firstBadBelow im)) (userSlot (firstBadBelow im))) Sound) ≡ Sound)
+      (cond (ltb (firstBadBelow im) (users im)) (userFault im (firstBadBelow im)) Sound) ≡ Sound)
   unfolding countedFault
   filled = took-second _ _ _ (content-faulty im (firstBadContent im)) (headed .1)
 
   ringless : (ltb (firstRing im) (groups im) ≡ false)
-      × (cond (ltb (firstBadBelow im) (users im)) (User (userBlock im (firstBadBelow im)) (userSlot (firstBadBelow im))) Sound ≡ Sound)
+      × (cond (ltb (firstBadBelow im) (users im)) (userFault im (firstBadBelow im)) Sound ≡ Sound)
   ringless = took-second _ _ _ refl (filled .1)
 
   lowered : ltb (firstBadBelow im) (users im) ≡ false
@@ -165,7 +165,7 @@ nothing-bad rule k n h all =
 
 module _ (im : List ℕ) (k : Keeps im) where
   some : 1 ≤ blocksNeeded im
-  unfolding blocksNeeded firstUserBlock firstLabelBlock
+  unfolding blocksNeeded
   some = omega arith
 
   no-block : ltb (firstBadBlock im) (blockCount im) ≡ false

@@ -1,4 +1,5 @@
 pub mod Accepted
+pub mod EveryRule
 mod Halves
 pub mod Place
 pub mod Placed

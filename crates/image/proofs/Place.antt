@@ -10,18 +10,20 @@ use Rattle.blocks.specs.Blocks.{lengthRule, blockCount, firstBadBlock}
 use Rattle.blocks.proofs.Meaning.{length-means}
 use Rattle.header.specs.declared.layout.Kind.{Kind}
 use Rattle.header.specs.declared.layout.Kind.the-variants as kind
-use Rattle.header.specs.Layout.{groups, users, blocksNeeded, userBlock, userSlot, contentsOf}
+use Rattle.header.specs.Layout.{groups, users, blocksNeeded, contentsOf}
 use Rattle.header.specs.Header.{headerRule, fitRule}
 use Rattle.records.specs.Rules.{layoutRule, firstBadRecord}
 use Rattle.refusals.specs.declared.Refusal.{Refusal}
+use Rattle.refusals.specs.declared.Refusal.the-variants.{NoComponent}
 use Rattle.refusals.specs.Refusals.{placeOf}
+use Rattle.refusals.specs.Answers.{onChecked, orRefuse}
 use Rattle.hierarchy.specs.Below.{firstRing, firstBadBelow}
 use Rattle.image.specs.declared.faults.Fault.{Fault}
-use Rattle.image.specs.declared.faults.Fault.the-variants.{Sound, Length, Block, Layout, User, Ring}
+use Rattle.image.specs.declared.faults.Fault.the-variants.{Sound, Length, Block, Layout, Ring}
 use Rattle.refusals.specs.declared.answers.Checked.{Checked}
 use Rattle.refusals.specs.declared.answers.Checked.the-variants.{Accepted, Refused}
-use Rattle.image.specs.Check.{firstBadContent, recordFault, contentFault, countedFault, faultOf, shownAs, checkOf}
-use Rattle.image.specs.Lookup.{hasComponent, unlessLacking, nameAnswer}
+use Rattle.image.specs.Check.{firstBadContent, recordFault, contentFault, userFault, countedFault, faultOf, shownAs, checkOf}
+use Rattle.image.specs.Lookup.{hasComponent, nameAnswer}
 
 -- the place that an answer tells; 0 for an accepted image
 abbrev placeTold : Checked → ℕ
@@ -49,7 +51,7 @@ unfolding countedFault
 counted-place im =
     chosen (ltb (firstBadContent im) (blocksNeeded im)) _ _ (content-place im (firstBadContent im))
     (chosen (ltb (firstRing im) (groups im)) (Ring (firstRing im)) _ (omega arith)
-    (chosen (ltb (firstBadBelow im) (users im)) (User (userBlock im (firstBadBelow im)) (userSlot (firstBadBelow im))) Sound (omega arith)
+    (chosen (ltb (firstBadBelow im) (users im)) (userFault im (firstBadBelow im)) Sound (omega arith)
     (omega arith)))
 
 fault-place : (im : List ℕ) → placeTold (shownAs (faultOf im)) < 128
@@ -73,7 +75,7 @@ pub name-place : (im : List ℕ) (class place : ℕ) (r : Refusal) → nameAnswe
 unfolding nameAnswer
 name-place im class place r e = subst (λ (c : Checked). placeTold c < 128) e (at (checkOf im) refl (hasComponent im class place))
   where
-    at : (c : Checked) → checkOf im ≡ c → (t : Bool) → placeTold (unlessLacking c t) < 128
+    at : (c : Checked) → checkOf im ≡ c → (t : Bool) → placeTold (onChecked c Refused (orRefuse t NoComponent Accepted)) < 128
     at Accepted d true = omega arith
     at Accepted d false = omega arith
     at (Refused q) d t = check-place im q d

@@ -7,19 +7,21 @@ use native.Mathlib.Omega.{arith}
 use borrow.Author.Tests.{ltb-true, eqb-true, eqb-false, ne-eqb}
 use lib.Dec.{eqb, ltb}
 use Rattle.fields.proofs.Both.{both-right}
-use Rattle.header.specs.Layout.{levels, compartments, groups, components, componentRecord}
+use Rattle.header.specs.Layout.{levels, compartments, groups, components, classFirst, componentRecord}
 use lib.ListN.{length}
 use Rattle.fields.proofs.Laws.{part-byte}
 use Rattle.fields.proofs.Meaning.{NameKept}
-use Rattle.header.proofs.Inside.{component-inside}
+use Rattle.header.specs.declared.layout.Kind.the-variants.{Component}
+use Rattle.header.proofs.Inside.{record-inside}
 use Rattle.records.specs.Fields.{componentNameField}
-use Rattle.records.proofs.MeaningComponents.{component-means}
-use Rattle.records.proofs.MeaningBlocks.{components-kept}
 use Rattle.refusals.specs.declared.answers.Checked.{Checked}
 use Rattle.refusals.specs.declared.answers.Checked.the-variants.{Accepted, Refused}
 use Rattle.image.specs.Check.{checkOf, IsAccepted}
-use Rattle.image.specs.Lookup.{hasComponent, componentIndex, nameOffset, nameLength, unlessLacking, nameAnswer}
-use Rattle.image.proofs.Accepted.{keeps, accepted-counted, refused-not}
+use Rattle.image.specs.Lookup.{hasComponent, componentIndex, nameOffset, nameLength, nameAnswer}
+use Rattle.refusals.specs.declared.Refusal.the-variants.{NoComponent}
+use Rattle.refusals.specs.Answers.{onChecked, orRefuse}
+use Rattle.image.proofs.Accepted.{accepted-counted, refused-not}
+use Rattle.image.proofs.Policy.{component-kept}
 
 module _ (im : List ℕ) (class place : ℕ) (has : hasComponent im class place ≡ true) where
   pub placed-level : class ≡ 1 → place < levels im
@@ -38,11 +40,11 @@ module _ (im : List ℕ) (class place : ℕ) (has : hasComponent im class place 
 
   -- its place among all components
   pub placed-index : componentIndex im class place < components im
-  unfolding componentIndex components
+  unfolding componentIndex classFirst components
   placed-index = at (eqb class 1) refl (eqb class 2) refl
     where
       at : (s : Bool) → eqb class 1 ≡ s → (t : Bool) → eqb class 2 ≡ t
-          → cond s place (cond t (levels im + place) (levels im + compartments im + place)) < levels im + compartments im + groups im
+          → cond s 0 (cond t (levels im) (levels im + compartments im)) + place < levels im + compartments im + groups im
       at true e t d = let h = placed-level (eqb-true class 1 e) in omega arith
       at false e true d = let h = placed-compartment (eqb-true class 2 d) in omega arith
       at false e false d = let h = placed-group (eqb-false class 1 e) (eqb-false class 2 d) in omega arith
@@ -50,10 +52,7 @@ module _ (im : List ℕ) (class place : ℕ) (has : hasComponent im class place 
 -- ---- in an accepted image a component's name is 1 to 30 bytes, and lies inside the image
 module _ (im : List ℕ) (acc : IsAccepted im) (class place : ℕ) (has : hasComponent im class place ≡ true) where
   named : NameKept (componentNameField (componentRecord im (componentIndex im class place)))
-  named =
-      component-means im (componentIndex im class place)
-      (components-kept im (keeps im acc .contents) (componentIndex im class place) (placed-index im class place has))
-      .kept .named
+  named = component-kept im acc (componentIndex im class place) (placed-index im class place has) .named
 
   pub name-long : (1 ≤ nameLength im class place) × (nameLength im class place ≤ 30)
   unfolding nameLength
@@ -69,7 +68,7 @@ module _ (im : List ℕ) (acc : IsAccepted im) (class place : ℕ) (has : hasCom
       omega (
         arith,
         name-long,
-        component-inside im (accepted-counted im acc .fitted) (componentIndex im class place) (placed-index im class place has),
+        record-inside im (accepted-counted im acc .fitted) Component (componentIndex im class place) (placed-index im class place has),
       )
 
 -- a name look-up that is accepted has an accepted image and a component
@@ -78,7 +77,7 @@ pub answered : (im : List ℕ) (class place : ℕ) → nameAnswer im class place
 unfolding nameAnswer
 answered im class place = at (checkOf im) (hasComponent im class place)
   where
-    at : (c : Checked) (t : Bool) → unlessLacking c t ≡ Accepted → (c ≡ Accepted) × (t ≡ true)
+    at : (c : Checked) (t : Bool) → onChecked c Refused (orRefuse t NoComponent Accepted) ≡ Accepted → (c ≡ Accepted) × (t ≡ true)
     at Accepted true e = (refl, refl)
     at Accepted false e = absurd (refused-not _ e)
     at (Refused r) t e = absurd (refused-not r e)

@@ -1,21 +1,26 @@
 -- What callers may use of an accepted image. Assumes nothing.
 use Prim.Native.Nat.{ℕ, zero-le, _≤_, _<_}
-use mathlib.Core.Path.{_≡_, refl, sym, _∙_}
+use mathlib.Core.Path.{_≡_, refl, sym, _∙_, subst}
 use mathlib.Core.Bool.{Bool, true, false, true≢false}
 use mathlib.Core.List.{List}
 use native.Mathlib.Omega.{arith}
 use borrow.Author.Tests.{eqb-true, eq-eqb, ltb-true, ltb-false}
 use lib.Dec.{eqb, ltb}
+use lib.ListN.{length}
 use Rattle.fields.specs.Names.{sameName, nameBefore}
 use Rattle.fields.proofs.Both.{parts}
 use Rattle.fields.proofs.Meaning.{same-means, same-refl, found-at, found-first, found-unique}
 use Rattle.sets.specs.Sets.{within}
-use Rattle.header.specs.Layout.{components, labels, users, groups, labelRecord, userRecord}
-use Rattle.records.specs.Fields.{tagOf, userName, readGroups, writeGroups, defaultGroups, rowGroups}
-use Rattle.records.proofs.MeaningBlocks.{components-kept, labels-kept, users-kept}
-use Rattle.records.proofs.MeaningComponents.{ComponentAmong, component-means}
-use Rattle.records.proofs.MeaningLabels.{LabelAmong, label-means, tags-rise, tag-unique}
-use Rattle.records.proofs.MeaningUsers.{UserAmong, user-means, names-rise, user-unique}
+use Rattle.header.specs.declared.layout.Kind.{Kind}
+use Rattle.header.specs.declared.layout.Kind.the-variants.{Component, Label, User}
+use Rattle.header.specs.Layout.{components, labels, users, groups, countsOf, classAt, countOf, componentRecord, labelRecord, userRecord, recordsOf}
+use Rattle.header.proofs.Inside.{records-count, record-of}
+use Rattle.records.specs.Fields.{componentName, tagOf, userName, readGroups, writeGroups, defaultGroups, rowGroups}
+use Rattle.records.specs.Rules.{ruleOf, recordRule}
+use Rattle.records.proofs.MeaningBlocks.{records-kept}
+use Rattle.records.proofs.MeaningComponents.{ComponentKept, ComponentAmong, component-means, component-unique}
+use Rattle.records.proofs.MeaningLabels.{LabelKept, LabelAmong, label-means, tags-rise, tag-unique}
+use Rattle.records.proofs.MeaningUsers.{UserKept, UserAmong, user-means, names-rise, user-unique}
 use Rattle.hierarchy.specs.Below.{endsRule, below, belowRule}
 use Rattle.hierarchy.proofs.Under.{below-closed}
 use Rattle.image.specs.Check.{IsAccepted}
@@ -37,27 +42,77 @@ below-means im u e =
     let q1 = parts _ _ (q2 .0) in
     record { writeBelowRead = q1 .0; defaultBelowRead = q1 .1; rowBelowDefault = q2 .1; rowBelowWrite = q3 .1 }
 
+pub below-holds : (im : List ℕ) (u : ℕ) → BelowKept im (userRecord im u) → belowRule im u ≡ true
+unfolding belowRule
+below-holds im u k = rw (k .writeBelowRead, k .defaultBelowRead, k .rowBelowDefault, k .rowBelowWrite)
+
 module _ (im : List ℕ) (acc : IsAccepted im) where
-  -- every record keeps its rules
-  pub component-kept : (i : ℕ) → i < components im → ComponentAmong im i
-  component-kept i h = component-means im i (components-kept im (keeps im acc .contents) i h)
+  -- every record keeps its kind's rule, among the records of its kind
+  pub record-kept : (kind : Kind) (i : ℕ) → i < countOf im kind → recordRule im kind i ≡ true
+  record-kept = records-kept im (keeps im acc .contents)
 
-  pub label-kept : (k : ℕ) → k < labels im → LabelAmong im k
-  label-kept k h = label-means im k (labels-kept im (keeps im acc .contents) k h)
+  pub component-among : (i : ℕ) → i < components im → ComponentAmong (countsOf im) (recordsOf im Component) i
+  unfolding ruleOf
+  component-among i h = component-means (countsOf im) (recordsOf im Component) i (record-kept Component i h)
 
-  pub user-kept : (u : ℕ) → u < users im → UserAmong im u
-  user-kept u h = user-means im u (users-kept im (keeps im acc .contents) u h)
+  pub label-among : (k : ℕ) → k < labels im → LabelAmong (countsOf im) (recordsOf im Label) k
+  unfolding ruleOf
+  label-among k h = label-means (countsOf im) (recordsOf im Label) k (record-kept Label k h)
+
+  pub user-among : (u : ℕ) → u < users im → UserAmong (countsOf im) (recordsOf im User) u
+  unfolding ruleOf
+  user-among u h = user-means (countsOf im) (recordsOf im User) u (record-kept User u h)
+
+  -- so each is what a record of its kind must be
+  pub component-kept : (i : ℕ) → i < components im → ComponentKept (classAt (countsOf im) i) (groups im) (componentRecord im i)
+  component-kept i h =
+      subst (ComponentKept (classAt (countsOf im) i) (groups im)) (record-of im Component i h) (component-among i h .kept)
+
+  pub label-kept : (k : ℕ) → k < labels im → LabelKept (countsOf im) (labelRecord im k)
+  label-kept k h = subst (LabelKept (countsOf im)) (record-of im Label k h) (label-among k h .kept)
+
+  pub user-kept : (u : ℕ) → u < users im → UserKept (countsOf im) (userRecord im u)
+  user-kept u h = subst (UserKept (countsOf im)) (record-of im User u h) (user-among u h .kept)
 
   pub user-below : (u : ℕ) → u < users im → BelowKept im (userRecord im u)
   user-below u h = below-means im u (keeps im acc .below u h)
 
-  -- tags and user names rise strictly
+  -- tags and user names rise strictly; class and name tell components apart
+  listed : (kind : Kind) (i : ℕ) → i < countOf im kind → i < length (recordsOf im kind)
+  listed kind i h = rw (records-count im kind) h
+
+  unlisted : (kind : Kind) (i : ℕ) → i < length (recordsOf im kind) → i < countOf im kind
+  unlisted kind i h = rw (records-count im kind) at h
+
   pub tags-rising : (j k : ℕ) → j < k → k < labels im → tagOf (labelRecord im j) < tagOf (labelRecord im k)
-  tags-rising = tags-rise im (labels-kept im (keeps im acc .contents))
+  tags-rising j k less high =
+      let first : j < labels im = omega arith in
+      rw (record-of im Label j first, record-of im Label k high) at
+      (tags-rise (recordsOf im Label) (λ i h. label-among i (unlisted Label i h) .rises) j k less (listed Label k high))
+
+  tags-apart : (j k : ℕ) → j < labels im → k < labels im → tagOf (labelRecord im j) ≡ tagOf (labelRecord im k) → j ≡ k
+  tags-apart j k hj hk e =
+      tag-unique (recordsOf im Label) (λ i h. label-among i (unlisted Label i h) .rises) j k (listed Label j hj) (listed Label k hk)
+      (rw (record-of im Label j hj, record-of im Label k hk) e)
 
   pub names-rising : (j k : ℕ) → j < k → k < users im
       → nameBefore (userName (userRecord im j)) (userName (userRecord im k)) ≡ true
-  names-rising = names-rise im (users-kept im (keeps im acc .contents))
+  names-rising j k less high =
+      let first : j < users im = omega arith in
+      rw (record-of im User j first, record-of im User k high) at
+      (names-rise (recordsOf im User) (λ i h. user-among i (unlisted User i h) .rises) j k less (listed User k high))
+
+  users-apart : (j k : ℕ) → j < users im → k < users im → userName (userRecord im j) ≡ userName (userRecord im k) → j ≡ k
+  users-apart j k hj hk e =
+      user-unique (recordsOf im User) (λ i h. user-among i (unlisted User i h) .rises) j k (listed User j hj) (listed User k hk)
+      (rw (record-of im User j hj, record-of im User k hk) e)
+
+  pub components-apart : (j k : ℕ) → j < components im → k < components im → classAt (countsOf im) j ≡ classAt (countsOf im) k
+      → componentName (componentRecord im j) ≡ componentName (componentRecord im k) → j ≡ k
+  components-apart j k hj hk same e =
+      component-unique (countsOf im) (recordsOf im Component) (λ i h. component-among i (unlisted Component i h) .nameNew) j k
+      (listed Component j hj) (listed Component k hk) same
+      (rw (record-of im Component j hj, record-of im Component k hk) e)
 
   -- parents end, so that what lies below something below t lies below t
   pub parents-end : (g : ℕ) → g < groups im → endsRule im g ≡ true
@@ -71,13 +126,13 @@ module _ (im : List ℕ) (acc : IsAccepted im) where
   unfolding labelOfTag
   label-found k h =
       found-unique _ (labels im) 0 k zero-le (omega arith) (eq-eqb (tagOf (labelRecord im k)) _ refl)
-      (λ j low high e. tag-unique im (labels-kept im (keeps im acc .contents)) j k (omega arith) h (eqb-true (tagOf (labelRecord im j)) (tagOf (labelRecord im k)) e))
+      (λ j low high e. tags-apart j k (omega arith) h (eqb-true (tagOf (labelRecord im j)) (tagOf (labelRecord im k)) e))
 
   pub user-found : (u : ℕ) → u < users im → userOfName im (userName (userRecord im u)) ≡ u
   unfolding userOfName
   user-found u h =
       found-unique _ (users im) 0 u zero-le (omega arith) (same-refl (userName (userRecord im u)))
-      (λ j low high e. user-unique im (users-kept im (keeps im acc .contents)) j u (omega arith) h (same-means _ _ e))
+      (λ j low high e. users-apart j u (omega arith) h (same-means _ _ e))
 
 -- what a look-up gives in any image: the place of a record that has what was asked for, or the number of records where none has it
 module _ (im : List ℕ) where
@@ -109,7 +164,7 @@ tag-outside im acc tag out = at (ltb (labelOfTag im tag) (labels im)) refl
     at : (t : Bool) → ltb (labelOfTag im tag) (labels im) ≡ t → labels im ≤ labelOfTag im tag
     at true e =
         let h : labelOfTag im tag < labels im = ltb-true _ _ e in
-        let k = label-kept im acc (labelOfTag im tag) h .kept in
+        let k = label-kept im acc (labelOfTag im tag) h in
         let q = label-carries im tag h in
         let low : 1 ≤ tag = omega arith in
         absurd (omega (arith, out low))

@@ -6,7 +6,7 @@ use mathlib.Core.List.{List}
 use lib.Dec.{ltb}
 use Rattle.fields.specs.Scan.{firstBad}
 use Rattle.blocks.specs.Blocks.{lengthRule, blockCount, firstBadBlock}
-use Rattle.header.specs.Layout.{groups, users, blocksNeeded, userBlock, userSlot, contentsOf}
+use Rattle.header.specs.Layout.{groups, users, blocksNeeded, shapeOf, recordBlock, recordSlot, contentsOf}
 use Rattle.header.specs.Header.{headerRule, fitRule}
 use Rattle.records.specs.Rules.{layoutRule, firstBadRecord, contentRule}
 use Rattle.header.specs.declared.layout.Kind.{Kind}
@@ -35,13 +35,17 @@ contentFault im b =
     let held = contentsOf im b in
     cond (layoutRule im b) (recordFault (held .kind) b (firstBadRecord im b - held .from)) (Layout b)
 
+-- the fault of the user at place u: the block and the place there of the user's record
+abbrev pub userFault : List ℕ → ℕ → Fault
+userFault im u = User (recordBlock (shapeOf im kind.User) u) (recordSlot (shapeOf im kind.User) u)
+
 -- ---- the first fault
 -- once header and length are sound: the lowest block's contents, a ring of parents, a user's groups against below
 unfoldable pub countedFault : List ℕ → Fault
 countedFault im =
     cond (ltb (firstBadContent im) (blocksNeeded im)) (contentFault im (firstBadContent im))
     (cond (ltb (firstRing im) (groups im)) (Ring (firstRing im))
-    (cond (ltb (firstBadBelow im) (users im)) (User (userBlock im (firstBadBelow im)) (userSlot (firstBadBelow im))) Sound))
+    (cond (ltb (firstBadBelow im) (users im)) (userFault im (firstBadBelow im)) Sound))
 
 -- of all: the length; the lowest block whose check or place is wrong; the header and a length unfit for its counts; the rest
 unfoldable pub faultOf : List ℕ → Fault

@@ -1,17 +1,18 @@
 -- What may be asked of an image: a component's name by class and place, a label's place by tag, a user's place by name.
 use Prim.Native.Nat.{ℕ, _+_, _≤_, _<_}
-use mathlib.Core.Bool.{Bool, cond, _&&_, _||_}
+use mathlib.Core.Bool.{Bool, _&&_, _||_}
 use mathlib.Core.List.{List}
 use denote.Ref.{RefT}
 use lib.Dec.{eqb, ltb}
 use Rattle.fields.specs.Bytes.{part}
 use Rattle.fields.specs.Names.{sameName}
 use Rattle.fields.specs.Scan.{firstWhere}
-use Rattle.header.specs.Layout.{levels, compartments, groups, users, labels, componentNameOffset, componentRecord, labelRecord, userRecord}
+use Rattle.header.specs.Layout.{levels, compartments, groups, users, labels, countsOf, classFirst, componentNameOffset, componentRecord, labelRecord, userRecord}
 use Rattle.records.specs.Fields.{componentNameLength, tagOf, userName}
 use Rattle.refusals.specs.declared.Refusal.the-variants.{NoComponent}
 use Rattle.refusals.specs.declared.answers.Checked.{Checked}
 use Rattle.refusals.specs.declared.answers.Checked.the-variants.{Accepted, Refused}
+use Rattle.refusals.specs.Answers.{onChecked, orRefuse}
 use Rattle.image.specs.Check.{checkOf}
 
 -- ---- a component's name, by class (1 level, 2 compartment, 3 group) and place in its class
@@ -22,23 +23,18 @@ hasComponent im class place =
 
 -- its place among all components
 unfoldable pub componentIndex : List ℕ → ℕ → ℕ → ℕ
-componentIndex im class place =
-    cond (eqb class 1) place (cond (eqb class 2) (levels im + place) (levels im + compartments im + place))
+componentIndex im class place = classFirst (countsOf im) class + place
 
 -- where its name begins in the image, and how long it is
 unfoldable pub nameOffset : List ℕ → ℕ → ℕ → ℕ
-nameOffset im class place = componentNameOffset (componentIndex im class place)
+nameOffset im class place = componentNameOffset im (componentIndex im class place)
 
 unfoldable pub nameLength : List ℕ → ℕ → ℕ → ℕ
 nameLength im class place = componentNameLength (componentRecord im (componentIndex im class place))
 
 -- how the look-up ends: 1, 2, 3, or 18 where the policy lacks the component
-abbrev pub unlessLacking : Checked → Bool → Checked
-unlessLacking (Refused r) found = Refused r
-unlessLacking Accepted found = cond found Accepted (Refused NoComponent)
-
 unfoldable pub nameAnswer : List ℕ → ℕ → ℕ → Checked
-nameAnswer im class place = unlessLacking (checkOf im) (hasComponent im class place)
+nameAnswer im class place = onChecked (checkOf im) Refused (orRefuse (hasComponent im class place) NoComponent Accepted)
 
 -- a part of what was lent: where it begins in memory, and its bytes
 abbrev pub Part : Type 0
@@ -48,14 +44,10 @@ abbrev pub partOf : RefT (List ℕ) → ℕ → ℕ → Part
 partOf lent offset n = ((lent .ptr .0, offset + lent .ptr .1), part (lent .now) offset n)
 
 -- the part handed back: exactly the name's bytes, where they stand in the image; an empty part on a refusal
-abbrev pub whenAccepted : Checked → Part → Part → Part
-whenAccepted Accepted found empty = found
-whenAccepted (Refused r) found empty = empty
-
 unfoldable pub namePart : RefT (List ℕ) → ℕ → ℕ → Part
 namePart image class place =
     let im = image .now in
-    whenAccepted (nameAnswer im class place) (partOf image (nameOffset im class place) (nameLength im class place)) (partOf image 0 0)
+    onChecked (nameAnswer im class place) (λ r. partOf image 0 0) (partOf image (nameOffset im class place) (nameLength im class place))
 
 -- ---- look-ups in an accepted image
 -- the label record that carries the tag; the number of labels where none does

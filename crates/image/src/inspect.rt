@@ -1,16 +1,18 @@
 // The first fault of an image, in the order of document 02's request R-2.
 ghost use Prim.Native.Nat.{_≤_, _<_};
 ghost use mathlib.Core.Path.{_≡_};
-ghost use Rattle.header.specs.Layout.{blocksNeeded};
+ghost use Rattle.header.specs.Layout.{users, blocksNeeded};
 ghost use Rattle.header.specs.Limits.{Counted};
-ghost use Rattle.image.specs.Check.{firstBadContent, contentFault, countedFault, faultOf};
+ghost use Rattle.image.specs.Check.{firstBadContent, contentFault, userFault, countedFault, faultOf};
 use crate::faults::Fault;
 use crate::faults::record_fault;
 use blocks::frame::first_bad_block;
 use blocks::frame::length_ok;
-use header::header::fit_ok;
-use header::header::header_ok;
+use header::contents::block_contents;
 use header::layout;
+use header::layout::Kind;
+use header::rules::fit_ok;
+use header::rules::header_ok;
 use hierarchy::parents::first_ring;
 use hierarchy::table;
 use records::blocks::content_ok;
@@ -40,9 +42,18 @@ fn content_fault(image: &[u8], b: usize) -> Fault
     if !layout_ok(image, b) {
         return Fault::Layout(b);
     }
-    let held = layout::block_contents(image, b);
+    let held = block_contents(image, b);
     let kind = held.kind;
     record_fault(kind, b, first_bad_record(image, b) - held.from)
+}
+
+// The block and the place there of a user's record.
+fn user_fault(image: &[u8], u: usize) -> Fault
+    requires { ⌜ Counted (now image) × (u < users (now image)) ⌝ }
+    ensures { λ r. ⌜ r ≡ userFault (now (image .entry)) u ⌝ }
+{
+    let shape = layout::shape_of(image, Kind::User);
+    Fault::User(layout::record_block(shape, u), layout::record_slot(shape, u))
 }
 
 // The first fault once the header and the length are sound.
@@ -62,7 +73,7 @@ fn counted_fault(image: &[u8]) -> Fault
     table::fill(image, &mut lineages);
     let u = table::first_bad_below(image, &lineages);
     if u < layout::users(image) {
-        return Fault::User(layout::user_block(image, u), layout::user_slot(u));
+        return user_fault(image, u);
     }
     Fault::Sound
 }

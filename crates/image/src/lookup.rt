@@ -22,20 +22,14 @@ pub fn component_index(image: &[u8], class: u8, place: usize) -> usize
     requires { ⌜ Counted (now image) × (hasComponent (now image) class place ≡ true) ⌝ }
     ensures { λ r. ⌜ (r ≡ componentIndex (now (image .entry)) class place) × (r < components (now (image .entry))) ⌝ }
 {
-    if class == 1 {
-        return place;
-    }
-    if class == 2 {
-        return layout::levels(image) + place;
-    }
-    layout::levels(image) + layout::compartments(image) + place
+    layout::class_first(image, class) + place
 }
 
 pub fn name_offset(image: &[u8], class: u8, place: usize) -> usize
     requires { ⌜ Counted (now image) × (hasComponent (now image) class place ≡ true) ⌝ }
     ensures { λ r. ⌜ r ≡ nameOffset (now (image .entry)) class place ⌝ }
 {
-    layout::component_name_offset(component_index(image, class, place))
+    layout::component_name_offset(image, component_index(image, class, place))
 }
 
 pub fn name_length(image: &[u8], class: u8, place: usize) -> usize

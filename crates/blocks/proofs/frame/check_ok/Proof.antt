@@ -1,129 +1,45 @@
-use Prim.Native.Nat.{_+_, _≤_, _-_, _*_}
-use mathlib.Core.Path.{ap₂}
-use native.Mathlib.Nat.{zero-add}
 use native.Mathlib.Omega.{arith}
 use borrow.Author.Needs.{needs}
 use Rattle.blocks.specs.Blocks.{checkRule}
-use Rattle.blocks.proofs.Sums.{Halfway, halfway-step, halfway-sums}
 use Rattle.blocks.proofs.frame.check_ok.Statement.{statement}
 use Rattle.blocks.proofs.frame.check_ok.Tie as tie
 
-abbrev Inv-loop : tie.InvT-loop
-Inv-loop block a₀ b₀ i₀ a b i = (i ≤ 255) × ((a ≤ 510 * i) × ((b ≤ 130050 * i) × Halfway block a b i))
+sums-requires : tie.Need-sums-requires
+sums-requires c κs = search needs
 
-abbrev μ-loop : tie.MeasureT-loop
-μ-loop block a₀ b₀ i₀ a b i = 255 - i
+shared-slice-read-wide : tie.Need-shared-slice-read-wide
+shared-slice-read-wide c = search needs
 
-loop-holds : tie.Need-loop-holds Inv-loop μ-loop
-loop-holds c = (omega arith, (omega arith, (omega arith, record { first = zero-add _; second = zero-add _ })))
-
-shared-slice-read-wide : tie.Need-shared-slice-read-wide Inv-loop μ-loop
-shared-slice-read-wide c = omega arith
-
-wide-requires : tie.Need-wide-requires Inv-loop μ-loop
+wide-requires : tie.Need-wide-requires
 wide-requires c κs = search needs
 
-add-wide : tie.Need-add-wide Inv-loop μ-loop
-add-wide c = omega arith
-
-shared-slice-read-wide-2 : tie.Need-shared-slice-read-wide-2 Inv-loop μ-loop
-shared-slice-read-wide-2 c = omega arith
-
-wide-requires-2 : tie.Need-wide-requires-2 Inv-loop μ-loop
-wide-requires-2 c κs = search needs
-
-add-y : tie.Need-add-y Inv-loop μ-loop
-add-y c = omega arith
-
-sub-w : tie.Need-sub-w Inv-loop μ-loop
-sub-w c = omega arith
-
-cast-w : tie.Need-cast-w Inv-loop μ-loop
-cast-w c = omega arith
-
-cast-a : tie.Need-cast-a Inv-loop μ-loop
-cast-a c = omega arith
-
-add-a : tie.Need-add-a Inv-loop μ-loop
-add-a c = omega arith
-
-times-requires : tie.Need-times-requires Inv-loop μ-loop
-times-requires c κs = (omega arith, omega arith)
-
-add-b : tie.Need-add-b Inv-loop μ-loop
-add-b c = omega arith
-
-add-i : tie.Need-add-i Inv-loop μ-loop
-add-i c = omega arith
-
-loop-less : tie.Need-loop-less Inv-loop μ-loop
-loop-less c = omega arith
-
-loop-again : tie.Need-loop-again Inv-loop μ-loop
-loop-again c =
-    let at = c .before .before .before .before .before .before in
-    let y = ap₂ _+_ (c .before .before .before .wide .ensures .0) (c .before .wide2 .ensures .0) in (
-      omega arith,
-      (
-        omega arith,
-        (
-          omega arith,
-          rw (c .times .ensures .0) (halfway-step _ (at .before .before .pre) _ _ _ _ (c .before .before .before .before .before .loop-test .taken) y (at .loop .inv .1 .1 .1)),
-        ),
-      ),
-    )
-
-shared-slice-read-wide-3 : tie.Need-shared-slice-read-wide-3 Inv-loop μ-loop
-shared-slice-read-wide-3 c = omega arith
-
-wide-requires-3 : tie.Need-wide-requires-3 Inv-loop μ-loop
-wide-requires-3 c κs = search needs
-
-cast-result : tie.Need-cast-result Inv-loop μ-loop
+cast-result : tie.Need-cast-result
 cast-result c = omega arith
 
-shared-slice-read-wide-4 : tie.Need-shared-slice-read-wide-4 Inv-loop μ-loop
-shared-slice-read-wide-4 c = omega arith
+shared-slice-read-wide-2 : tie.Need-shared-slice-read-wide-2
+shared-slice-read-wide-2 c = search needs
 
-wide-requires-4 : tie.Need-wide-requires-4 Inv-loop μ-loop
-wide-requires-4 c κs = search needs
+wide-requires-2 : tie.Need-wide-requires-2
+wide-requires-2 c κs = search needs
 
-cast-result-2 : tie.Need-cast-result-2 Inv-loop μ-loop
+cast-result-2 : tie.Need-cast-result-2
 cast-result-2 c = omega arith
 
-returns : tie.Need-returns Inv-loop μ-loop
+returns : tie.Need-returns
 unfolding checkRule
 returns c =
-    let at = c .before .before .before .before .before in
-    let sums = halfway-sums _ (at .before .before .pre) _ _ _ (c .before .before .before .before .loop-test .left) (at .loop .inv .1 .1 .1) in
-    rw (c .before .before .wide3 .ensures .0, c .wide4 .ensures .0, sums .0, sums .1)
+    let first = c .before .before .before .before in
+    rw (first .wide .ensures .0, c .before .wide2 .ensures .0, first .before .before .sums .ensures)
 
 pub check-ok-spec : {M : Type 1} → statement M
 check-ok-spec =
     tie.close
     (tie.spec
-    Inv-loop
-    μ-loop
-    loop-holds
+    sums-requires
     shared-slice-read-wide
     wide-requires
-    add-wide
+    cast-result
     shared-slice-read-wide-2
     wide-requires-2
-    add-y
-    sub-w
-    cast-w
-    cast-a
-    add-a
-    times-requires
-    add-b
-    add-i
-    loop-less
-    loop-again
-    shared-slice-read-wide-3
-    wide-requires-3
-    cast-result
-    shared-slice-read-wide-4
-    wide-requires-4
     cast-result-2
     returns)

@@ -49,27 +49,31 @@ first-bad-below-requires : tie.Need-first-bad-below-requires
 first-bad-below-requires c κs = search needs
 
 users-requires : tie.Need-users-requires
-users-requires c κs = header-inside _ (c .before .before .before .before .before .before .before .before .before .before .before .pre .fitted)
+users-requires c κs =
+    let rung = c .before .before .before .before .before in
+    header-inside _ (rung .before .before .before .before .before .before .pre .fitted)
 
-user-block-requires : tie.Need-user-block-requires
-user-block-requires c κs = (header-inside _ (c .before .before .before .before .before .before .before .before .before .before .before .before .before .pre .fitted), omega arith)
-
-user-slot-requires : tie.Need-user-slot-requires
-user-slot-requires c κs = search needs
+user-fault-requires : tie.Need-user-fault-requires
+user-fault-requires c κs =
+    let tabled = c .before .before .before .before .before .before .before in
+    (tabled .before .before .before .before .before .before .pre, omega arith)
 
 returns-3 : tie.Need-returns-3
 unfolding countedFault
 returns-3 c =
-    let im = c .before .before .before .before .before .before .before .before .before .before .before .before .before .before .before .args .image .now in
+    let found = c .before .before .before in
+    let tabled = found .before .before .before .before .before in
+    let im = tabled .before .before .before .before .before .before .args .image .now in
     let f : blocksNeeded im ≤ firstBadContent im = omega arith in
     let g : groups im ≤ firstRing im = omega arith in
     let h : firstBadBelow im < users im = omega arith in
-    rw (le-ltb _ _ f, le-ltb _ _ g, lt-ltb _ _ h, c .before .user-block .ensures, c .user-slot .ensures, c .before .before .before .before .first-bad-below .ensures)
+    rw (le-ltb _ _ f, le-ltb _ _ g, lt-ltb _ _ h, c .user-fault .ensures, found .first-bad-below .ensures)
 
 returns-4 : tie.Need-returns-4
 unfolding countedFault
 returns-4 c =
-    let im = c .before .before .before .before .before .before .before .before .before .before .before .before .before .args .image .now in
+    let tabled = c .before .before .before .before .before .before .before in
+    let im = tabled .before .before .before .before .before .before .args .image .now in
     let f : blocksNeeded im ≤ firstBadContent im = omega arith in
     let g : groups im ≤ firstRing im = omega arith in
     let h : users im ≤ firstBadBelow im = omega arith in
@@ -89,7 +93,6 @@ counted-fault-spec =
     fill-requires
     first-bad-below-requires
     users-requires
-    user-block-requires
-    user-slot-requires
+    user-fault-requires
     returns-3
     returns-4)

@@ -1,6 +1,4 @@
-use native.Mathlib.Omega.{arith}
 use borrow.Author.Needs.{needs}
-use Rattle.header.specs.Layout.{componentOffset, components}
 use Rattle.image.specs.Lookup.{nameOffset}
 use Rattle.image.proofs.lookup.name_offset.Statement.{statement}
 use Rattle.image.proofs.lookup.name_offset.Tie as tie
@@ -9,8 +7,7 @@ component-index-requires : tie.Need-component-index-requires
 component-index-requires c κs = search needs
 
 component-name-offset-requires : tie.Need-component-name-offset-requires
-unfolding componentOffset components
-component-name-offset-requires c κs = omega (arith, c .before .before .pre .0)
+component-name-offset-requires c κs = search needs
 
 returns : tie.Need-returns
 unfolding nameOffset
