@@ -1,4 +1,5 @@
 -- Laws that several proofs use, and what the crates above may cite.
+pub mod Alphabet
 pub mod Reading
 pub mod Runs
 pub mod Splitting

@@ -5,7 +5,7 @@ use mathlib.Core.Bool.{Bool, true, false}
 use mathlib.Core.List.{List, [], _∷_}
 use Rattle.fields.specs.Bytes.{all}
 use Rattle.fields.specs.Names.{nameByte}
-use Rattle.labels.specs.Text.{split, isName, isList, shapeRule}
+use Rattle.labels.specs.Text.{textByte, split, isName, isList, shapeRule}
 
 abbrev judged : List (List ℕ) → List Bool
 judged [] = []
@@ -16,7 +16,7 @@ pub well-shaped : judged (
     (65 ∷ []) ∷ (65 ∷ 58 ∷ 66 ∷ []) ∷ (65 ∷ 58 ∷ 66 ∷ 44 ∷ 67 ∷ []) ∷ (65 ∷ 58 ∷ 66 ∷ 58 ∷ 67 ∷ []) ∷ (65 ∷ 58 ∷ 58 ∷ 67 ∷ [])
     ∷ (65 ∷ 58 ∷ 66 ∷ 44 ∷ 67 ∷ 58 ∷ 68 ∷ 44 ∷ 69 ∷ []) ∷ []
     ) ≡ true ∷ true ∷ true ∷ true ∷ true ∷ true ∷ []
-unfolding shapeRule split isName isList all nameByte
+unfolding shapeRule split isName isList all textByte nameByte
 well-shaped = refl
 
 -- the empty text, A:, A:: (P16), A:B:, :B, A,B, A:B,, A:,B, A::B:C, A B, a
@@ -24,5 +24,5 @@ pub ill-shaped : judged (
     [] ∷ (65 ∷ 58 ∷ []) ∷ (65 ∷ 58 ∷ 58 ∷ []) ∷ (65 ∷ 58 ∷ 66 ∷ 58 ∷ []) ∷ (58 ∷ 66 ∷ []) ∷ (65 ∷ 44 ∷ 66 ∷ [])
     ∷ (65 ∷ 58 ∷ 66 ∷ 44 ∷ []) ∷ (65 ∷ 58 ∷ 44 ∷ 66 ∷ []) ∷ (65 ∷ 58 ∷ 58 ∷ 66 ∷ 58 ∷ 67 ∷ []) ∷ (65 ∷ 32 ∷ 66 ∷ []) ∷ (97 ∷ []) ∷ []
     ) ≡ false ∷ false ∷ false ∷ false ∷ false ∷ false ∷ false ∷ false ∷ false ∷ false ∷ false ∷ []
-unfolding shapeRule split isName isList all nameByte
+unfolding shapeRule split isName isList all textByte nameByte
 ill-shaped = refl
