@@ -1,3 +1,4 @@
 // The header of an image: its counts, its rules, and where by the counts the blocks and records stand.
 pub mod header;
 pub mod layout;
+pub mod limits;

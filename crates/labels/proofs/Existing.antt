@@ -12,6 +12,7 @@ use Rattle.sets.proofs.Bounds.{none-below, one-below, union-below}
 use Rattle.refusals.specs.declared.Refusal.{Refusal}
 use Rattle.refusals.specs.declared.Refusal.the-variants.{TextShape, UnknownName}
 use Rattle.header.specs.Layout.{levels, compartments, groups}
+use Rattle.header.specs.Limits.{limitsOf}
 use Rattle.refusals.specs.declared.answers.Checked.{Checked}
 use Rattle.refusals.specs.declared.answers.Checked.the-variants.{Accepted, Refused}
 use Rattle.image.specs.Check.{checkOf}
@@ -88,7 +89,7 @@ module _ (im : List ℕ) where
 
   pub parsed-exists : (text : List ℕ) (m : Marks) → parseOf im text ≡ label m → Exists im m
   unfolding parseOf
-  parsed-exists text m = at (checkOf im) (shapeRule text)
+  parsed-exists text m = at (checkOf im) (shapeRule (limitsOf im .text) text)
     where
       at : (c : Checked) (t : Bool) → unlessRefused c (cond t (readParts im (split colon text)) (refused TextShape)) ≡ label m → Exists im m
       at Accepted true e = parts-exist (split colon text) m e

@@ -13,6 +13,7 @@ use Rattle.refusals.specs.declared.Refusal.{Refusal}
 use Rattle.refusals.specs.declared.Refusal.the-variants.{TextShape, UnknownName}
 use Rattle.refusals.specs.Refusals.{placeOf}
 use Rattle.header.specs.Layout.{levels}
+use Rattle.header.specs.Limits.{limitsOf}
 use Rattle.refusals.specs.declared.answers.Checked.{Checked}
 use Rattle.refusals.specs.declared.answers.Checked.the-variants.{Accepted, Refused}
 use Rattle.image.specs.Check.{checkOf}
@@ -111,13 +112,13 @@ parts-told im (level ∷ rest) =
     at true sets h = h
     at false sets h = omega arith
 
-text-told : (im text : List ℕ) → told (cond (shapeRule text) (readParts im (split colon text)) (refused TextShape)) < 2 ^ 32
-text-told im text = at (shapeRule text) refl
+text-told : (im text : List ℕ) → told (cond (shapeRule (limitsOf im .text) text) (readParts im (split colon text)) (refused TextShape)) < 2 ^ 32
+text-told im text = at (shapeRule (limitsOf im .text) text) refl
   where
-    short : shapeRule text ≡ true → length text ≤ 4096
+    short : shapeRule (limitsOf im .text) text ≡ true → length text ≤ limitsOf im .text
     short e = unfold shapeRule in leb-true _ _ (both-left _ (shapeOfParts (split colon text)) e)
 
-    at : (t : Bool) → shapeRule text ≡ t → told (cond t (readParts im (split colon text)) (refused TextShape)) < 2 ^ 32
+    at : (t : Bool) → shapeRule (limitsOf im .text) text ≡ t → told (cond t (readParts im (split colon text)) (refused TextShape)) < 2 ^ 32
     at true e = omega (arith, parts-told im (split colon text), split-spans colon text, short e)
     at false e = omega arith
 
@@ -126,7 +127,7 @@ unfolding parseOf
 answer-told im text = at (checkOf im) refl
   where
     at : (c : Checked) → checkOf im ≡ c
-        → told (unlessRefused c (cond (shapeRule text) (readParts im (split colon text)) (refused TextShape))) < 2 ^ 32
+        → told (unlessRefused c (cond (shapeRule (limitsOf im .text) text) (readParts im (split colon text)) (refused TextShape))) < 2 ^ 32
     at Accepted d = text-told im text
     at (Refused q) d = omega (arith, check-place im q d)
 

@@ -10,6 +10,7 @@ use Rattle.sets.specs.Sets.{has, none, one, union}
 use Rattle.refusals.specs.declared.Refusal.{Refusal}
 use Rattle.refusals.specs.declared.Refusal.the-variants.{TextShape, UnknownName, RepeatedName}
 use Rattle.header.specs.Layout.{levels, compartments, groups, componentRecord}
+use Rattle.header.specs.Limits.{limitsOf}
 use Rattle.records.specs.Fields.{componentName}
 use Rattle.refusals.specs.declared.answers.Checked.{Checked}
 use Rattle.refusals.specs.declared.answers.Checked.the-variants.{Accepted, Refused}
@@ -85,7 +86,7 @@ readParts im (level ∷ rest) =
 
 -- 5; then the leftmost name refused by 6 or 7
 abbrev pub readText : List ℕ → List ℕ → Read
-readText im text = cond (shapeRule text) (readParts im (split colon text)) (refused TextShape)
+readText im text = cond (shapeRule (limitsOf im .text) text) (readParts im (split colon text)) (refused TextShape)
 
 -- 1, 2, 3 before all others
 abbrev pub unlessRefused : Checked → Read → Read

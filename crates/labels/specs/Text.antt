@@ -54,6 +54,6 @@ shapeOfParts (level ∷ first ∷ []) = isName level && isList first
 shapeOfParts (level ∷ first ∷ second ∷ []) = isName level && (isEmpty first || isList first) && isList second
 shapeOfParts (level ∷ first ∷ second ∷ third ∷ more) = false
 
--- text over 4,096 bytes, or of another shape, is refused as text
-unfoldable pub shapeRule : List ℕ → Bool
-shapeRule text = leb (length text) 4096 && shapeOfParts (split colon text)
+-- text over the limit, or of another shape, is refused as text
+unfoldable pub shapeRule : ℕ → List ℕ → Bool
+shapeRule limit text = leb (length text) limit && shapeOfParts (split colon text)

@@ -6,13 +6,14 @@ use crate::answers::Parsed;
 use crate::answers::Reason;
 use crate::parts::read_parts;
 use crate::shape::shape_ok;
+use header::limits::text_limit;
 
 // The shape of the whole text comes before any of its names.
 pub fn read_text(image: &[u8], text: &[u8]) -> Parsed
     requires { ⌜ Counted (now image) ⌝ }
     ensures { λ r. ⌜ readOf r ≡ readText (now (image .entry)) (now (text .entry)) ⌝ }
 {
-    if !shape_ok(text) {
+    if !shape_ok(text, text_limit(image)) {
         return Parsed::Refused(Reason::Shape);
     }
     read_parts(image, text)

@@ -15,7 +15,6 @@ use crate::lists::mark_from;
 use crate::lists::read_list;
 use crate::names::Found;
 use crate::names::find;
-use crate::shape::shape_ok;
 use sets::groups::Groups;
 
 // The groups, where the compartments end at `end`.

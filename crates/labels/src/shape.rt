@@ -143,11 +143,11 @@ fn after_all(text: &[u8]) -> State
     state
 }
 
-// Does the text have the shape of a label's text?
-pub fn shape_ok(text: &[u8]) -> bool
-    ensures { λ r. ⌜ r ≡ shapeRule (now (text .entry)) ⌝ }
+// Does the text have the shape of a label's text, and no more bytes than the limit?
+pub fn shape_ok(text: &[u8], limit: usize) -> bool
+    ensures { λ r. ⌜ r ≡ shapeRule limit (now (text .entry)) ⌝ }
 {
-    if 4096 < text.len() {
+    if limit < text.len() {
         return false;
     }
     ends_well(after_all(text))

@@ -10,6 +10,7 @@ use lib.ListN.{length, length-append}
 use Rattle.fields.proofs.Both.{parts}
 use Rattle.sets.specs.Sets.{empty, within, allBelow}
 use Rattle.header.specs.Layout.{levels, compartments, groups}
+use Rattle.header.specs.Limits.{limitsOf}
 use Rattle.image.specs.Check.{IsAccepted}
 use Rattle.image.specs.Lookup.{hasComponent}
 use Rattle.image.proofs.Accepted.{accepted-counted}
@@ -133,7 +134,7 @@ module _ (im : List ℕ) (m : Marks) (b name : List ℕ) (n : name ≡ nameAt im
         → Written b 0 (textOf im m) last p
     written-both e u = rw (text-both im m e, ← n) (written-then fits-two two u)
 
--- ---- a label's text is short
+-- ---- a label's text is no longer than a text that is read may be
 section-short : (im : List ℕ) (class s count : ℕ) → Named im class count → length (section im class count s) ≤ 1985
 section-short im class s count k =
     let l = section-length im class s count in
@@ -141,10 +142,10 @@ section-short im class s count k =
     let w = k .few in
     omega arith
 
-pub text-short : (im : List ℕ) → IsAccepted im → (m : Marks) → labelExists im m ≡ true → length (textOf im m) ≤ 4096
+pub text-short : (im : List ℕ) → IsAccepted im → (m : Marks) → labelExists im m ≡ true → length (textOf im m) ≤ limitsOf im .text
 text-short im acc m h = at (empty (m .groups)) refl (empty (m .compartments)) refl
   where
-    at : (g : Bool) → empty (m .groups) ≡ g → (c : Bool) → empty (m .compartments) ≡ c → length (textOf im m) ≤ 4096
+    at : (g : Bool) → empty (m .groups) ≡ g → (c : Bool) → empty (m .compartments) ≡ c → length (textOf im m) ≤ limitsOf im .text
     at g e c d =
         let name = name-short im acc 1 (m .level) (has-level im m h) in
         let one = section-short im 2 (m .compartments) (compartments im) (named-compartments im acc) in
@@ -153,7 +154,7 @@ text-short im acc m h = at (empty (m .groups)) refl (empty (m .compartments)) re
       where
         by : (g : Bool) → empty (m .groups) ≡ g → (c : Bool) → empty (m .compartments) ≡ c
             → length (nameAt im 1 (m .level)) ≤ 30 → length (first im m) ≤ 1985 → length (second im m) ≤ 1985
-            → length (textOf im m) ≤ 4096
+            → length (textOf im m) ≤ limitsOf im .text
         by true e true d name one two = let l = length-level im m refl (rw (e, d)) in omega arith
         by true e false d name one two = let l = length-first im m refl (rw (e, d)) e refl in omega arith
         by false e c d name one two = let l = length-both im m refl e refl refl in omega arith

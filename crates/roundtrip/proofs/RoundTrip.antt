@@ -12,6 +12,7 @@ use Rattle.sets.specs.Sets.{none, empty, within, allBelow}
 use Rattle.sets.proofs.Bounds.{below-within}
 use Rattle.sets.proofs.Meets.{empty-none}
 use Rattle.header.specs.Layout.{levels, compartments, groups}
+use Rattle.header.specs.Limits.{limitsOf}
 use Rattle.refusals.specs.declared.Refusal.the-variants.{TextShape}
 use Rattle.refusals.specs.declared.answers.Checked.{Checked}
 use Rattle.refusals.specs.declared.answers.Checked.the-variants.{Accepted, Refused}
@@ -83,7 +84,7 @@ text-tells im acc m n h k e =
 -- ---- a text that is read as a label: the image is accepted, the policy has the label, and its print is read as it again
 pub parsed-accepted : (im text : List ℕ) (m : Marks) → parseOf im text ≡ label m → IsAccepted im
 unfolding parseOf
-parsed-accepted im text m = at (checkOf im) (cond (shapeRule text) (readParts im (split colon text)) (refused TextShape))
+parsed-accepted im text m = at (checkOf im) (cond (shapeRule (limitsOf im .text) text) (readParts im (split colon text)) (refused TextShape))
   where
     at : (c : Checked) (r : Read) → unlessRefused c r ≡ label m → c ≡ Accepted
     at Accepted r e = refl

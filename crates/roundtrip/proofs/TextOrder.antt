@@ -8,6 +8,7 @@ use lib.ListN.{length}
 use Rattle.sets.specs.Sets.{none}
 use Rattle.refusals.specs.declared.Refusal.the-variants.{TextShape, UnknownName}
 use Rattle.header.specs.Layout.{levels}
+use Rattle.header.specs.Limits.{limitsOf}
 use Rattle.image.specs.Check.{IsAccepted}
 use Rattle.labels.specs.Label.{Marks, labelExists}
 use Rattle.labels.specs.Text.{comma, colon, split, isEmpty, shapeRule}
@@ -78,14 +79,14 @@ parts-order im m (groups l {f} {g} {h} {k} same other) e = at (ltb (placeOfName 
 
 read-parts : (im text : List ℕ) (m : Marks) → parseOf im text ≡ label m → readParts im (split colon text) ≡ label m
 unfolding parseOf
-read-parts im text m e = at (shapeRule text) (rw (parsed-accepted im text m e) at e)
+read-parts im text m e = at (shapeRule (limitsOf im .text) text) (rw (parsed-accepted im text m e) at e)
   where
     at : (t : Bool) → cond t (readParts im (split colon text)) (refused TextShape) ≡ label m → readParts im (split colon text) ≡ label m
     at true h = h
     at false h = absurd (true≢false (sym (ap isLabel h)))
 
 -- the same names in any order give the same label
-pub parse-any-order : (im text other : List ℕ) (m : Marks) → SameNames (split colon text) (split colon other) → shapeRule other ≡ true
+pub parse-any-order : (im text other : List ℕ) (m : Marks) → SameNames (split colon text) (split colon other) → shapeRule (limitsOf im .text) other ≡ true
     → parseOf im text ≡ label m → parseOf im other ≡ label m
 unfolding parseOf
 parse-any-order im text other m same shaped e =
@@ -93,5 +94,5 @@ parse-any-order im text other m same shaped e =
 
 -- so a printed label reads back, also when its lists are given in another order
 pub print-any-order : (im : List ℕ) → IsAccepted im → (m : Marks) → labelExists im m ≡ true → (other : List ℕ)
-    → SameNames (split colon (textOf im m)) (split colon other) → shapeRule other ≡ true → parseOf im other ≡ label m
+    → SameNames (split colon (textOf im m)) (split colon other) → shapeRule (limitsOf im .text) other ≡ true → parseOf im other ≡ label m
 print-any-order im acc m h other same shaped = parse-any-order im (textOf im m) other m same shaped (parse-of-print im acc m h)

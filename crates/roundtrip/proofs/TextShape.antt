@@ -13,6 +13,7 @@ use Rattle.sets.specs.Sets.{has, empty, within, allBelow}
 use Rattle.sets.proofs.Bounds.{below-has, within-below}
 use Rattle.sets.proofs.Meets.{empty-lacks, empty-place}
 use Rattle.header.specs.Layout.{levels, compartments, groups}
+use Rattle.header.specs.Limits.{limitsOf}
 use Rattle.image.specs.Check.{IsAccepted}
 use Rattle.labels.specs.Label.{Marks, labelExists}
 use Rattle.labels.specs.Text.{comma, colon, split, isEmpty, isName, allNames, isList, shapeOfParts, shapeRule}
@@ -197,8 +198,8 @@ module _ (im : List ℕ) (acc : IsAccepted im) (m : Marks) (h : labelExists im m
           (both (isName level && (isEmpty first || isList first)) (isList second)
           (both (isName level) (isEmpty first || isList first) level-named first-either) (second-listed e))
 
-  pub shape-of-text : shapeRule (textOf im m) ≡ true
+  pub shape-of-text : shapeRule (limitsOf im .text) (textOf im m) ≡ true
   unfolding shapeRule
   shape-of-text =
-      both (leb (length (textOf im m)) 4096) (shapeOfParts (split colon (textOf im m)))
-      (le-leb (length (textOf im m)) 4096 (text-short im acc m h)) parts-shaped
+      both (leb (length (textOf im m)) (limitsOf im .text)) (shapeOfParts (split colon (textOf im m)))
+      (le-leb (length (textOf im m)) (limitsOf im .text) (text-short im acc m h)) parts-shaped
