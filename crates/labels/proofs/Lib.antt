@@ -5,6 +5,7 @@ pub mod Runs
 pub mod Splitting
 pub mod Classes
 pub mod Naming
+pub mod Tells
 pub mod Existing
 pub mod Joining
 pub mod Offsets

@@ -182,7 +182,7 @@ abbrev asked : State → List (List ℕ) → Bool
 asked state [] = false
 asked state (p ∷ ps) = asks state p ps
 
-abbrev hasParts : List (List ℕ) → Bool
+abbrev pub hasParts : List (List ℕ) → Bool
 hasParts [] = false
 hasParts (p ∷ ps) = true
 

@@ -12,7 +12,7 @@ use Rattle.refusals.specs.declared.answers.Checked.the-variants.{Accepted}
 use Rattle.image.specs.Check.{checkOf}
 use Rattle.image.specs.Lookup.{componentIndex, labelOfTag}
 use Rattle.labels.specs.Text.{textByte, split, isName, isList, shapeRule}
-use Rattle.labels.specs.Parse.{matches, placeOfName, readNames, readText, parseOf}
+use Rattle.labels.specs.Parse.{matches, placeOfName, readNames, readText, ofText, parseOf}
 use Rattle.printing.specs.Print.{entryAt, listed, listText, section, textOf, acceptedAnswer, printOf}
 use Rattle.labels.specs.Label.{labelExists}
 use Rattle.dominance.specs.TwoLabels.{mergeLevels, mergeSets, lettersRule, mergedLabel, mergeOf}
@@ -43,9 +43,9 @@ shortly im (ofRow tag) =
     toldVerdicts im tag (verdictOf (mayRead im rights tag)) (verdictOf (mayWrite im rights tag))
 shortly im (newLabel text) = toldChange (labelChange im maraOpened text)
 shortly im (merged text1 text2 letters) =
-    onLabel (readText im text1)
-    (λ a. onLabel (readText im text2) (λ b. onMerged (mergeOf a b letters) (λ m. toldPrint (acceptedAnswer im m buffer))))
-shortly im (printed text) = onLabel (readText im text) (λ m. toldPrint (acceptedAnswer im m buffer))
+    onLabel (ofText (readText im text1))
+    (λ a. onLabel (ofText (readText im text2)) (λ b. onMerged (mergeOf a b letters) (λ m. toldPrint (acceptedAnswer im m buffer))))
+shortly im (printed text) = onLabel (ofText (readText im text)) (λ m. toldPrint (acceptedAnswer im m buffer))
 
 answer-shortly : (im : List ℕ) → Known im → (q : Question) → answer im q ≡ shortly im q
 unfolding answer mayReadOf mayWriteOf setLabelOf parseOf printOf

@@ -37,15 +37,17 @@ name-end-requires c κs = omega arith
 
 loop-less : tie.Need-loop-less Inv-loop μ-loop
 loop-less c =
-    let text = c .before .before .before .before .before .before .before .before .args .text .now in
-    let i = c .before .before .before .before .before .before .loop .i in
+    let turn = c .before .before .before .before .before in
+    let text = turn .before .before .before .args .text .now in
+    let i = turn .before .loop .i in
     omega (arith, bad-from (textByteAt text) (length text - (i + 1)) (i + 1))
 
 loop-again : tie.Need-loop-again Inv-loop μ-loop
 loop-again c =
-    let text = c .before .before .before .before .before .before .before .before .args .text .now in
-    let l = c .before .before .before .before .before .before .loop in
-    let first = name-step text (l .state) _ (l .i) (c .before .before .before .before .before .loop-test .taken) (sym (c .before .before .before .text-byte .ensures) ∙ c .before .before .if1 .taken) (l .inv) in
+    let turn = c .before .before .before .before .before in
+    let text = turn .before .before .before .args .text .now in
+    let l = turn .before .loop in
+    let first = name-step text (l .state) _ (l .i) (turn .loop-test .taken) (sym (c .before .before .before .text-byte .ensures) ∙ c .before .before .if1 .taken) (l .inv) in
     let inside : l .i + 1 ≤ length text = omega arith in
     rw (c .before .after-name-byte .ensures) (run-step text (l .state) _ (l .i + 1) _ inside (c .name-end .ensures) first)
 
