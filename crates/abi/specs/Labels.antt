@@ -4,8 +4,8 @@ use mathlib.Core.List.{List}
 use Rattle.refusals.specs.Refusals.{answerOf}
 use Rattle.labels.specs.Parse.{read, refused, Parsing, ofText, badImage, parseOf, refusalOf}
 use Rattle.printing.specs.Print.{printOf}
-use Rattle.printing.specs.declared.printing.Printed.{Printed}
-use Rattle.printing.specs.declared.printing.Printed.the-variants as printed
+use Rattle.printing.specs.declared.answers.Printed.{Printed}
+use Rattle.printing.specs.declared.answers.Printed.the-variants as printed
 use Rattle.encoding.specs.Labels.{labelBytes, labelIn}
 
 -- `brawnesk_parse`: the answer, and the label's bytes after it: 0 and the label, or the refusal and the bytes as they were

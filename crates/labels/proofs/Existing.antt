@@ -1,18 +1,45 @@
--- What is read from a text exists: a label that is read names only components that the policy has. Assumes nothing.
+-- What the test that a label exists means; and a label that is read from a text exists. Assumes nothing.
 use Prim.Native.Nat.{ℕ, _+_, _^_, _<_}
 use mathlib.Core.Path.{_≡_, refl, subst}
 use mathlib.Core.Bool.{Bool, true, false, cond}
 use mathlib.Core.List.{List, [], _∷_}
-use borrow.Author.Tests.{ltb-true}
+use borrow.Author.Tests.{lt-ltb, ltb-true}
 use lib.Dec.{ltb}
 use lib.ListN.{length}
 use Rattle.sets.specs.Sets.{has, none, one, union}
-use Rattle.sets.proofs.Bounds.{none-below, one-below, union-below}
+use Rattle.fields.proofs.Both.{parts}
+use Rattle.sets.proofs.Bounds.{none-below, one-below, union-below, within-below, below-within}
 use Rattle.header.specs.Layout.{levels, compartments, groups}
-use Rattle.labels.specs.Label.{Marks}
+use Rattle.labels.specs.Label.{Marks, labelExists}
 use Rattle.labels.specs.Text.{comma, colon, split}
 use Rattle.labels.specs.Parse.{classCount, placeOfName, Reading, read, unknown, repeated, readNames, readList, groupsAfter, readSets, readParts, ofText, parseOf}
 use Rattle.labels.proofs.Tells.{refused-not-read, read-tells, then-read, text-parts, parsed-read}
+
+-- every component that the label names is one of the policy
+pub record Exists (im : List ℕ) (m : Marks) : Type 0 where
+  pub level : m .level < levels im
+  pub compartments : m .compartments < 2 ^ compartments im
+  pub groups : m .groups < 2 ^ groups im
+
+pub exists-means : (im : List ℕ) (m : Marks) → labelExists im m ≡ true → Exists im m
+unfolding labelExists
+exists-means im m e =
+    let q2 = parts _ _ e in
+    let q1 = parts _ _ (q2 .0) in
+    record {
+      level = ltb-true _ _ (q1 .0);
+      compartments = within-below (m .compartments) (compartments im) (q1 .1);
+      groups = within-below (m .groups) (groups im) (q2 .1);
+    }
+
+pub means-exists : (im : List ℕ) (m : Marks) → Exists im m → labelExists im m ≡ true
+unfolding labelExists
+means-exists im m x =
+    rw (
+      lt-ltb (m .level) (levels im) (x .level),
+      below-within (m .compartments) (compartments im) (x .compartments),
+      below-within (m .groups) (groups im) (x .groups),
+    )
 
 -- ---- a list
 module _ (im : List ℕ) (class : ℕ) where
@@ -41,11 +68,6 @@ module _ (im : List ℕ) (class : ℕ) where
   list-exists (x ∷ xs) offset s e = names-exist (split comma (x ∷ xs)) offset none s (none-below (classCount im class)) e
 
 -- ---- a label
-pub record Exists (im : List ℕ) (m : Marks) : Type 0 where
-  pub level : m .level < levels im
-  pub compartments : m .compartments < 2 ^ compartments im
-  pub groups : m .groups < 2 ^ groups im
-
 module _ (im : List ℕ) where
   exists : (l c g : ℕ) (m : Marks) → l < levels im → c < 2 ^ compartments im → g < 2 ^ groups im
       → read (record { level = l; compartments = c; groups = g }) ≡ read m → Exists im m

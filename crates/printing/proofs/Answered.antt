@@ -11,7 +11,7 @@ use Rattle.header.specs.Limits.{limitsOf}
 use Rattle.buffers.proofs.Pasted.{front}
 use Rattle.image.specs.Check.{IsAccepted}
 use Rattle.labels.specs.Label.{Marks, labelExists}
-use Rattle.printing.specs.declared.printing.Printed.the-variants as printed
+use Rattle.printing.specs.declared.answers.Printed.the-variants as printed
 use Rattle.printing.specs.Print.{textOf, acceptedAnswer, printOf}
 use Rattle.buffers.specs.Pasting.{Written}
 use Rattle.printing.proofs.Whole.{text-short}

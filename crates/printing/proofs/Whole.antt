@@ -5,16 +5,16 @@ use mathlib.Core.Bool.{Bool, true, false, cond, _&&_}
 use mathlib.Core.List.{List, [], _++_, append-nil, append-assoc}
 use native.Mathlib.Omega.{arith}
 use borrow.Author.Tests.{lt-ltb}
-use lib.Dec.{ltb}
 use lib.ListN.{length, length-append}
 use Rattle.fields.proofs.Both.{parts}
-use Rattle.sets.specs.Sets.{empty, within, allBelow}
+use Rattle.sets.specs.Sets.{empty}
 use Rattle.header.specs.Layout.{levels, compartments, groups}
 use Rattle.header.specs.Limits.{limitsOf}
 use Rattle.image.specs.Check.{IsAccepted}
 use Rattle.image.specs.Lookup.{hasComponent}
 use Rattle.image.proofs.Accepted.{accepted-counted}
 use Rattle.labels.specs.Label.{Marks, labelExists}
+use Rattle.labels.proofs.Existing.{exists-means}
 use Rattle.printing.specs.Print.{nameAt, section, textOf, Named}
 use Rattle.buffers.specs.Pasting.{Written}
 use Rattle.printing.proofs.Listed.{name-short, listed-short}
@@ -23,13 +23,8 @@ use Rattle.printing.proofs.Sections.{section-length}
 
 -- ---- the components are there
 pub has-level : (im : List ℕ) (m : Marks) → labelExists im m ≡ true → hasComponent im 1 (m .level) ≡ true
-unfolding labelExists hasComponent
-has-level im m e =
-    let a = ltb (m .level) (levels im) in
-    let b = within (m .compartments) (allBelow (compartments im)) in
-    let d = within (m .groups) (allBelow (groups im)) in
-    let q : ltb (m .level) (levels im) ≡ true = parts a b (parts (a && b) d e .0) .0 in
-    rw q
+unfolding hasComponent
+has-level im m e = rw (lt-ltb (m .level) (levels im) (exists-means im m e .level))
 
 pub named-compartments : (im : List ℕ) → IsAccepted im → Named im 2 (compartments im)
 unfolding hasComponent

@@ -11,12 +11,13 @@ use Rattle.refusals.specs.declared.Refusal.{Refusal}
 use Rattle.refusals.specs.declared.Refusal.the-variants.{NoComponent, Room}
 use Rattle.refusals.specs.declared.answers.Checked.{Checked}
 use Rattle.refusals.specs.declared.answers.Checked.the-variants.{Accepted, Refused}
+use Rattle.refusals.specs.Answers.{onChecked, orRefuse}
 use Rattle.image.specs.Check.{checkOf}
 use Rattle.labels.specs.Label.{Marks, labelExists}
-use Rattle.printing.specs.declared.printing.Printed.{Printed}
-use Rattle.printing.specs.declared.printing.Printed.the-variants as printed
+use Rattle.printing.specs.declared.answers.Printed.{Printed}
+use Rattle.printing.specs.declared.answers.Printed.the-variants as printed
 use Rattle.labels.specs.Parse.{read, ofText, parseOf}
-use Rattle.printing.specs.Print.{textOf, unlessRefused, acceptedAnswer, printOf}
+use Rattle.printing.specs.Print.{textOf, unprinted, acceptedAnswer, printOf}
 use Rattle.roundtrip.proofs.RoundTrip.{parse-of-print}
 
 not-done : (r : Refusal) (n : ℕ) → printed.Refused r ≡ printed.Done n → ⊥
@@ -35,7 +36,8 @@ printed-parses im m b n after = at (checkOf im) refl (labelExists im m) refl (le
     text = textOf im m
 
     at : (c : Checked) → checkOf im ≡ c → (t : Bool) → labelExists im m ≡ t → (u : Bool)
-        → unlessRefused c (cond t (cond u (printed.Done (length text), text ++ drop (length text) b) (printed.Refused Room, b)) (printed.Refused NoComponent, b)) b
+        → onChecked c (unprinted b)
+        (onChecked (orRefuse t NoComponent (orRefuse u Room Accepted)) (unprinted b) (printed.Done (length text), text ++ drop (length text) b))
         ≡ (printed.Done n, after)
         → parseOf im (take n after) ≡ ofText (read m)
     at (Refused r) acc t h u e = absurd (not-done r n (ap (λ (x : Printed × List ℕ). x .0) e))

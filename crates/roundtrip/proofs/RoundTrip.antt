@@ -1,15 +1,12 @@
 -- Text that is printed for a label is read as that label. Assumes nothing.
 use Prim.Native.Nat.{ℕ, _+_}
 use mathlib.Core.Path.{_≡_, refl, sym, ap, ap₂, _∙_}
-use mathlib.Core.Bool.{Bool, true, false, cond, _&&_}
+use mathlib.Core.Bool.{Bool, true, false}
 use mathlib.Core.List.{List, [], _∷_}
 use native.Mathlib.Omega.{arith}
 use borrow.Author.Tests.{lt-ltb}
-use lib.Dec.{ltb}
 use lib.ListN.{length}
-use Rattle.fields.proofs.Both.{both}
-use Rattle.sets.specs.Sets.{none, empty, within, allBelow}
-use Rattle.sets.proofs.Bounds.{below-within}
+use Rattle.sets.specs.Sets.{none, empty}
 use Rattle.sets.proofs.Meets.{empty-none}
 use Rattle.header.specs.Layout.{levels, compartments, groups}
 use Rattle.image.specs.Check.{IsAccepted}
@@ -18,10 +15,10 @@ use Rattle.labels.specs.Text.{colon, split}
 use Rattle.labels.specs.Parse.{Reading, read, readList, readSets, readParts, ofText, parseOf}
 use Rattle.printing.specs.Print.{nameAt, listText, textOf}
 use Rattle.labels.proofs.Tells.{read-tells, parsed-read}
-use Rattle.labels.proofs.Existing.{parsed-exists}
+use Rattle.labels.proofs.Existing.{exists-means, means-exists, parsed-exists}
 use Rattle.roundtrip.proofs.OwnNames.{place-of-own-name}
 use Rattle.roundtrip.proofs.ListsRead.{list-read}
-use Rattle.roundtrip.proofs.TextShape.{level-below, compartments-below, groups-below, parts-level, parts-first, parts-both, shape-of-text}
+use Rattle.roundtrip.proofs.TextShape.{parts-level, parts-first, parts-both, shape-of-text}
 
 same-label : (m : Marks) (c g : ℕ) → c ≡ m .compartments → g ≡ m .groups
     → read (record { level = m .level; compartments = c; groups = g }) ≡ read m
@@ -38,15 +35,15 @@ module _ (im : List ℕ) (acc : IsAccepted im) (m : Marks) (h : labelExists im m
       → readParts im (nameAt im 1 (m .level) ∷ rest) ≡ readSets im (m .level) (length (nameAt im 1 (m .level)) + 1) rest
   level-read rest =
       rw (
-        place-of-own-name im acc 1 (omega arith) (omega arith) (m .level) (level-below im m h),
-        lt-ltb (m .level) (levels im) (level-below im m h),
+        place-of-own-name im acc 1 (omega arith) (omega arith) (m .level) (exists-means im m h .level),
+        lt-ltb (m .level) (levels im) (exists-means im m h .level),
       )
 
   first-read : (offset : ℕ) → readList im 2 offset first ≡ read (m .compartments)
-  first-read = list-read im acc 2 (omega arith) (omega arith) (m .compartments) (compartments-below im m h)
+  first-read = list-read im acc 2 (omega arith) (omega arith) (m .compartments) (exists-means im m h .compartments)
 
   second-read : (offset : ℕ) → readList im 3 offset second ≡ read (m .groups)
-  second-read = list-read im acc 3 (omega arith) (omega arith) (m .groups) (groups-below im m h)
+  second-read = list-read im acc 3 (omega arith) (omega arith) (m .groups) (exists-means im m h .groups)
 
   parts-read : readParts im (split colon (textOf im m)) ≡ read m
   parts-read = at (empty (m .groups)) refl (empty (m .compartments)) refl
@@ -81,13 +78,7 @@ text-tells im acc m n h k e =
 
 -- ---- a text that is read as a label: the image is accepted, the policy has the label, and its print is read as it again
 pub parsed-has : (im text : List ℕ) (m : Marks) → parseOf im text ≡ ofText (read m) → labelExists im m ≡ true
-unfolding labelExists
-parsed-has im text m e =
-    let x = parsed-exists im text m e in
-    both (ltb (m .level) (levels im) && within (m .compartments) (allBelow (compartments im))) (within (m .groups) (allBelow (groups im)))
-    (both (ltb (m .level) (levels im)) (within (m .compartments) (allBelow (compartments im))) (lt-ltb (m .level) (levels im) (x .level))
-    (below-within (m .compartments) (compartments im) (x .compartments)))
-    (below-within (m .groups) (groups im) (x .groups))
+parsed-has im text m e = means-exists im m (parsed-exists im text m e)
 
 pub print-of-parse : (im text : List ℕ) (m : Marks) → parseOf im text ≡ ofText (read m)
     → (labelExists im m ≡ true) × (parseOf im (textOf im m) ≡ ofText (read m))

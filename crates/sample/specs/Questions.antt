@@ -12,8 +12,8 @@ use Rattle.refusals.specs.Answers.{onChecked}
 use Rattle.labels.specs.Label.{Marks}
 use Rattle.labels.specs.Parse as parse
 use Rattle.printing.specs.Print.{textOf, printOf}
-use Rattle.printing.specs.declared.printing.Printed.{Printed}
-use Rattle.printing.specs.declared.printing.Printed.the-variants as print
+use Rattle.printing.specs.declared.answers.Printed.{Printed}
+use Rattle.printing.specs.declared.answers.Printed.the-variants as print
 use Rattle.dominance.specs.TwoLabels as merging
 use Rattle.access.specs.Verdicts.{labelAt, knownTag}
 use Rattle.sessions.specs.Session.{SessionMarks}

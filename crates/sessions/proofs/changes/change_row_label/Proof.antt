@@ -20,7 +20,9 @@ text-refused-requires c κs = search needs
 
 returns : tie.Need-returns
 unfolding rowLabelChange
-returns c = rw (← c .before .before .before .before .read-text .ensures, c .before .before .read .given .1, ← c .before .before .before .before .before .before .before .pre .1) (c .put-row-label .ensures)
+returns c =
+    let text = c .before .before .before .before in
+    rw (← text .read-text .ensures, c .before .before .read .given .1, ← text .before .before .before .pre .1) (c .put-row-label .ensures)
 
 returns-2 : tie.Need-returns-2
 unfolding rowLabelChange
