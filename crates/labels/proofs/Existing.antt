@@ -1,4 +1,4 @@
--- What the test that a label exists means; and a label that is read from a text exists. Assumes nothing.
+-- What the test that a label exists means; the labels of an accepted image exist, and those that are read from a text. Assumes nothing.
 use Prim.Native.Nat.{ℕ, _+_, _^_, _<_}
 use mathlib.Core.Path.{_≡_, refl, subst}
 use mathlib.Core.Bool.{Bool, true, false, cond}
@@ -8,9 +8,12 @@ use lib.Dec.{ltb}
 use lib.ListN.{length}
 use Rattle.sets.specs.Sets.{has, none, one, union}
 use Rattle.fields.proofs.Both.{parts}
-use Rattle.sets.proofs.Bounds.{none-below, one-below, union-below, within-below, below-within}
-use Rattle.header.specs.Layout.{levels, compartments, groups}
-use Rattle.labels.specs.Label.{Marks, labelExists}
+use Rattle.sets.proofs.Bounds.{none-below, one-below, union-below, within-below, below-within, has-below}
+use Rattle.header.specs.Layout.{levels, compartments, groups, labels, labelRecord}
+use Rattle.records.specs.Fields.{labelCompartments, labelGroups}
+use Rattle.image.specs.Check.{IsAccepted}
+use Rattle.image.proofs.Policy.{label-kept}
+use Rattle.labels.specs.Label.{Marks, labelAt, labelExists}
 use Rattle.labels.specs.Text.{comma, colon, split}
 use Rattle.labels.specs.Parse.{classCount, placeOfName, Reading, read, unknown, repeated, readNames, readList, groupsAfter, readSets, readParts, ofText, parseOf}
 use Rattle.labels.proofs.Tells.{refused-not-read, read-tells, then-read, text-parts, parsed-read}
@@ -40,6 +43,18 @@ means-exists im m x =
       below-within (m .compartments) (compartments im) (x .compartments),
       below-within (m .groups) (groups im) (x .groups),
     )
+
+-- ---- the labels of an accepted image exist
+pub record-exists : (im : List ℕ) → IsAccepted im → (k : ℕ) → k < labels im → labelExists im (labelAt im k) ≡ true
+unfolding labelAt
+record-exists im acc k h =
+    let kept = label-kept im acc k h .kept in
+    means-exists im (labelAt im k)
+    (record {
+      level = kept .levelExists;
+      compartments = has-below (labelCompartments (labelRecord im k)) (compartments im) (kept .compartmentsExist);
+      groups = has-below (labelGroups (labelRecord im k)) (groups im) (kept .groupsExist);
+    })
 
 -- ---- a list
 module _ (im : List ℕ) (class : ℕ) where

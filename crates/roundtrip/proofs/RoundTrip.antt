@@ -1,5 +1,5 @@
 -- Text that is printed for a label is read as that label. Assumes nothing.
-use Prim.Native.Nat.{ℕ, _+_}
+use Prim.Native.Nat.{ℕ, _+_, _<_}
 use mathlib.Core.Path.{_≡_, refl, sym, ap, ap₂, _∙_}
 use mathlib.Core.Bool.{Bool, true, false}
 use mathlib.Core.List.{List, [], _∷_}
@@ -8,14 +8,14 @@ use borrow.Author.Tests.{lt-ltb}
 use lib.ListN.{length}
 use Rattle.sets.specs.Sets.{none, empty}
 use Rattle.sets.proofs.Meets.{empty-none}
-use Rattle.header.specs.Layout.{levels, compartments, groups}
+use Rattle.header.specs.Layout.{levels, compartments, groups, labels}
 use Rattle.image.specs.Check.{IsAccepted}
-use Rattle.labels.specs.Label.{Marks, labelExists}
+use Rattle.labels.specs.Label.{Marks, labelAt, labelExists}
 use Rattle.labels.specs.Text.{colon, split}
 use Rattle.labels.specs.Parse.{Reading, read, readList, readSets, readParts, ofText, parseOf}
 use Rattle.printing.specs.Print.{nameAt, listText, textOf}
 use Rattle.labels.proofs.Tells.{read-tells, parsed-read}
-use Rattle.labels.proofs.Existing.{exists-means, means-exists, parsed-exists}
+use Rattle.labels.proofs.Existing.{exists-means, means-exists, record-exists, parsed-exists}
 use Rattle.roundtrip.proofs.OwnNames.{place-of-own-name}
 use Rattle.roundtrip.proofs.ListsRead.{list-read}
 use Rattle.roundtrip.proofs.TextShape.{parts-level, parts-first, parts-both, shape-of-text}
@@ -68,7 +68,12 @@ module _ (im : List ℕ) (acc : IsAccepted im) (m : Marks) (h : labelExists im m
   unfolding parseOf
   parse-of-print = rw (acc, shape-of-text im acc m h) (ap ofText parts-read)
 
--- ---- so the text tells the label
+-- ---- so the print of every label of an accepted image is read as that label
+pub record-reads-back : (im : List ℕ) → IsAccepted im → (k : ℕ) → k < labels im
+    → parseOf im (textOf im (labelAt im k)) ≡ ofText (read (labelAt im k))
+record-reads-back im acc k h = parse-of-print im acc (labelAt im k) (record-exists im acc k h)
+
+-- ---- and the text tells the label
 pub text-tells : (im : List ℕ) → IsAccepted im → (m n : Marks) → labelExists im m ≡ true → labelExists im n ≡ true
     → textOf im m ≡ textOf im n → m ≡ n
 text-tells im acc m n h k e =
