@@ -17,7 +17,8 @@ same-means a b e =
     let l : a .level ≡ b .level = eqb-true _ _ (q1 .0) in
     let c : a .compartments ≡ b .compartments = eqb-true _ _ (q1 .1) in
     let g : a .groups ≡ b .groups = eqb-true _ _ (q2 .1) in
-    let e : _≡_ {A = Marks} (record { level = a .level; compartments = a .compartments; groups = a .groups }) (record { level = b .level; compartments = b .compartments; groups = b .groups }) = rw (l, c, g) in
+    let e : _≡_ {A = Marks} (record { level = a .level; compartments = a .compartments; groups = a .groups })
+    (record { level = b .level; compartments = b .compartments; groups = b .groups }) = rw (l, c, g) in
     e
 
 pub same-refl : (a : Marks) → sameLabel a a ≡ true

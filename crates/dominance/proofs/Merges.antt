@@ -33,8 +33,10 @@ module _ (a b : Marks) where
   pub huu-dominates : (dominates (mergedLabel a b huu) a ≡ true) × (dominates (mergedLabel a b huu) b ≡ true)
   unfolding dominates dominatesLevel dominatesCompartments mergedLabel mergeLevels mergeSets
   huu-dominates = (
-    rw (le-leb _ _ (le-max-left (a .level) (b .level)), within-union-left (a .compartments) (b .compartments)) (groups-among (a .groups) (union (a .groups) (b .groups)) (within-union-left (a .groups) (b .groups))),
-    rw (le-leb _ _ (le-max-right (a .level) (b .level)), within-union-right (a .compartments) (b .compartments)) (groups-among (b .groups) (union (a .groups) (b .groups)) (within-union-right (a .groups) (b .groups))),
+    rw (le-leb _ _ (le-max-left (a .level) (b .level)), within-union-left (a .compartments) (b .compartments))
+        (groups-among (a .groups) (union (a .groups) (b .groups)) (within-union-left (a .groups) (b .groups))),
+    rw (le-leb _ _ (le-max-right (a .level) (b .level)), within-union-right (a .compartments) (b .compartments))
+        (groups-among (b .groups) (union (a .groups) (b .groups)) (within-union-right (a .groups) (b .groups))),
   )
 
   pub lii-dominated-first : (dominatesLevel a (mergedLabel a b lii) ≡ true) × (dominatesCompartments a (mergedLabel a b lii) ≡ true)

@@ -87,7 +87,8 @@ module _ (im : List ℕ) (m : Marks) (b name : List ℕ) (n : name ≡ nameAt im
   unfolding textOf
   room-level =
       let e = ap length n in
-      omega (arith, length-append (nameAt im 1 (m .level)) (cond (empty (m .groups)) (cond (empty (m .compartments)) [] (first im m)) (first im m ++ second im m)))
+      let tail = cond (empty (m .groups)) (cond (empty (m .compartments)) [] (first im m)) (first im m ++ second im m) in
+      omega (arith, length-append (nameAt im 1 (m .level)) tail)
 
   front-room : (empty (m .groups) && empty (m .compartments)) ≡ false → 0 + length name + length (first im m) ≤ length b
   front-room t = at (empty (m .groups)) refl

@@ -51,7 +51,11 @@ module _ (im : List ℕ) (class : ℕ) where
   moved (name ∷ rest) offset offset' set s e =
       let k = taken offset set name rest s e in
       put offset' set name rest s
-      (record { known = k .known; new = k .new; later = moved rest (offset + length name + 1) (offset' + length name + 1) (union set (one (placeOfName im class name))) s (k .later) })
+      (record {
+        known = k .known;
+        new = k .new;
+        later = moved rest (offset + length name + 1) (offset' + length name + 1) (union set (one (placeOfName im class name))) s (k .later);
+      })
 
 neither : (a b : Bool) → (a || b) ≡ false → (a ≡ false) × (b ≡ false)
 neither true b e = absurd (true≢false e)

@@ -12,7 +12,7 @@ use Rattle.header.specs.Layout.{levels, compartments, groups, labels}
 use Rattle.image.specs.Check.{IsAccepted}
 use Rattle.labels.specs.Label.{Marks, labelAt, labelExists}
 use Rattle.labels.specs.Text.{colon, split}
-use Rattle.labels.specs.Parse.{Reading, read, readList, readSets, readParts, ofText, parseOf}
+use Rattle.labels.specs.Parse.{read, readList, readSets, readParts, ofText, parseOf}
 use Rattle.printing.specs.Print.{nameAt, listText, textOf}
 use Rattle.labels.proofs.Tells.{read-tells, parsed-read}
 use Rattle.labels.proofs.Existing.{exists-means, means-exists, record-exists, parsed-exists}

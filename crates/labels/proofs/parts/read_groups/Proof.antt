@@ -7,7 +7,9 @@ none-requires : tie.Need-none-requires
 none-requires c κs = search needs
 
 returns : tie.Need-returns
-returns c = rw (c .none .ensures) (groups-none (c .before .before .before .before .args .image .now) (c .before .before .before .before .args .text .now) _ _ (c .before .if1 .taken) _)
+returns c =
+    let args = c .before .before .before .before .args in
+    rw (c .none .ensures) (groups-none (args .image .now) (args .text .now) _ _ (c .before .if1 .taken) _)
 
 add-at : tie.Need-add-at
 add-at c = search needs
@@ -46,7 +48,8 @@ returns-3 c =
     let stop = list .before .before in
     let ends = stop .mark-from .ensures in
     let start = stop .before .before .before .before in
-    groups-told _ _ _ _ _ (stop .before .if1 .left) (ends .0) (ends .1 .1) _ _ (c .before .names2 .given .1) (start .args .compartments) (list .read-list .ensures)
+    groups-told _ _ _ _ _ (stop .before .if1 .left) (ends .0) (ends .1 .1) _ _ (c .before .names2 .given .1)
+    (start .args .compartments) (list .read-list .ensures)
 
 pub read-groups-spec : {M : Type 1} → statement M
 read-groups-spec =

@@ -8,7 +8,9 @@ none-requires : tie.Need-none-requires
 none-requires c κs = search needs
 
 returns : tie.Need-returns
-returns c = rw (c .none .ensures) (sets-none (c .before .before .before .before .args .image .now) (c .before .before .before .before .args .text .now) _ _ (c .before .if1 .taken))
+returns c =
+    let args = c .before .before .before .before .args in
+    rw (c .none .ensures) (sets-none (args .image .now) (args .text .now) _ _ (c .before .if1 .taken))
 
 add-at : tie.Need-add-at
 add-at c = search needs

@@ -47,7 +47,8 @@ loop-again c =
     let turn = c .before .before .before .before .before in
     let text = turn .before .before .before .args .text .now in
     let l = turn .before .loop in
-    let first = name-step text (l .state) _ (l .i) (turn .loop-test .taken) (sym (c .before .before .before .text-byte .ensures) ∙ c .before .before .if1 .taken) (l .inv) in
+    let named = sym (c .before .before .before .text-byte .ensures) ∙ c .before .before .if1 .taken in
+    let first = name-step text (l .state) _ (l .i) (turn .loop-test .taken) named (l .inv) in
     let inside : l .i + 1 ≤ length text = omega arith in
     rw (c .before .after-name-byte .ensures) (run-step text (l .state) _ (l .i + 1) _ inside (c .name-end .ensures) first)
 
@@ -61,7 +62,9 @@ loop-less-2 : tie.Need-loop-less-2 Inv-loop μ-loop
 loop-less-2 c = omega arith
 
 loop-again-2 : tie.Need-loop-again-2 Inv-loop μ-loop
-loop-again-2 c = rw (c .after-byte .ensures) (after-step _ _ _ _ (c .before .before .before .before .loop-test .taken) (c .before .before .before .before .before .loop .inv))
+loop-again-2 c =
+    let turn = c .before .before .before .before in
+    rw (c .after-byte .ensures) (after-step _ _ _ _ (turn .loop-test .taken) (turn .before .loop .inv))
 
 returns : tie.Need-returns Inv-loop μ-loop
 returns c = after-done _ _ _ _ (c .loop-test .left) (c .before .loop .inv)

@@ -22,7 +22,10 @@ after-colon-requires : tie.Need-after-colon-requires
 after-colon-requires c κs = search needs
 
 returns-3 : tie.Need-returns-3
-returns-3 c = rw (← c .before .before .before .before .text-byte .ensures, c .before .before .before .if1 .left, ne-eqb _ _ (c .before .before .if2 .left), eq-eqb _ _ (c .before .if3 .taken)) (c .after-colon .ensures)
+returns-3 c =
+    let other = c .before .before .before in
+    rw (← other .before .text-byte .ensures, other .if1 .left, ne-eqb _ _ (c .before .before .if2 .left), eq-eqb _ _ (c .before .if3 .taken))
+    (c .after-colon .ensures)
 
 returns-4 : tie.Need-returns-4
 returns-4 c = rw (← c .before .before .before .text-byte .ensures, c .before .before .if1 .left, ne-eqb _ _ (c .before .if2 .left), ne-eqb _ _ (c .if3 .left))

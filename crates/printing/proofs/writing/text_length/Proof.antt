@@ -20,7 +20,8 @@ is-empty-requires-2 c κs = search needs
 
 returns : tie.Need-returns
 returns c =
-    length-level _ _ (c .before .before .before .name-of .ensures .0) (told (c .before .before .is-empty .ensures) (c .before .is-empty2 .ensures) (c .if1 .taken))
+    length-level _ _ (c .before .before .before .name-of .ensures .0)
+    (told (c .before .before .is-empty .ensures) (c .before .is-empty2 .ensures) (c .if1 .taken))
 
 compartments-length-requires : tie.Need-compartments-length-requires
 compartments-length-requires c κs = search needs

@@ -21,7 +21,8 @@ same-length c = search needs
 
 returns : tie.Need-returns
 returns c =
-    rw (c .before .before .before .before .before .compartments .ensures .0, c .before .before .before .before .of-word .ensures) at (c .before .before .write-section .ensures)
+    let places = c .before .before .before .before in
+    rw (places .before .compartments .ensures .0, places .of-word .ensures) at (c .before .before .write-section .ensures)
 
 pub write-compartments-spec : {M : Type 1} → statement M
 write-compartments-spec =

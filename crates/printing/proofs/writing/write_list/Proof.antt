@@ -38,8 +38,11 @@ loop-less c = omega arith
 loop-again : tie.Need-loop-again Inv-loop μ-loop
 loop-again c =
     let at-test = c .before .before .before .before in
-    let turn = at-test .loop-test .taken in
-    (omega arith, left-turn _ _ _ _ _ _ (at-test .before .loop .inv .1) _ _ (listed-step _ _ _ _ _ turn) _ _ (at-test .before .before .before .before .pre .1) (c .before .before .write-entry .ensures))
+    let turn = at-test .loop-test .taken in (
+      omega arith,
+      left-turn _ _ _ _ _ _ (at-test .before .loop .inv .1) _ _ (listed-step _ _ _ _ _ turn) _ _
+          (at-test .before .before .before .before .pre .1) (c .before .before .write-entry .ensures),
+    )
 
 same-length : tie.Need-same-length Inv-loop μ-loop
 same-length c = c .before .loop .inv .1 .long

@@ -33,7 +33,8 @@ name-of-requires c κs =
 put-requires : tie.Need-put-requires
 put-requires c κs =
     let at-start = c .before .before .before .before .before in
-    room-level (at-start .args .image .now) (marksOf (at-start .args .label)) (at-start .args .buffer .now) _ (c .before .name-of .ensures .0) (at-start .pre .1)
+    room-level (at-start .args .image .now) (marksOf (at-start .args .label)) (at-start .args .buffer .now) _
+    (c .before .name-of .ensures .0) (at-start .pre .1)
 
 is-empty-requires : tie.Need-is-empty-requires
 is-empty-requires c κs = search needs
