@@ -18,13 +18,13 @@ use Rattle.header.specs.Layout.{levels, compartments, groups}
 use Rattle.refusals.specs.declared.answers.Checked.{Checked}
 use Rattle.refusals.specs.declared.answers.Checked.the-variants.{Accepted, Refused}
 use Rattle.image.specs.Check.{checkOf}
-use Rattle.refusals.specs.Answers.{onChecked}
+use Rattle.refusals.specs.Answers.{onChecked, orRefuse}
 use Rattle.image.proofs.Accepted.{accepted-counted}
 use Rattle.image.proofs.Place.{check-place}
 use Rattle.labels.specs.Label.{Marks, labelExists}
-use Rattle.printing.specs.declared.printing.Printed.{Printed}
-use Rattle.printing.specs.declared.printing.Printed.the-variants as printed
-use Rattle.printing.specs.Print.{textOf, acceptedAnswer, unlessRefused, printOf}
+use Rattle.printing.specs.declared.answers.Printed.{Printed}
+use Rattle.printing.specs.declared.answers.Printed.the-variants as printed
+use Rattle.printing.specs.Print.{textOf, unprinted, acceptedAnswer, printOf}
 use Rattle.abi.specs.Answers.{afterCheck}
 use Rattle.encoding.specs.Labels.{high, labelIn}
 use Rattle.encoding.proofs.Wide.{above-large}
@@ -63,7 +63,7 @@ wide-print im bytes buffer wide = at (checkOf im) refl
   where
     at : (c : Checked) → checkOf im ≡ c
         → _≡_ {A = ℕ × List ℕ}
-        (printCode (unlessRefused c (acceptedAnswer im (labelIn bytes) buffer) buffer .0), unlessRefused c (acceptedAnswer im (labelIn bytes) buffer) buffer .1)
+        (printCode (onChecked c (unprinted buffer) (acceptedAnswer im (labelIn bytes) buffer) .0), onChecked c (unprinted buffer) (acceptedAnswer im (labelIn bytes) buffer) .1)
         (onChecked c answerOf (answerOf NoComponent), buffer)
     at Accepted e = rw (wide-answer im bytes buffer e wide)
     at (Refused r) e = refl
@@ -78,8 +78,8 @@ unfolding acceptedAnswer
 accepted-told im m buffer = at (labelExists im m) (leb (length (textOf im m)) (length buffer))
   where
     at : (s t : Bool)
-        → told (cond {A = Printed × List ℕ} s (cond t (printed.Done (length (textOf im m)), textOf im m ++ drop (length (textOf im m)) buffer) (printed.Refused Room, buffer))
-        (printed.Refused NoComponent, buffer) .0) < 2 ^ 32
+        → told (onChecked (orRefuse s NoComponent (orRefuse t Room Accepted)) (unprinted buffer)
+        (printed.Done (length (textOf im m)), textOf im m ++ drop (length (textOf im m)) buffer) .0) < 2 ^ 32
     at true true = omega arith
     at true false = omega arith
     at false t = omega arith
@@ -88,7 +88,7 @@ pub print-told : (im : List ℕ) (m : Marks) (buffer : List ℕ) (r : Refusal) �
 unfolding printOf
 print-told im m buffer r e = subst (λ (a : Printed). told a < 2 ^ 32) e (at (checkOf im) refl)
   where
-    at : (c : Checked) → checkOf im ≡ c → told (unlessRefused c (acceptedAnswer im m buffer) buffer .0) < 2 ^ 32
+    at : (c : Checked) → checkOf im ≡ c → told (onChecked c (unprinted buffer) (acceptedAnswer im m buffer) .0) < 2 ^ 32
     at Accepted d = accepted-told im m buffer
     at (Refused q) d = omega (arith, check-place im q d)
 

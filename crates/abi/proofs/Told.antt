@@ -1,6 +1,6 @@
 -- The place that a refusal tells fits its 32 bits, for each call on sessions and for merges. Assumes nothing.
 use Prim.Native.Nat.{ℕ, _^_, _<_}
-use mathlib.Core.Path.{_≡_, refl, _∙_, subst}
+use mathlib.Core.Path.{_≡_, refl, subst}
 use mathlib.Core.Bool.{Bool, true, false, cond}
 use mathlib.Core.List.{List}
 use native.Mathlib.Omega.{arith}
@@ -19,8 +19,8 @@ use Rattle.image.specs.Lookup.{userOfName}
 use Rattle.image.proofs.Place.{check-place}
 use Rattle.labels.specs.Label.{Marks}
 use Rattle.labels.specs.Parse as parse
-use Rattle.labels.specs.Parse.{Read, badImage, readText, parseOf}
-use Rattle.labels.proofs.Offsets.{parse-told, image-told}
+use Rattle.labels.specs.Parse.{Reading, readText}
+use Rattle.labels.proofs.Offsets.{read-told}
 use Rattle.access.specs.Rights.{Rights, between, rightsAt}
 use Rattle.access.specs.NewLabels.{sessionGroupsRule, rowGroupsRule, rowInside, sessionLabelAnswer, rowLabelAnswer, sessionRule}
 use Rattle.access.specs.Verdicts.{mayRead, mayWrite}
@@ -31,7 +31,6 @@ use Rattle.sessions.specs.Opening.{Opening, session, refused, defaultSession, o
 use Rattle.sessions.specs.Changes.{changeIf, changeTo, afterLent, withLabel, withRowLabel, labelChange, rowLabelChange, setLabelOf, setRowLabelOf}
 use Rattle.sessions.specs.Asking.{mayReadOf, mayWriteOf}
 use Rattle.refusals.specs.declared.answers.Verdict.the-variants as verdict
-use Rattle.sessions.proofs.Accepting.{lent-accepted}
 use Rattle.encoding.specs.Sessions.{answerPlace}
 use Rattle.encoding.specs.Verdicts.{verdictPlace}
 
@@ -93,17 +92,12 @@ if-told old new Accepted e = omega arith
 if-told old new (Refused r) e = omega (arith, e)
 
 module _ (im text : List ℕ) (old : SessionMarks) (rule : Marks → Checked) (change : Marks → SessionMarks) (told : (m : Marks) → answerPlace (rule m) ≡ 0) where
-  text-told : parseOf im text ≡ readText im text → answerPlace (changeTo old (readText im text) rule change .1) < 2 ^ 32
-  text-told whole = at (readText im text) refl
+  text-told : answerPlace (changeTo old (readText im text) rule change .1) < 2 ^ 32
+  text-told = at (readText im text) refl
     where
-      at : (r : Read) → readText im text ≡ r → answerPlace (changeTo old r rule change .1) < 2 ^ 32
-      at (parse.label m) e = if-told old (change m) (rule m) (told m)
-      at (parse.refused r) e = parse-told im text r (whole ∙ e)
-      at (badImage r) e = image-told im text r (whole ∙ e)
-
-read-whole : (im text : List ℕ) → checkOf im ≡ Accepted → parseOf im text ≡ readText im text
-unfolding parseOf
-read-whole im text acc = rw acc
+      at : (r : Reading Marks) → readText im text ≡ r → answerPlace (changeTo old r rule change .1) < 2 ^ 32
+      at (parse.read m) e = if-told old (change m) (rule m) (told m)
+      at (parse.refused reason) e = read-told im text reason e
 
 module _ (im text : List ℕ) (s : SessionMarks) (change : SessionMarks × Checked) where
   after-told : ((lentAnswer im s ≡ Accepted) → answerPlace (change .1) < 2 ^ 32) → answerPlace (afterLent im s change .1) < 2 ^ 32
@@ -117,15 +111,15 @@ pub set-label-told : (im text : List ℕ) (s : SessionMarks) → answerPlace (se
 unfolding setLabelOf labelChange
 set-label-told im text s =
     after-told im text s _
-    (λ (d : lentAnswer im s ≡ Accepted). text-told im text s (λ m. sessionLabelAnswer im (s .user) m (s .row)) (λ m. withLabel s m)
-    (λ m. session-label-told im (s .user) m (s .row)) (read-whole im text (lent-accepted im s d)))
+    (λ d. text-told im text s (λ m. sessionLabelAnswer im (s .user) m (s .row)) (λ m. withLabel s m)
+    (λ m. session-label-told im (s .user) m (s .row)))
 
 pub set-row-label-told : (im text : List ℕ) (s : SessionMarks) → answerPlace (setRowLabelOf im s text .1) < 2 ^ 32
 unfolding setRowLabelOf rowLabelChange
 set-row-label-told im text s =
     after-told im text s _
-    (λ (d : lentAnswer im s ≡ Accepted). text-told im text s (λ m. rowLabelAnswer (sessionRights im s) m) (λ m. withRowLabel s m)
-    (λ m. row-label-told (sessionRights im s) m) (read-whole im text (lent-accepted im s d)))
+    (λ d. text-told im text s (λ m. rowLabelAnswer (sessionRights im s) m) (λ m. withRowLabel s m)
+    (λ m. row-label-told (sessionRights im s) m))
 
 -- ---- verdicts
 asked-told : (im : List ℕ) (s : SessionMarks) (yes : Bool) → verdictPlace (onChecked (lentAnswer im s) verdict.Refused (verdictOf yes)) < 2 ^ 32

@@ -2,16 +2,16 @@
 use Prim.Native.Nat.{ℕ}
 use mathlib.Core.List.{List}
 use Rattle.refusals.specs.Refusals.{answerOf}
-use Rattle.labels.specs.Parse.{Read, label, refused, badImage, parseOf}
+use Rattle.labels.specs.Parse.{read, refused, Parsing, ofText, badImage, parseOf, refusalOf}
 use Rattle.printing.specs.Print.{printOf}
-use Rattle.printing.specs.declared.printing.Printed.{Printed}
-use Rattle.printing.specs.declared.printing.Printed.the-variants as printed
+use Rattle.printing.specs.declared.answers.Printed.{Printed}
+use Rattle.printing.specs.declared.answers.Printed.the-variants as printed
 use Rattle.encoding.specs.Labels.{labelBytes, labelIn}
 
 -- `brawnesk_parse`: the answer, and the label's bytes after it: 0 and the label, or the refusal and the bytes as they were
-abbrev pub parsedInto : Read → List ℕ → ℕ × List ℕ
-parsedInto (label m) old = (0, labelBytes m)
-parsedInto (refused r) old = (answerOf r, old)
+abbrev pub parsedInto : Parsing → List ℕ → ℕ × List ℕ
+parsedInto (ofText (read m)) old = (0, labelBytes m)
+parsedInto (ofText (refused reason)) old = (answerOf (refusalOf reason), old)
 parsedInto (badImage r) old = (answerOf r, old)
 
 abbrev pub parseAnswer : List ℕ → List ℕ → List ℕ → ℕ × List ℕ

@@ -14,7 +14,7 @@ use encoding::bytes48;
 use encoding::bytes104;
 use image::lookup;
 use labels::answers::Parsed;
-use printing::printing::Printed;
+use printing::answers::Printed;
 use refusals::Refusal;
 use refusals::answers::Checked;
 use rows::answers::RowsRead;

@@ -6,7 +6,8 @@ use borrow.Author.Tests.{eqb-true, eq-eqb}
 use Rattle.fields.proofs.Both.{parts}
 use Rattle.sets.specs.Sets.{within, meets, empty}
 use Rattle.labels.specs.Label.{Marks}
-use Rattle.dominance.specs.TwoLabels.{dominatesLevel, dominatesCompartments, dominatesGroups, dominates, sameLabel, strictlyDominates}
+use Rattle.labels.specs.GroupTest.{groupTest}
+use Rattle.dominance.specs.TwoLabels.{dominatesLevel, dominatesCompartments, dominates, sameLabel, strictlyDominates}
 
 pub same-means : (a b : Marks) → sameLabel a b ≡ true → a ≡ b
 unfolding sameLabel
@@ -16,7 +17,8 @@ same-means a b e =
     let l : a .level ≡ b .level = eqb-true _ _ (q1 .0) in
     let c : a .compartments ≡ b .compartments = eqb-true _ _ (q1 .1) in
     let g : a .groups ≡ b .groups = eqb-true _ _ (q2 .1) in
-    let e : _≡_ {A = Marks} (record { level = a .level; compartments = a .compartments; groups = a .groups }) (record { level = b .level; compartments = b .compartments; groups = b .groups }) = rw (l, c, g) in
+    let e : _≡_ {A = Marks} (record { level = a .level; compartments = a .compartments; groups = a .groups })
+    (record { level = b .level; compartments = b .compartments; groups = b .groups }) = rw (l, c, g) in
     e
 
 pub same-refl : (a : Marks) → sameLabel a a ≡ true
@@ -43,5 +45,5 @@ grouped g = record { level = 0; compartments = 0; groups = g }
 
 pub not-transitive : (dominates (grouped 1) (grouped 3) ≡ true)
     × ((dominates (grouped 3) (grouped 2) ≡ true) × (dominates (grouped 1) (grouped 2) ≡ false))
-unfolding dominates dominatesLevel dominatesCompartments dominatesGroups within meets empty
+unfolding dominates dominatesLevel dominatesCompartments groupTest within meets empty
 not-transitive = (refl, (refl, refl))

@@ -9,7 +9,8 @@ use Rattle.sets.specs.Sets.{union, empty, within, meets}
 use Rattle.sets.proofs.Within.{within-refl, within-union-left, within-union-right, intersection-within-left, intersection-within-right}
 use Rattle.sets.proofs.Meets.{empty-place, place-meets, meets-mono}
 use Rattle.labels.specs.Label.{Marks}
-use Rattle.dominance.specs.TwoLabels.{dominatesLevel, dominatesCompartments, dominatesGroups, dominates, letterH, letterL, letterU, letterI, mergeLevels, mergeSets, lettersRule, mergedLabel, label, mergeOf}
+use Rattle.labels.specs.GroupTest.{groupTest}
+use Rattle.dominance.specs.TwoLabels.{dominatesLevel, dominatesCompartments, dominates, letterH, letterL, letterU, letterI, mergeLevels, mergeSets, mergedLabel}
 
 abbrev pub huu : List ℕ
 huu = letterH ∷ letterU ∷ letterU ∷ []
@@ -18,8 +19,8 @@ abbrev pub lii : List ℕ
 lii = letterL ∷ letterI ∷ letterI ∷ []
 
 -- groups among others pass the group test against them
-pub groups-among : (s u : ℕ) → within s u ≡ true → dominatesGroups u s ≡ true
-unfolding dominatesGroups
+pub groups-among : (s u : ℕ) → within s u ≡ true → groupTest u s ≡ true
+unfolding groupTest
 groups-among s u w = at (empty s) refl
   where
     at : (t : Bool) → empty s ≡ t → (t || meets s u) ≡ true
@@ -29,19 +30,13 @@ groups-among s u w = at (empty s) refl
         meets-mono s s s u (within-refl s) w (place-meets s s (p .0) (p .1) (p .1))
 
 module _ (a b : Marks) where
-  pub huu-merges : mergeOf a b huu ≡ label (mergedLabel a b huu)
-  unfolding mergeOf lettersRule
-  huu-merges = refl
-
-  pub lii-merges : mergeOf a b lii ≡ label (mergedLabel a b lii)
-  unfolding mergeOf lettersRule
-  lii-merges = refl
-
   pub huu-dominates : (dominates (mergedLabel a b huu) a ≡ true) × (dominates (mergedLabel a b huu) b ≡ true)
   unfolding dominates dominatesLevel dominatesCompartments mergedLabel mergeLevels mergeSets
   huu-dominates = (
-    rw (le-leb _ _ (le-max-left (a .level) (b .level)), within-union-left (a .compartments) (b .compartments)) (groups-among (a .groups) (union (a .groups) (b .groups)) (within-union-left (a .groups) (b .groups))),
-    rw (le-leb _ _ (le-max-right (a .level) (b .level)), within-union-right (a .compartments) (b .compartments)) (groups-among (b .groups) (union (a .groups) (b .groups)) (within-union-right (a .groups) (b .groups))),
+    rw (le-leb _ _ (le-max-left (a .level) (b .level)), within-union-left (a .compartments) (b .compartments))
+        (groups-among (a .groups) (union (a .groups) (b .groups)) (within-union-left (a .groups) (b .groups))),
+    rw (le-leb _ _ (le-max-right (a .level) (b .level)), within-union-right (a .compartments) (b .compartments))
+        (groups-among (b .groups) (union (a .groups) (b .groups)) (within-union-right (a .groups) (b .groups))),
   )
 
   pub lii-dominated-first : (dominatesLevel a (mergedLabel a b lii) ≡ true) × (dominatesCompartments a (mergedLabel a b lii) ≡ true)

@@ -7,8 +7,9 @@ use lib.ListN.{length}
 use Rattle.fields.specs.Bytes.{byteAt}
 use Rattle.refusals.specs.declared.Refusal.{Refusal}
 use Rattle.refusals.specs.declared.Refusal.the-variants.{MergeLetters}
-use Rattle.sets.specs.Sets.{none, union, intersection, difference, empty, within, meets}
+use Rattle.sets.specs.Sets.{none, union, intersection, difference, within}
 use Rattle.labels.specs.Label.{Marks, marksOf}
+use Rattle.labels.specs.GroupTest.{groupTest}
 use Rattle.dominance.specs.declared.merging.Merged.{Merged}
 use Rattle.dominance.specs.declared.merging.Merged.the-variants as merged
 
@@ -21,14 +22,9 @@ dominatesLevel a b = leb (b .level) (a .level)
 unfoldable pub dominatesCompartments : Marks → Marks → Bool
 dominatesCompartments a b = within (b .compartments) (a .compartments)
 
--- label 2 has no groups or shares one
-unfoldable pub dominatesGroups : ℕ → ℕ → Bool
-dominatesGroups groups1 groups2 = empty groups2 || meets groups2 groups1
-
--- all three
+-- both, and label 2 has no groups or shares one
 unfoldable pub dominates : Marks → Marks → Bool
-dominates a b =
-    dominatesLevel a b && dominatesCompartments a b && dominatesGroups (a .groups) (b .groups)
+dominates a b = dominatesLevel a b && dominatesCompartments a b && groupTest (a .groups) (b .groups)
 
 unfoldable pub sameLabel : Marks → Marks → Bool
 sameLabel a b = eqb (a .level) (b .level) && eqb (a .compartments) (b .compartments) && eqb (a .groups) (b .groups)

@@ -5,6 +5,7 @@ ghost use mathlib.Core.Path.{_≡_};
 ghost use Rattle.labels.specs.Label.{marksOf};
 ghost use Rattle.dominance.specs.TwoLabels as two;
 ghost use Rattle.dominance.specs.TwoLabels.{strictlyDominates, mergingOf, mergeOf};
+use labels::group_test;
 use labels::label::Label;
 use merging::Merged;
 use refusals::Refusal;
@@ -19,7 +20,7 @@ pub fn dominates(label1: Label, label2: Label) -> bool
     let groups2 = label2.groups;
     (label2.level <= label1.level)
         & word::within(label2.compartments, label1.compartments)
-        & (groups2.is_empty() | groups2.meets(groups1))
+        & group_test::passes(groups1, groups2)
 }
 
 // And the labels differ.

@@ -1,9 +1,11 @@
 -- Laws that several proofs use, and what the crates above may cite.
+pub mod Alphabet
 pub mod Reading
 pub mod Runs
 pub mod Splitting
 pub mod Classes
 pub mod Naming
+pub mod Tells
 pub mod Existing
 pub mod Joining
 pub mod Offsets

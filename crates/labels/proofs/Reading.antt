@@ -9,10 +9,10 @@ use lib.Dec.{eqb}
 use lib.ListN.{length, getD, drop, drop-of-length-le}
 use lib.Seq.{drop-cons}
 use Rattle.fields.specs.Bytes.{all}
-use Rattle.fields.specs.Names.{nameByte, allNameBytes}
+use Rattle.fields.specs.Names.{nameByte}
 use Rattle.labels.specs.declared.shape.State.{State}
 use Rattle.labels.specs.declared.shape.State.the-variants.{Start, Level, Lists, First, FirstNext, Second, InSecond, Wrong}
-use Rattle.labels.specs.Text.{comma, colon, onto, split, isName, allNames, isList, shapeOfParts}
+use Rattle.labels.specs.Text.{comma, colon, textByte, allTextBytes, onto, split, isName, allNames, isList, shapeOfParts}
 use Rattle.labels.specs.States.{afterNameByte, afterComma, afterColon, afterByte, afterAll, endsWell}
 
 -- ---- the loop: what is left gives what the whole gives
@@ -28,60 +28,60 @@ module _ (state : State) (s : List ℕ) (i : ℕ) (w : State) where
 -- ---- the rest of a list, inside a name
 abbrev restNames : List (List ℕ) → Bool
 restNames [] = true
-restNames (n ∷ ns) = allNameBytes n && allNames ns
+restNames (n ∷ ns) = allTextBytes n && allNames ns
 
 abbrev restOfList : List ℕ → Bool
 restOfList text = restNames (split comma text)
 
 -- a byte of the alphabet is neither a comma nor a colon
-no-comma : (x : ℕ) → eqb x comma ≡ true → nameByte x ≡ false
-unfolding nameByte
+no-comma : (x : ℕ) → eqb x comma ≡ true → textByte x ≡ false
+unfolding textByte nameByte
 no-comma x e = rw (eqb-true x comma e)
 
-no-colon : (x : ℕ) → eqb x colon ≡ true → nameByte x ≡ false
-unfolding nameByte
+no-colon : (x : ℕ) → eqb x colon ≡ true → textByte x ≡ false
+unfolding textByte nameByte
 no-colon x e = rw (eqb-true x colon e)
 
-names-onto : (x : ℕ) (names : List (List ℕ)) → allNames (onto x names) ≡ (nameByte x && restNames names)
+names-onto : (x : ℕ) (names : List (List ℕ)) → allNames (onto x names) ≡ (textByte x && restNames names)
 unfolding isName all
-names-onto x [] = at (nameByte x)
+names-onto x [] = at (textByte x)
   where
     at : (t : Bool) → (t && true && true) ≡ (t && true)
     at true = refl
     at false = refl
-names-onto x (n ∷ ns) = at (nameByte x)
+names-onto x (n ∷ ns) = at (textByte x)
   where
-    at : (t : Bool) → (t && allNameBytes n && allNames ns) ≡ (t && (allNameBytes n && allNames ns))
+    at : (t : Bool) → (t && allTextBytes n && allNames ns) ≡ (t && (allTextBytes n && allNames ns))
     at true = refl
     at false = refl
 
-rest-onto : (x : ℕ) (names : List (List ℕ)) → restNames (onto x names) ≡ (nameByte x && restNames names)
+rest-onto : (x : ℕ) (names : List (List ℕ)) → restNames (onto x names) ≡ (textByte x && restNames names)
 unfolding all
-rest-onto x [] = at (nameByte x)
+rest-onto x [] = at (textByte x)
   where
     at : (t : Bool) → (t && true && true) ≡ (t && true)
     at true = refl
     at false = refl
-rest-onto x (n ∷ ns) = at (nameByte x)
+rest-onto x (n ∷ ns) = at (textByte x)
   where
-    at : (t : Bool) → (t && allNameBytes n && allNames ns) ≡ (t && (allNameBytes n && allNames ns))
+    at : (t : Bool) → (t && allTextBytes n && allNames ns) ≡ (t && (allTextBytes n && allNames ns))
     at true = refl
     at false = refl
 
-list-step : (x : ℕ) (p : List ℕ) → isList (x ∷ p) ≡ (nameByte x && restOfList p)
+list-step : (x : ℕ) (p : List ℕ) → isList (x ∷ p) ≡ (textByte x && restOfList p)
 unfolding isList split isName
 list-step x p = at (eqb x comma) refl
   where
     at : (t : Bool) → eqb x comma ≡ t
-        → allNames (cond t ([] ∷ split comma p) (onto x (split comma p))) ≡ (nameByte x && restOfList p)
+        → allNames (cond t ([] ∷ split comma p) (onto x (split comma p))) ≡ (textByte x && restOfList p)
     at true e = rw (no-comma x e)
     at false e = names-onto x (split comma p)
 
-rest-step : (x : ℕ) (p : List ℕ) → restOfList (x ∷ p) ≡ cond (eqb x comma) (isList p) (nameByte x && restOfList p)
+rest-step : (x : ℕ) (p : List ℕ) → restOfList (x ∷ p) ≡ cond (eqb x comma) (isList p) (textByte x && restOfList p)
 unfolding isList split all
 rest-step x p = at (eqb x comma)
   where
-    at : (t : Bool) → restNames (cond t ([] ∷ split comma p) (onto x (split comma p))) ≡ cond t (allNames (split comma p)) (nameByte x && restOfList p)
+    at : (t : Bool) → restNames (cond t ([] ∷ split comma p) (onto x (split comma p))) ≡ cond t (allNames (split comma p)) (textByte x && restOfList p)
     at true = refl
     at false = rest-onto x (split comma p)
 
@@ -109,7 +109,7 @@ afterLevel (p ∷ ps) = lists (p ∷ ps)
 
 abbrev asks : State → List ℕ → List (List ℕ) → Bool
 asks Start p ps = isName p && afterLevel ps
-asks Level p ps = allNameBytes p && afterLevel ps
+asks Level p ps = allTextBytes p && afterLevel ps
 asks Lists p ps = lists (p ∷ ps)
 asks First p ps = restOfList p && afterFirst ps
 asks FirstNext p ps = isList p && afterFirst ps
@@ -130,7 +130,7 @@ at-colon InSecond p ps = refl
 at-colon Wrong p ps = refl
 
 -- any other byte is the first of its part
-at-name : (state : State) (x : ℕ) (p : List ℕ) (ps : List (List ℕ)) → nameByte x ≡ true → eqb x comma ≡ false
+at-name : (state : State) (x : ℕ) (p : List ℕ) (ps : List (List ℕ)) → textByte x ≡ true → eqb x comma ≡ false
     → asks state (x ∷ p) ps ≡ asks (afterNameByte state) p ps
 unfolding isName all
 at-name Start x p ps e n = rw e
@@ -142,7 +142,7 @@ at-name Second x p ps e n = rw (list-step x p, e)
 at-name InSecond x p ps e n = rw (rest-step x p, n, e)
 at-name Wrong x p ps e n = refl
 
-at-comma : (state : State) (x : ℕ) (p : List ℕ) (ps : List (List ℕ)) → nameByte x ≡ false → eqb x comma ≡ true
+at-comma : (state : State) (x : ℕ) (p : List ℕ) (ps : List (List ℕ)) → textByte x ≡ false → eqb x comma ≡ true
     → asks state (x ∷ p) ps ≡ asks (afterComma state) p ps
 unfolding isName all
 at-comma Start x p ps e n = rw e
@@ -154,7 +154,7 @@ at-comma Second x p ps e n = rw (list-step x p, e)
 at-comma InSecond x p ps e n = rw (rest-step x p, n)
 at-comma Wrong x p ps e n = refl
 
-at-other : (state : State) (x : ℕ) (p : List ℕ) (ps : List (List ℕ)) → nameByte x ≡ false → eqb x comma ≡ false
+at-other : (state : State) (x : ℕ) (p : List ℕ) (ps : List (List ℕ)) → textByte x ≡ false → eqb x comma ≡ false
     → asks state (x ∷ p) ps ≡ false
 unfolding isName all
 at-other Start x p ps e n = rw e
@@ -168,9 +168,9 @@ at-other Wrong x p ps e n = refl
 
 at-byte : (state : State) (x : ℕ) (p : List ℕ) (ps : List (List ℕ)) → eqb x colon ≡ false
     → asks state (x ∷ p) ps ≡ asks (afterByte state x) p ps
-at-byte state x p ps k = at (nameByte x) refl (eqb x comma) refl
+at-byte state x p ps k = at (textByte x) refl (eqb x comma) refl
   where
-    at : (t : Bool) → nameByte x ≡ t → (u : Bool) → eqb x comma ≡ u
+    at : (t : Bool) → textByte x ≡ t → (u : Bool) → eqb x comma ≡ u
         → asks state (x ∷ p) ps ≡ asks (cond t (afterNameByte state) (cond u (afterComma state) (cond (eqb x colon) (afterColon state) Wrong))) p ps
     at true e true f = absurd (true≢false (sym e ∙ no-comma x f))
     at true e false f = at-name state x p ps e f
@@ -182,7 +182,7 @@ abbrev asked : State → List (List ℕ) → Bool
 asked state [] = false
 asked state (p ∷ ps) = asks state p ps
 
-abbrev hasParts : List (List ℕ) → Bool
+abbrev pub hasParts : List (List ℕ) → Bool
 hasParts [] = false
 hasParts (p ∷ ps) = true
 

@@ -67,4 +67,10 @@ pub split-from : (mark : ℕ) (text : List ℕ) (at r : ℕ) → at ≤ length t
     → split mark (drop at text) ≡ take (r - at) (drop at text) ∷ afterMark mark text r
 split-from mark text at r h e =
     split-first mark (drop at text)
-    ∙ rw (length-drop at text, ltb-shift at (untilMark mark (drop at text)) (length text) h, drop-shift text at (untilMark mark (drop at text)), e, add-sub-cancel-left)
+    ∙ rw (
+      length-drop at text,
+      ltb-shift at (untilMark mark (drop at text)) (length text) h,
+      drop-shift text at (untilMark mark (drop at text)),
+      e,
+      add-sub-cancel-left,
+    )

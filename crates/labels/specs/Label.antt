@@ -5,7 +5,8 @@ use mathlib.Core.List.{List}
 use lib.Dec.{ltb}
 use Rattle.sets.specs.Sets.{within, allBelow}
 use Rattle.sets.specs.Groups.{placesOf}
-use Rattle.header.specs.Layout.{levels, compartments, groups}
+use Rattle.header.specs.Layout.{levels, compartments, groups, labelRecord}
+use Rattle.records.specs.Fields.{labelLevel, labelCompartments, labelGroups}
 use Rattle.labels.specs.declared.label.Label.{Label}
 
 -- what a label stands for: numbers and sets of places
@@ -16,6 +17,11 @@ pub record Marks : Type 0 where
 
 abbrev pub marksOf : Label → Marks
 marksOf l = record { level = l .level; compartments = l .compartments; groups = placesOf (l .groups) }
+
+-- the label of the k-th label record
+unfoldable pub labelAt : List ℕ → ℕ → Marks
+labelAt im k =
+    let rec = labelRecord im k in record { level = labelLevel rec; compartments = labelCompartments rec; groups = labelGroups rec }
 
 -- the policy has every component that the label names
 unfoldable pub labelExists : List ℕ → Marks → Bool

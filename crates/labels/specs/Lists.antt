@@ -4,14 +4,15 @@ use mathlib.Core.Bool.{cond}
 use mathlib.Core.List.{List, [], _∷_}
 use lib.Dec.{eqb, ltb}
 use lib.ListN.{length, drop}
-use Rattle.sets.specs.Sets.{none}
 use Rattle.sets.specs.Groups.{placesOf}
 use Rattle.labels.specs.declared.names.Found.{Found}
 use Rattle.labels.specs.declared.names.Found.the-variants.{At, Nothing}
-use Rattle.labels.specs.declared.lists.Names as code
+use Rattle.labels.specs.declared.lists.ListRead.{ListRead}
+use Rattle.labels.specs.declared.lists.ListRead.the-variants as list
+use Rattle.labels.specs.declared.lists.Names.{Names}
 use Rattle.labels.specs.declared.lists.Names.the-variants as names
 use Rattle.labels.specs.Text.{split}
-use Rattle.labels.specs.Parse.{classCount, placeOfName, Names, read, unknown, repeated, readList, Read, label, thenRead}
+use Rattle.labels.specs.Parse.{classCount, placeOfName, Reading, read, refused, unknown, repeated}
 
 -- the place of a name, if its class has it
 unfoldable pub foundOf : List ℕ → ℕ → List ℕ → Found
@@ -26,14 +27,12 @@ untilMark mark (x ∷ xs) = cond (eqb x mark) 0 (suc (untilMark mark xs))
 abbrev pub afterMark : ℕ → List ℕ → ℕ → List (List ℕ)
 afterMark mark text at = cond (ltb at (length text)) (split mark (drop (at + 1) text)) []
 
--- what an answer of the code stands for
-abbrev pub namesOf : code.Names → Names
+-- what the answers of the code stand for
+abbrev pub namesOf : Names → Reading ℕ
 namesOf (names.Read g) = read (placesOf g)
 namesOf (names.Unknown offset) = unknown offset
 namesOf (names.Repeated offset) = repeated offset
 
--- after the compartments: groups, or nothing; the next part begins at the offset
-abbrev pub groupsAfter : List ℕ → ℕ → ℕ → ℕ → List (List ℕ) → Read
-groupsAfter im level compartments offset [] = label (record { level = level; compartments = compartments; groups = none })
-groupsAfter im level compartments offset (part ∷ more) =
-    thenRead (readList im 3 offset part) (λ g. label (record { level = level; compartments = compartments; groups = g }))
+abbrev pub listOf : ListRead → Reading ℕ
+listOf (list.Read g) = read (placesOf g)
+listOf (list.Refused reason) = refused reason

@@ -9,14 +9,16 @@ use Rattle.fields.specs.Scan.{firstWhere}
 use Rattle.sets.specs.Sets.{has, none, one, union}
 use Rattle.refusals.specs.declared.Refusal.{Refusal}
 use Rattle.refusals.specs.declared.Refusal.the-variants.{TextShape, UnknownName, RepeatedName}
+use Rattle.refusals.specs.Answers.{onChecked}
 use Rattle.header.specs.Layout.{levels, compartments, groups, componentRecord}
+use Rattle.header.specs.Limits.{limitsOf}
 use Rattle.records.specs.Fields.{componentName}
-use Rattle.refusals.specs.declared.answers.Checked.{Checked}
-use Rattle.refusals.specs.declared.answers.Checked.the-variants.{Accepted, Refused}
 use Rattle.image.specs.Check.{checkOf}
 use Rattle.image.specs.Lookup.{componentIndex}
 use Rattle.labels.specs.declared.answers.Reason.{Reason}
 use Rattle.labels.specs.declared.answers.Reason.the-variants.{Shape, Unknown, Repeated}
+use Rattle.labels.specs.declared.answers.TextRead.{TextRead}
+use Rattle.labels.specs.declared.answers.TextRead.the-variants as textRead
 use Rattle.labels.specs.declared.answers.Parsed.{Parsed}
 use Rattle.labels.specs.declared.answers.Parsed.the-variants as parsed
 use Rattle.labels.specs.Label.{Marks, marksOf}
@@ -36,15 +38,26 @@ unfoldable pub placeOfName : List ℕ → ℕ → List ℕ → ℕ
 placeOfName im class name =
     firstWhere (λ p. matches (componentName (componentRecord im (componentIndex im class p))) name) (classCount im class) 0
 
--- ---- what reading names gives
--- a set, or the leftmost refusal
-pub data Names : Type 0 where
-  read : ℕ → Names
-  unknown : ℕ → Names
-  repeated : ℕ → Names
+-- ---- what reading gives: a set or a label, or why the text is refused
+pub data Reading (A : Type 0) : Type 0 where
+  read : A → Reading A
+  refused : Reason → Reading A
 
+-- 6, a name that its class lacks, and 7, a name that came before in its list; the name stands at the offset
+abbrev pub unknown : {A : Type 0} → ℕ → Reading A
+unknown offset = refused (Unknown offset)
+
+abbrev pub repeated : {A : Type 0} → ℕ → Reading A
+repeated offset = refused (Repeated offset)
+
+-- reading goes on only with what was read
+abbrev pub thenRead : {A B : Type 0} → Reading A → (A → Reading B) → Reading B
+thenRead (read x) next = next x
+thenRead (refused reason) next = refused reason
+
+-- ---- a list
 -- the names of a list from the left, with the set of those before them; the next one stands at the offset
-unfoldable pub readNames : List ℕ → ℕ → ℕ → ℕ → List (List ℕ) → Names
+unfoldable pub readNames : List ℕ → ℕ → ℕ → ℕ → List (List ℕ) → Reading ℕ
 readNames im class offset set [] = read set
 readNames im class offset set (name ∷ rest) =
     let p = placeOfName im class name in
@@ -52,57 +65,55 @@ readNames im class offset set (name ∷ rest) =
     cond (ltb p (classCount im class)) (cond (has set p) (repeated offset) later) (unknown offset)
 
 -- the names of a list; an empty part is the empty set
-abbrev pub readList : List ℕ → ℕ → ℕ → List ℕ → Names
+abbrev pub readList : List ℕ → ℕ → ℕ → List ℕ → Reading ℕ
 readList im class offset [] = read none
 readList im class offset (x ∷ xs) = readNames im class offset none (split comma (x ∷ xs))
 
--- ---- the answer: a label, the refusal of the text, or the refusal of the image
-pub data Read : Type 0 where
-  label : Marks → Read
-  refused : Refusal → Read
-  badImage : Refusal → Read
+-- ---- a label
+-- after the compartments: groups, or none; the next part begins at the offset
+abbrev pub groupsAfter : List ℕ → ℕ → ℕ → ℕ → List (List ℕ) → Reading Marks
+groupsAfter im level compartments offset [] = read (record { level = level; compartments = compartments; groups = none })
+groupsAfter im level compartments offset (part ∷ more) =
+    thenRead (readList im 3 offset part) (λ g. read (record { level = level; compartments = compartments; groups = g }))
 
-abbrev pub thenRead : Names → (ℕ → Read) → Read
-thenRead (read set) next = next set
-thenRead (unknown offset) next = refused (UnknownName offset)
-thenRead (repeated offset) next = refused (RepeatedName offset)
-
--- after the level: compartments, then groups; the next part begins at the offset
-abbrev pub readSets : List ℕ → ℕ → ℕ → List (List ℕ) → Read
-readSets im level offset [] = label (record { level = level; compartments = none; groups = none })
-readSets im level offset (first ∷ []) =
-    thenRead (readList im 2 offset first) (λ c. label (record { level = level; compartments = c; groups = none }))
-readSets im level offset (first ∷ second ∷ more) =
-    thenRead (readList im 2 offset first)
-    (λ c. thenRead (readList im 3 (offset + length first + 1) second) (λ g. label (record { level = level; compartments = c; groups = g })))
+-- after the level: compartments, or none; then groups
+abbrev pub readSets : List ℕ → ℕ → ℕ → List (List ℕ) → Reading Marks
+readSets im level offset [] = groupsAfter im level none offset []
+readSets im level offset (part ∷ more) =
+    thenRead (readList im 2 offset part) (λ c. groupsAfter im level c (offset + length part + 1) more)
 
 -- the level counts as a name at offset 0
-abbrev pub readParts : List ℕ → List (List ℕ) → Read
-readParts im [] = refused TextShape
+abbrev pub readParts : List ℕ → List (List ℕ) → Reading Marks
+readParts im [] = refused Shape
 readParts im (level ∷ rest) =
     let p = placeOfName im 1 level in
-    cond (ltb p (levels im)) (readSets im p (length level + 1) rest) (refused (UnknownName 0))
+    cond (ltb p (levels im)) (readSets im p (length level + 1) rest) (unknown 0)
 
 -- 5; then the leftmost name refused by 6 or 7
-abbrev pub readText : List ℕ → List ℕ → Read
-readText im text = cond (shapeRule text) (readParts im (split colon text)) (refused TextShape)
+abbrev pub readText : List ℕ → List ℕ → Reading Marks
+readText im text = cond (shapeRule (limitsOf im .text) text) (readParts im (split colon text)) (refused Shape)
+
+-- ---- the answer of `parse`: what the text gives, or the refusal of the image
+pub data Parsing : Type 0 where
+  ofText : Reading Marks → Parsing
+  badImage : Refusal → Parsing
 
 -- 1, 2, 3 before all others
-abbrev pub unlessRefused : Checked → Read → Read
-unlessRefused Accepted answer = answer
-unlessRefused (Refused r) answer = badImage r
+unfoldable pub parseOf : List ℕ → List ℕ → Parsing
+parseOf im text = onChecked (checkOf im) badImage (ofText (readText im text))
 
-unfoldable pub parseOf : List ℕ → List ℕ → Read
-parseOf im text = unlessRefused (checkOf im) (readText im text)
-
--- a parse refusal carries one of three reasons, two of which carry an offset
+-- the refusal that tells a reason; two of the three carry an offset
 abbrev pub refusalOf : Reason → Refusal
 refusalOf Shape = TextShape
 refusalOf (Unknown offset) = UnknownName offset
 refusalOf (Repeated offset) = RepeatedName offset
 
--- what an answer of the code stands for
-abbrev pub readOf : Parsed → Read
-readOf (parsed.Done l) = label (marksOf l)
-readOf (parsed.Refused reason) = refused (refusalOf reason)
-readOf (parsed.BadImage r) = badImage r
+-- what the answers of the code stand for
+abbrev pub readOf : TextRead → Reading Marks
+readOf (textRead.Done l) = read (marksOf l)
+readOf (textRead.Refused reason) = refused reason
+
+abbrev pub parsingOf : Parsed → Parsing
+parsingOf (parsed.Done l) = ofText (read (marksOf l))
+parsingOf (parsed.Refused reason) = ofText (refused reason)
+parsingOf (parsed.BadImage r) = badImage r

@@ -4,14 +4,13 @@ use mathlib.Core.Bool.{Bool, true, false, cond}
 use mathlib.Core.List.{List, [], _∷_}
 use lib.Dec.{eqb}
 use Rattle.fields.specs.Bytes.{byteAt}
-use Rattle.fields.specs.Names.{nameByte}
 use Rattle.labels.specs.declared.shape.State.{State}
 use Rattle.labels.specs.declared.shape.State.the-variants.{Start, Level, Lists, First, FirstNext, Second, InSecond, Wrong}
-use Rattle.labels.specs.Text.{comma, colon}
+use Rattle.labels.specs.Text.{comma, colon, textByte}
 
 -- the byte at place i is one of a name
-abbrev pub nameByteAt : List ℕ → ℕ → Bool
-nameByteAt text i = nameByte (byteAt text i)
+abbrev pub textByteAt : List ℕ → ℕ → Bool
+textByteAt text i = textByte (byteAt text i)
 
 abbrev pub afterNameByte : State → State
 afterNameByte Start = Level
@@ -47,7 +46,7 @@ afterColon Wrong = Wrong
 
 abbrev pub afterByte : State → ℕ → State
 afterByte state x =
-    cond (nameByte x) (afterNameByte state) (cond (eqb x comma) (afterComma state) (cond (eqb x colon) (afterColon state) Wrong))
+    cond (textByte x) (afterNameByte state) (cond (eqb x comma) (afterComma state) (cond (eqb x colon) (afterColon state) Wrong))
 
 unfoldable pub afterAll : State → List ℕ → State
 afterAll state [] = state

@@ -4,13 +4,21 @@ use mathlib.Core.Bool.{Bool, true, false, cond, _&&_, _||_}
 use mathlib.Core.List.{List, [], _∷_}
 use lib.Dec.{eqb, leb}
 use lib.ListN.{length}
-use Rattle.fields.specs.Names.{allNameBytes}
+use Rattle.fields.specs.Bytes.{all}
+use Rattle.fields.specs.Names.{nameByte}
 
 abbrev pub comma : ℕ
 comma = 44
 
 abbrev pub colon : ℕ
 colon = 58
+
+-- a byte that a name in label text may have: one of the names' alphabet
+unfoldable pub textByte : ℕ → Bool
+textByte x = nameByte x
+
+abbrev pub allTextBytes : List ℕ → Bool
+allTextBytes = all textByte
 
 -- x before the first of the parts
 abbrev pub onto : ℕ → List (List ℕ) → List (List ℕ)
@@ -26,10 +34,10 @@ abbrev pub isEmpty : List ℕ → Bool
 isEmpty [] = true
 isEmpty (x ∷ xs) = false
 
--- one byte or more, each of the alphabet
+-- one byte or more, each of the text's alphabet
 unfoldable pub isName : List ℕ → Bool
 isName [] = false
-isName (x ∷ xs) = allNameBytes (x ∷ xs)
+isName (x ∷ xs) = allTextBytes (x ∷ xs)
 
 abbrev pub allNames : List (List ℕ) → Bool
 allNames [] = true
@@ -46,6 +54,6 @@ shapeOfParts (level ∷ first ∷ []) = isName level && isList first
 shapeOfParts (level ∷ first ∷ second ∷ []) = isName level && (isEmpty first || isList first) && isList second
 shapeOfParts (level ∷ first ∷ second ∷ third ∷ more) = false
 
--- text over 4,096 bytes, or of another shape, is refused as text
-unfoldable pub shapeRule : List ℕ → Bool
-shapeRule text = leb (length text) 4096 && shapeOfParts (split colon text)
+-- text over the limit, or of another shape, is refused as text
+unfoldable pub shapeRule : ℕ → List ℕ → Bool
+shapeRule limit text = leb (length text) limit && shapeOfParts (split colon text)

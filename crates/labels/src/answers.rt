@@ -1,6 +1,6 @@
 // What reading label text gives.
 ghost use mathlib.Core.Path.{_≡_};
-ghost use Rattle.labels.specs.Parse.{refusalOf};
+ghost use Rattle.labels.specs.Parse.{ofText, refusalOf, readOf, parsingOf};
 use crate::label::Label;
 use refusals::Refusal;
 
@@ -12,11 +12,28 @@ pub enum Reason {
     Repeated(usize),
 }
 
+// What a text gives under an accepted image.
+pub enum TextRead {
+    Done(Label),
+    Refused(Reason),
+}
+
+// The answer of `parse`.
 pub enum Parsed {
     Done(Label),
     Refused(Reason),
     // 1, 2, 3: the image is not accepted.
     BadImage(Refusal),
+}
+
+// The answer of `parse` where the image is accepted.
+pub(crate) fn of_text(read: TextRead) -> Parsed
+    ensures { λ r. ⌜ parsingOf r ≡ ofText (readOf read) ⌝ }
+{
+    match read {
+        TextRead::Done(label) => Parsed::Done(label),
+        TextRead::Refused(reason) => Parsed::Refused(reason),
+    }
 }
 
 // The refusal that tells the reason.

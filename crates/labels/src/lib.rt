@@ -9,18 +9,18 @@ mod parts;
 mod shape;
 
 ghost use mathlib.Core.Path.{_≡_};
-ghost use Rattle.labels.specs.Parse.{readOf, parseOf};
+ghost use Rattle.labels.specs.Parse.{parsingOf, parseOf};
 use answers::Parsed;
 use image::check;
 use refusals::answers::Checked;
 
 // The label that the text names. Refusals: 1, 2, 3 of the image; 5; then 6 or 7 with the offset of the leftmost such name.
 pub fn parse(image: &[u8], text: &[u8]) -> Parsed
-    ensures { λ r. ⌜ readOf r ≡ parseOf (now (image .entry)) (now (text .entry)) ⌝ }
+    ensures { λ r. ⌜ parsingOf r ≡ parseOf (now (image .entry)) (now (text .entry)) ⌝ }
 {
     let answer = check(image);
     match answer {
-        Checked::Accepted => given::read_text(image, text),
+        Checked::Accepted => answers::of_text(given::read_text(image, text)),
         Checked::Refused(refusal) => Parsed::BadImage(refusal),
     }
 }

@@ -6,16 +6,33 @@ ghost use Rattle.header.specs.Limits.{Counted};
 ghost use Rattle.sets.specs.Groups.{placesOf};
 ghost use Rattle.labels.specs.Text.{comma, split};
 ghost use Rattle.labels.specs.Parse.{readNames, readList};
-ghost use Rattle.labels.specs.Lists.{untilMark, afterMark, namesOf};
+ghost use Rattle.labels.specs.Lists.{untilMark, afterMark, namesOf, listOf};
+use crate::answers::Reason;
 use crate::names::Found;
 use crate::names::find;
 use sets::groups::Groups;
 
-// The places that a list names, or the offset of its leftmost name that is unknown or came before.
+// What a list gives: the places that it names, or why the text is refused.
+pub enum ListRead {
+    Read(Groups),
+    Refused(Reason),
+}
+
+// The same while its names are read, in two words: the offset is that of the leftmost name that is unknown or came before.
 pub enum Names {
     Read(Groups),
     Unknown(usize),
     Repeated(usize),
+}
+
+fn list_read(names: Names) -> ListRead
+    ensures { λ r. ⌜ listOf r ≡ namesOf names ⌝ }
+{
+    match names {
+        Names::Read(set) => ListRead::Read(set),
+        Names::Unknown(offset) => ListRead::Refused(Reason::Unknown(offset)),
+        Names::Repeated(offset) => ListRead::Refused(Reason::Repeated(offset)),
+    }
 }
 
 // The first place from `at` on that holds the mark; the text's length where none does.
@@ -61,12 +78,12 @@ fn after_name(image: &[u8], class: u8, text: &[u8], at: usize, set: Groups) -> N
 }
 
 // The list from `at` on; one that is empty gives the empty set.
-pub fn read_list(image: &[u8], class: u8, text: &[u8], at: usize) -> Names
+pub fn read_list(image: &[u8], class: u8, text: &[u8], at: usize) -> ListRead
     requires { ⌜ Counted (now image) × (((1 ≤ class) × (class ≤ 3)) × (at ≤ length (now text))) ⌝ }
-    ensures { λ r. ⌜ namesOf r ≡ readList (now (image .entry)) class at (drop at (now (text .entry))) ⌝ }
+    ensures { λ r. ⌜ listOf r ≡ readList (now (image .entry)) class at (drop at (now (text .entry))) ⌝ }
 {
     if at < text.len() {
-        return read_names(image, class, text, at, Groups::none());
+        return list_read(read_names(image, class, text, at, Groups::none()));
     }
-    Names::Read(Groups::none())
+    ListRead::Read(Groups::none())
 }

@@ -5,26 +5,25 @@ ghost use mathlib.Core.Path.{_≡_};
 ghost use lib.ListN.{length};
 ghost use Rattle.header.specs.Limits.{Counted};
 ghost use Rattle.labels.specs.Text.{colon, split};
-ghost use Rattle.labels.specs.Parse.{readSets, readParts, readOf};
-ghost use Rattle.labels.specs.Lists.{afterMark, groupsAfter};
-use crate::answers::Parsed;
+ghost use Rattle.labels.specs.Parse.{groupsAfter, readSets, readParts, readOf};
+ghost use Rattle.labels.specs.Lists.{afterMark};
 use crate::answers::Reason;
+use crate::answers::TextRead;
 use crate::label::Label;
-use crate::lists::Names;
+use crate::lists::ListRead;
 use crate::lists::mark_from;
 use crate::lists::read_list;
 use crate::names::Found;
 use crate::names::find;
-use crate::shape::shape_ok;
 use sets::groups::Groups;
 
 // The groups, where the compartments end at `end`.
-fn read_groups(image: &[u8], text: &[u8], level: u8, compartments: u64, end: usize) -> Parsed
+fn read_groups(image: &[u8], text: &[u8], level: u8, compartments: u64, end: usize) -> TextRead
     requires { ⌜ Counted (now image) × (end ≤ length (now text)) ⌝ }
     ensures { λ r. ⌜ readOf r ≡ groupsAfter (now (image .entry)) level compartments (end + 1) (afterMark colon (now (text .entry)) end) ⌝ }
 {
     if text.len() <= end {
-        return Parsed::Done(Label {
+        return TextRead::Done(Label {
             level,
             compartments,
             groups: Groups::none(),
@@ -34,23 +33,22 @@ fn read_groups(image: &[u8], text: &[u8], level: u8, compartments: u64, end: usi
     let stop = mark_from(text, at, 58);
     let names = read_list(image, 3, &text[0..stop], at);
     match names {
-        Names::Read(groups) => Parsed::Done(Label {
+        ListRead::Read(groups) => TextRead::Done(Label {
             level,
             compartments,
             groups,
         }),
-        Names::Unknown(offset) => Parsed::Refused(Reason::Unknown(offset)),
-        Names::Repeated(offset) => Parsed::Refused(Reason::Repeated(offset)),
+        ListRead::Refused(reason) => TextRead::Refused(reason),
     }
 }
 
 // Compartments and groups, where the level ends at `end`.
-fn read_sets(image: &[u8], text: &[u8], level: u8, end: usize) -> Parsed
+fn read_sets(image: &[u8], text: &[u8], level: u8, end: usize) -> TextRead
     requires { ⌜ Counted (now image) × (end ≤ length (now text)) ⌝ }
     ensures { λ r. ⌜ readOf r ≡ readSets (now (image .entry)) level (end + 1) (afterMark colon (now (text .entry)) end) ⌝ }
 {
     if text.len() <= end {
-        return Parsed::Done(Label {
+        return TextRead::Done(Label {
             level,
             compartments: 0,
             groups: Groups::none(),
@@ -60,21 +58,20 @@ fn read_sets(image: &[u8], text: &[u8], level: u8, end: usize) -> Parsed
     let stop = mark_from(text, at, 58);
     let names = read_list(image, 2, &text[0..stop], at);
     match names {
-        Names::Read(compartments) => read_groups(image, text, level, compartments.word(0), stop),
-        Names::Unknown(offset) => Parsed::Refused(Reason::Unknown(offset)),
-        Names::Repeated(offset) => Parsed::Refused(Reason::Repeated(offset)),
+        ListRead::Read(compartments) => read_groups(image, text, level, compartments.word(0), stop),
+        ListRead::Refused(reason) => TextRead::Refused(reason),
     }
 }
 
 // The level counts as a name, at offset 0.
-pub fn read_parts(image: &[u8], text: &[u8]) -> Parsed
+pub fn read_parts(image: &[u8], text: &[u8]) -> TextRead
     requires { ⌜ Counted (now image) ⌝ }
     ensures { λ r. ⌜ readOf r ≡ readParts (now (image .entry)) (split colon (now (text .entry))) ⌝ }
 {
     let end = mark_from(text, 0, 58);
     let found = find(image, 1, &text[0..end]);
     let Found::At(level) = found else {
-        return Parsed::Refused(Reason::Unknown(0));
+        return TextRead::Refused(Reason::Unknown(0));
     };
     read_sets(image, text, level as u8, end)
 }

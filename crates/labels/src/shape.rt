@@ -3,8 +3,8 @@ ghost use Prim.Native.Nat.{_-_, _≤_};
 ghost use mathlib.Core.Path.{_≡_};
 ghost use lib.ListN.{length};
 ghost use Rattle.fields.specs.Scan.{firstBad};
-ghost use Rattle.labels.specs.Text.{shapeRule};
-ghost use Rattle.labels.specs.States.{nameByteAt, afterNameByte, afterComma, afterColon, afterByte, afterAll, endsWell};
+ghost use Rattle.labels.specs.Text.{textByte, shapeRule};
+ghost use Rattle.labels.specs.States.{textByteAt, afterNameByte, afterComma, afterColon, afterByte, afterAll, endsWell};
 ghost use Rattle.labels.specs.declared.shape.State.the-variants.{Start};
 use fields::names::name_byte;
 
@@ -22,6 +22,13 @@ pub enum State {
     InSecond,
     // No text that begins so has the shape.
     Wrong,
+}
+
+// A byte that a name in label text may have.
+fn text_byte(x: u8) -> bool
+    ensures { λ r. ⌜ r ≡ textByte x ⌝ }
+{
+    name_byte(x)
 }
 
 fn after_name_byte(state: State) -> State
@@ -74,7 +81,7 @@ fn after_colon(state: State) -> State
 fn after_byte(state: State, x: u8) -> State
     ensures { λ r. ⌜ r ≡ afterByte state x ⌝ }
 {
-    if name_byte(x) {
+    if text_byte(x) {
         return after_name_byte(state);
     }
     if x == 44 {
@@ -105,11 +112,11 @@ fn ends_well(state: State) -> bool
 // The first place from `at` on whose byte is of no name; the text's length where there is none.
 fn name_end(text: &[u8], at: usize) -> usize
     requires { ⌜ at ≤ length (now text) ⌝ }
-    ensures { λ r. ⌜ r ≡ firstBad (nameByteAt (now (text .entry))) (length (now (text .entry)) - at) at ⌝ }
+    ensures { λ r. ⌜ r ≡ firstBad (textByteAt (now (text .entry))) (length (now (text .entry)) - at) at ⌝ }
 {
     let mut i = at;
     while i < text.len() {
-        if !name_byte(text[i]) {
+        if !text_byte(text[i]) {
             return i;
         }
         i += 1;
@@ -125,7 +132,7 @@ fn after_all(text: &[u8]) -> State
     let mut i = 0;
     while i < text.len() {
         let x = text[i];
-        if name_byte(x) {
+        if text_byte(x) {
             state = after_name_byte(state);
             i = name_end(text, i + 1);
         } else {
@@ -136,11 +143,11 @@ fn after_all(text: &[u8]) -> State
     state
 }
 
-// Does the text have the shape of a label's text?
-pub fn shape_ok(text: &[u8]) -> bool
-    ensures { λ r. ⌜ r ≡ shapeRule (now (text .entry)) ⌝ }
+// Does the text have the shape of a label's text, and no more bytes than the limit?
+pub fn shape_ok(text: &[u8], limit: usize) -> bool
+    ensures { λ r. ⌜ r ≡ shapeRule limit (now (text .entry)) ⌝ }
 {
-    if 4096 < text.len() {
+    if limit < text.len() {
         return false;
     }
     ends_well(after_all(text))

@@ -7,10 +7,11 @@ use native.Mathlib.Nat.{zero-add, le-trans}
 use borrow.Author.Tests.{le-leb, lt-leb}
 use lib.ListN.{length, drop}
 use Rattle.refusals.specs.declared.Refusal.the-variants.{NoComponent, Room}
+use Rattle.header.specs.Limits.{limitsOf}
 use Rattle.buffers.proofs.Pasted.{front}
 use Rattle.image.specs.Check.{IsAccepted}
 use Rattle.labels.specs.Label.{Marks, labelExists}
-use Rattle.printing.specs.declared.printing.Printed.the-variants as printed
+use Rattle.printing.specs.declared.answers.Printed.the-variants as printed
 use Rattle.printing.specs.Print.{textOf, acceptedAnswer, printOf}
 use Rattle.buffers.specs.Pasting.{Written}
 use Rattle.printing.proofs.Whole.{text-short}
@@ -31,8 +32,8 @@ module _ (im : List ℕ) (m : Marks) (b : List ℕ) where
       rw (e, le-leb (length (textOf im m)) (length b) h)
       (ap₂ (λ (n : ℕ) (t : List ℕ). (printed.Done n, t)) (w .stop ∙ zero-add (length (textOf im m))) (w .bytes ∙ front b (textOf im m)))
 
--- a buffer of 4,096 bytes has room for every label that the policy has
-pub print-done : (im : List ℕ) (m : Marks) (b : List ℕ) → IsAccepted im → labelExists im m ≡ true → 4096 ≤ length b
+-- a buffer as long as the longest text has room for every label that the policy has
+pub print-done : (im : List ℕ) (m : Marks) (b : List ℕ) → IsAccepted im → labelExists im m ≡ true → limitsOf im .text ≤ length b
     → printOf im m b ≡ (printed.Done (length (textOf im m)), textOf im m ++ drop (length (textOf im m)) b)
 unfolding printOf acceptedAnswer
 print-done im m b acc e room =

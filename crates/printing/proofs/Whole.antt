@@ -5,15 +5,16 @@ use mathlib.Core.Bool.{Bool, true, false, cond, _&&_}
 use mathlib.Core.List.{List, [], _++_, append-nil, append-assoc}
 use native.Mathlib.Omega.{arith}
 use borrow.Author.Tests.{lt-ltb}
-use lib.Dec.{ltb}
 use lib.ListN.{length, length-append}
 use Rattle.fields.proofs.Both.{parts}
-use Rattle.sets.specs.Sets.{empty, within, allBelow}
+use Rattle.sets.specs.Sets.{empty}
 use Rattle.header.specs.Layout.{levels, compartments, groups}
+use Rattle.header.specs.Limits.{limitsOf}
 use Rattle.image.specs.Check.{IsAccepted}
 use Rattle.image.specs.Lookup.{hasComponent}
 use Rattle.image.proofs.Accepted.{accepted-counted}
 use Rattle.labels.specs.Label.{Marks, labelExists}
+use Rattle.labels.proofs.Existing.{exists-means}
 use Rattle.printing.specs.Print.{nameAt, section, textOf, Named}
 use Rattle.buffers.specs.Pasting.{Written}
 use Rattle.printing.proofs.Listed.{name-short, listed-short}
@@ -22,13 +23,8 @@ use Rattle.printing.proofs.Sections.{section-length}
 
 -- ---- the components are there
 pub has-level : (im : List ℕ) (m : Marks) → labelExists im m ≡ true → hasComponent im 1 (m .level) ≡ true
-unfolding labelExists hasComponent
-has-level im m e =
-    let a = ltb (m .level) (levels im) in
-    let b = within (m .compartments) (allBelow (compartments im)) in
-    let d = within (m .groups) (allBelow (groups im)) in
-    let q : ltb (m .level) (levels im) ≡ true = parts a b (parts (a && b) d e .0) .0 in
-    rw q
+unfolding hasComponent
+has-level im m e = rw (lt-ltb (m .level) (levels im) (exists-means im m e .level))
 
 pub named-compartments : (im : List ℕ) → IsAccepted im → Named im 2 (compartments im)
 unfolding hasComponent
@@ -91,7 +87,8 @@ module _ (im : List ℕ) (m : Marks) (b name : List ℕ) (n : name ≡ nameAt im
   unfolding textOf
   room-level =
       let e = ap length n in
-      omega (arith, length-append (nameAt im 1 (m .level)) (cond (empty (m .groups)) (cond (empty (m .compartments)) [] (first im m)) (first im m ++ second im m)))
+      let tail = cond (empty (m .groups)) (cond (empty (m .compartments)) [] (first im m)) (first im m ++ second im m) in
+      omega (arith, length-append (nameAt im 1 (m .level)) tail)
 
   front-room : (empty (m .groups) && empty (m .compartments)) ≡ false → 0 + length name + length (first im m) ≤ length b
   front-room t = at (empty (m .groups)) refl
@@ -133,7 +130,7 @@ module _ (im : List ℕ) (m : Marks) (b name : List ℕ) (n : name ≡ nameAt im
         → Written b 0 (textOf im m) last p
     written-both e u = rw (text-both im m e, ← n) (written-then fits-two two u)
 
--- ---- a label's text is short
+-- ---- a label's text is no longer than a text that is read may be
 section-short : (im : List ℕ) (class s count : ℕ) → Named im class count → length (section im class count s) ≤ 1985
 section-short im class s count k =
     let l = section-length im class s count in
@@ -141,10 +138,10 @@ section-short im class s count k =
     let w = k .few in
     omega arith
 
-pub text-short : (im : List ℕ) → IsAccepted im → (m : Marks) → labelExists im m ≡ true → length (textOf im m) ≤ 4096
+pub text-short : (im : List ℕ) → IsAccepted im → (m : Marks) → labelExists im m ≡ true → length (textOf im m) ≤ limitsOf im .text
 text-short im acc m h = at (empty (m .groups)) refl (empty (m .compartments)) refl
   where
-    at : (g : Bool) → empty (m .groups) ≡ g → (c : Bool) → empty (m .compartments) ≡ c → length (textOf im m) ≤ 4096
+    at : (g : Bool) → empty (m .groups) ≡ g → (c : Bool) → empty (m .compartments) ≡ c → length (textOf im m) ≤ limitsOf im .text
     at g e c d =
         let name = name-short im acc 1 (m .level) (has-level im m h) in
         let one = section-short im 2 (m .compartments) (compartments im) (named-compartments im acc) in
@@ -153,7 +150,7 @@ text-short im acc m h = at (empty (m .groups)) refl (empty (m .compartments)) re
       where
         by : (g : Bool) → empty (m .groups) ≡ g → (c : Bool) → empty (m .compartments) ≡ c
             → length (nameAt im 1 (m .level)) ≤ 30 → length (first im m) ≤ 1985 → length (second im m) ≤ 1985
-            → length (textOf im m) ≤ 4096
+            → length (textOf im m) ≤ limitsOf im .text
         by true e true d name one two = let l = length-level im m refl (rw (e, d)) in omega arith
         by true e false d name one two = let l = length-first im m refl (rw (e, d)) e refl in omega arith
         by false e c d name one two = let l = length-both im m refl e refl refl in omega arith

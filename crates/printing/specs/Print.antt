@@ -7,17 +7,19 @@ use lib.Dec.{leb}
 use lib.ListN.{length, drop}
 use Rattle.buffers.specs.Pasting.{atFront}
 use Rattle.sets.specs.Sets.{has, empty}
+use Rattle.refusals.specs.declared.Refusal.{Refusal}
 use Rattle.refusals.specs.declared.Refusal.the-variants.{NoComponent, Room}
 use Rattle.header.specs.Layout.{compartments, groups, componentRecord}
 use Rattle.records.specs.Fields.{componentName}
 use Rattle.refusals.specs.declared.answers.Checked.{Checked}
-use Rattle.refusals.specs.declared.answers.Checked.the-variants.{Accepted, Refused}
+use Rattle.refusals.specs.declared.answers.Checked.the-variants.{Accepted}
+use Rattle.refusals.specs.Answers.{onChecked, orRefuse}
 use Rattle.image.specs.Check.{checkOf, IsAccepted}
 use Rattle.image.specs.Lookup.{componentIndex, hasComponent}
 use Rattle.labels.specs.Label.{Marks, labelExists}
 use Rattle.labels.specs.Text.{comma, colon}
-use Rattle.printing.specs.declared.printing.Printed.{Printed}
-use Rattle.printing.specs.declared.printing.Printed.the-variants as printed
+use Rattle.printing.specs.declared.answers.Printed.{Printed}
+use Rattle.printing.specs.declared.answers.Printed.the-variants as printed
 
 -- the name of the component of that class at that place
 abbrev pub nameAt : List ℕ → ℕ → ℕ → List ℕ
@@ -48,22 +50,23 @@ textOf im m =
     nameAt im 1 (m .level) ++ cond (empty (m .groups)) (cond (empty (m .compartments)) [] first) (first ++ second)
 
 -- ---- what print answers, with the buffer after it
--- 13 where the text is longer than the buffer. A print that is done reports its length and changes only its own bytes
-abbrev pub whenRoom : List ℕ → List ℕ → Printed × List ℕ
-whenRoom text buffer =
-    cond (leb (length text) (length buffer)) (printed.Done (length text), atFront text buffer) (printed.Refused Room, buffer)
+-- a refusal changes nothing
+abbrev pub unprinted : List ℕ → Refusal → Printed × List ℕ
+unprinted buffer r = (printed.Refused r, buffer)
 
--- where the image is accepted: 18 first
+-- where the image is accepted: 18; then 13 where the text is longer than the buffer
+abbrev pub printable : List ℕ → Marks → List ℕ → Checked
+printable im m buffer =
+    orRefuse (labelExists im m) NoComponent (orRefuse (leb (length (textOf im m)) (length buffer)) Room Accepted)
+
+-- a print that is done reports its length and changes only its own bytes
 unfoldable pub acceptedAnswer : List ℕ → Marks → List ℕ → Printed × List ℕ
-acceptedAnswer im m buffer = cond (labelExists im m) (whenRoom (textOf im m) buffer) (printed.Refused NoComponent, buffer)
+acceptedAnswer im m buffer =
+    onChecked (printable im m buffer) (unprinted buffer) (printed.Done (length (textOf im m)), atFront (textOf im m) buffer)
 
--- 1, 2, 3 before all others; a refusal changes nothing
-abbrev pub unlessRefused : Checked → Printed × List ℕ → List ℕ → Printed × List ℕ
-unlessRefused (Refused r) answer buffer = (printed.Refused r, buffer)
-unlessRefused Accepted answer buffer = answer
-
+-- 1, 2, 3 before all others
 unfoldable pub printOf : List ℕ → Marks → List ℕ → Printed × List ℕ
-printOf im m buffer = unlessRefused (checkOf im) (acceptedAnswer im m buffer) buffer
+printOf im m buffer = onChecked (checkOf im) (unprinted buffer) (acceptedAnswer im m buffer)
 
 -- ---- what the parts of print do
 -- what code may take for granted where it lists names: the image is accepted and has the first places of the class, 64 at most

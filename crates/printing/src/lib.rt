@@ -1,12 +1,13 @@
 // The text of a label, printed under a policy image.
-pub mod printing;
+pub mod answers;
+mod writing;
 
 ghost use mathlib.Core.Path.{_≡_};
 ghost use Rattle.labels.specs.Label.{marksOf};
 ghost use Rattle.printing.specs.Print.{printOf};
+use answers::Printed;
 use image::check;
 use labels::label::Label;
-use printing::Printed;
 use refusals::answers::Checked;
 
 // Prints a label to the front of the buffer. Refusals: 1, 2, 3, 18, 13; a refusal leaves the buffer as it was.
@@ -15,7 +16,7 @@ pub fn print(image: &[u8], label: Label, buffer: &mut [u8]) -> Printed
 {
     let answer = check(image);
     match answer {
-        Checked::Accepted => printing::print_accepted(image, label, buffer),
+        Checked::Accepted => writing::print_accepted(image, label, buffer),
         Checked::Refused(refusal) => Printed::Refused(refusal),
     }
 }

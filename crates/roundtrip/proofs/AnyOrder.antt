@@ -8,7 +8,8 @@ use lib.Dec.{eqb, ltb}
 use lib.ListN.{length}
 use Rattle.sets.specs.Sets.{has, one, union}
 use Rattle.sets.proofs.Has.{has-ext, union-has, one-has}
-use Rattle.labels.specs.Parse.{classCount, placeOfName, Names, read, unknown, repeated, readNames}
+use Rattle.labels.specs.Parse.{classCount, placeOfName, read, unknown, repeated, readNames}
+use Rattle.labels.proofs.Tells.{refused-not-read}
 
 -- two lists with the same names in another order
 pub data Reordered : List (List ℕ) → List (List ℕ) → Type 0 where
@@ -16,11 +17,6 @@ pub data Reordered : List (List ℕ) → List (List ℕ) → Type 0 where
   keep : {ns ms : List (List ℕ)} (n : List ℕ) → Reordered ns ms → Reordered (n ∷ ns) (n ∷ ms)
   swap : (n m : List ℕ) (ns : List (List ℕ)) → Reordered (n ∷ m ∷ ns) (m ∷ n ∷ ns)
   then : {ns ms ls : List (List ℕ)} → Reordered ns ms → Reordered ms ls → Reordered ns ls
-
-abbrev isRead : Names → Bool
-isRead (read s) = true
-isRead (unknown o) = false
-isRead (repeated o) = false
 
 -- what a name that is read tells: it is known, it is new, and the rest is read with it
 record Known (im : List ℕ) (class offset set : ℕ) (name : List ℕ) (rest : List (List ℕ)) (s : ℕ) : Type 0 where
@@ -40,8 +36,8 @@ module _ (im : List ℕ) (class : ℕ) where
           (unknown offset) ≡ read s
           → Known im class offset set name rest s
       at true e false d h = record { known = e; new = d; later = h }
-      at true e true d h = absurd (true≢false (sym (ap isRead h)))
-      at false e b d h = absurd (true≢false (sym (ap isRead h)))
+      at true e true d h = absurd (refused-not-read _ s h)
+      at false e b d h = absurd (refused-not-read _ s h)
 
   put : (offset set : ℕ) (name : List ℕ) (rest : List (List ℕ)) (s : ℕ) → Known im class offset set name rest s
       → readNames im class offset set (name ∷ rest) ≡ read s
@@ -55,7 +51,11 @@ module _ (im : List ℕ) (class : ℕ) where
   moved (name ∷ rest) offset offset' set s e =
       let k = taken offset set name rest s e in
       put offset' set name rest s
-      (record { known = k .known; new = k .new; later = moved rest (offset + length name + 1) (offset' + length name + 1) (union set (one (placeOfName im class name))) s (k .later) })
+      (record {
+        known = k .known;
+        new = k .new;
+        later = moved rest (offset + length name + 1) (offset' + length name + 1) (union set (one (placeOfName im class name))) s (k .later);
+      })
 
 neither : (a b : Bool) → (a || b) ≡ false → (a ≡ false) × (b ≡ false)
 neither true b e = absurd (true≢false e)

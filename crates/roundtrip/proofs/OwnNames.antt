@@ -22,9 +22,10 @@ use Rattle.image.specs.Check.{IsAccepted}
 use Rattle.image.specs.Lookup.{componentIndex}
 use Rattle.image.proofs.Accepted.{keeps, accepted-counted}
 use Rattle.image.proofs.Placed.{placed-index}
-use Rattle.labels.specs.Text.{comma, colon, isName}
+use Rattle.labels.specs.Text.{comma, colon, allTextBytes, isName}
 use Rattle.labels.specs.Parse.{matches, classCount, placeOfName}
 use Rattle.printing.specs.Print.{nameAt}
+use Rattle.labels.proofs.Alphabet.{name-bytes-in-text}
 use Rattle.labels.proofs.Classes.{class-has}
 use Rattle.roundtrip.proofs.Unmarked.{lacks, name-lacks}
 use Rattle.printing.proofs.Listed.{name-short}
@@ -121,9 +122,9 @@ module _ (im : List ℕ) (acc : IsAccepted im) (class : ℕ) (low : 1 ≤ class)
 
   pub name-is : isName (nameAt im class p) ≡ true
   unfolding isName
-  name-is = at (nameAt im class p) name-some name-bytes
+  name-is = at (nameAt im class p) name-some (name-bytes-in-text (nameAt im class p) name-bytes)
     where
-      at : (s : List ℕ) → 1 ≤ length s → allNameBytes s ≡ true → isName s ≡ true
+      at : (s : List ℕ) → 1 ≤ length s → allTextBytes s ≡ true → isName s ≡ true
       at [] l e = absurd (omega arith)
       at (x ∷ xs) l e = e
 

@@ -1,33 +1,28 @@
 -- Text that is printed for a label is read as that label. Assumes nothing.
-use Prim.Native.Nat.{ℕ, _+_}
+use Prim.Native.Nat.{ℕ, _+_, _<_}
 use mathlib.Core.Path.{_≡_, refl, sym, ap, ap₂, _∙_}
-use mathlib.Core.Bool.{Bool, true, false, cond, _&&_}
+use mathlib.Core.Bool.{Bool, true, false}
 use mathlib.Core.List.{List, [], _∷_}
 use native.Mathlib.Omega.{arith}
 use borrow.Author.Tests.{lt-ltb}
-use lib.Dec.{ltb}
 use lib.ListN.{length}
-use Rattle.fields.proofs.Both.{both}
-use Rattle.sets.specs.Sets.{none, empty, within, allBelow}
-use Rattle.sets.proofs.Bounds.{below-within}
+use Rattle.sets.specs.Sets.{none, empty}
 use Rattle.sets.proofs.Meets.{empty-none}
-use Rattle.header.specs.Layout.{levels, compartments, groups}
-use Rattle.refusals.specs.declared.Refusal.the-variants.{TextShape}
-use Rattle.refusals.specs.declared.answers.Checked.{Checked}
-use Rattle.refusals.specs.declared.answers.Checked.the-variants.{Accepted, Refused}
-use Rattle.image.specs.Check.{checkOf, IsAccepted}
-use Rattle.labels.specs.Label.{Marks, labelExists}
-use Rattle.labels.specs.Text.{colon, split, shapeRule}
-use Rattle.labels.specs.Parse.{read, readList, Read, label, refused, readSets, readParts, unlessRefused, parseOf}
+use Rattle.header.specs.Layout.{levels, compartments, groups, labels}
+use Rattle.image.specs.Check.{IsAccepted}
+use Rattle.labels.specs.Label.{Marks, labelAt, labelExists}
+use Rattle.labels.specs.Text.{colon, split}
+use Rattle.labels.specs.Parse.{read, readList, readSets, readParts, ofText, parseOf}
 use Rattle.printing.specs.Print.{nameAt, listText, textOf}
-use Rattle.labels.proofs.Existing.{parsed-exists}
+use Rattle.labels.proofs.Tells.{read-tells, parsed-read}
+use Rattle.labels.proofs.Existing.{exists-means, means-exists, record-exists, parsed-exists}
 use Rattle.roundtrip.proofs.OwnNames.{place-of-own-name}
 use Rattle.roundtrip.proofs.ListsRead.{list-read}
-use Rattle.roundtrip.proofs.TextShape.{level-below, compartments-below, groups-below, parts-level, parts-first, parts-both, shape-of-text}
+use Rattle.roundtrip.proofs.TextShape.{parts-level, parts-first, parts-both, shape-of-text}
 
 same-label : (m : Marks) (c g : ℕ) → c ≡ m .compartments → g ≡ m .groups
-    → label (record { level = m .level; compartments = c; groups = g }) ≡ label m
-same-label m c g e d = ap₂ (λ (x y : ℕ). label (record { level = m .level; compartments = x; groups = y })) e d
+    → read (record { level = m .level; compartments = c; groups = g }) ≡ read m
+same-label m c g e d = ap₂ (λ (x y : ℕ). read (record { level = m .level; compartments = x; groups = y })) e d
 
 module _ (im : List ℕ) (acc : IsAccepted im) (m : Marks) (h : labelExists im m ≡ true) where
   abbrev first : List ℕ
@@ -40,20 +35,20 @@ module _ (im : List ℕ) (acc : IsAccepted im) (m : Marks) (h : labelExists im m
       → readParts im (nameAt im 1 (m .level) ∷ rest) ≡ readSets im (m .level) (length (nameAt im 1 (m .level)) + 1) rest
   level-read rest =
       rw (
-        place-of-own-name im acc 1 (omega arith) (omega arith) (m .level) (level-below im m h),
-        lt-ltb (m .level) (levels im) (level-below im m h),
+        place-of-own-name im acc 1 (omega arith) (omega arith) (m .level) (exists-means im m h .level),
+        lt-ltb (m .level) (levels im) (exists-means im m h .level),
       )
 
   first-read : (offset : ℕ) → readList im 2 offset first ≡ read (m .compartments)
-  first-read = list-read im acc 2 (omega arith) (omega arith) (m .compartments) (compartments-below im m h)
+  first-read = list-read im acc 2 (omega arith) (omega arith) (m .compartments) (exists-means im m h .compartments)
 
   second-read : (offset : ℕ) → readList im 3 offset second ≡ read (m .groups)
-  second-read = list-read im acc 3 (omega arith) (omega arith) (m .groups) (groups-below im m h)
+  second-read = list-read im acc 3 (omega arith) (omega arith) (m .groups) (exists-means im m h .groups)
 
-  parts-read : readParts im (split colon (textOf im m)) ≡ label m
+  parts-read : readParts im (split colon (textOf im m)) ≡ read m
   parts-read = at (empty (m .groups)) refl (empty (m .compartments)) refl
     where
-      at : (g : Bool) → empty (m .groups) ≡ g → (c : Bool) → empty (m .compartments) ≡ c → readParts im (split colon (textOf im m)) ≡ label m
+      at : (g : Bool) → empty (m .groups) ≡ g → (c : Bool) → empty (m .compartments) ≡ c → readParts im (split colon (textOf im m)) ≡ read m
       at true e true d =
           rw (parts-level im acc m h e d)
           (level-read [] ∙ same-label m none none (sym (empty-none (m .compartments) d)) (sym (empty-none (m .groups) e)))
@@ -69,37 +64,29 @@ module _ (im : List ℕ) (acc : IsAccepted im) (m : Marks) (h : labelExists im m
             second-read (length (nameAt im 1 (m .level)) + 1 + length first + 1),
           ))
 
-  pub parse-of-print : parseOf im (textOf im m) ≡ label m
+  pub parse-of-print : parseOf im (textOf im m) ≡ ofText (read m)
   unfolding parseOf
-  parse-of-print = rw (acc, shape-of-text im acc m h) parts-read
+  parse-of-print = rw (acc, shape-of-text im acc m h) (ap ofText parts-read)
 
--- ---- so the text tells the label
+-- ---- so the print of every label of an accepted image is read as that label
+pub record-reads-back : (im : List ℕ) → IsAccepted im → (k : ℕ) → k < labels im
+    → parseOf im (textOf im (labelAt im k)) ≡ ofText (read (labelAt im k))
+record-reads-back im acc k h = parse-of-print im acc (labelAt im k) (record-exists im acc k h)
+
+-- ---- and the text tells the label
 pub text-tells : (im : List ℕ) → IsAccepted im → (m n : Marks) → labelExists im m ≡ true → labelExists im n ≡ true
     → textOf im m ≡ textOf im n → m ≡ n
 text-tells im acc m n h k e =
-    let q : label m ≡ label n = sym (parse-of-print im acc m h) ∙ ap (parseOf im) e ∙ parse-of-print im acc n k in
-    cc
+    let q = parsed-read im (textOf im n) (read m) (ap (parseOf im) (sym e) ∙ parse-of-print im acc m h) in
+    let p = parsed-read im (textOf im n) (read n) (parse-of-print im acc n k) in
+    read-tells m n (sym (q .1) ∙ p .1)
 
 -- ---- a text that is read as a label: the image is accepted, the policy has the label, and its print is read as it again
-pub parsed-accepted : (im text : List ℕ) (m : Marks) → parseOf im text ≡ label m → IsAccepted im
-unfolding parseOf
-parsed-accepted im text m = at (checkOf im) (cond (shapeRule text) (readParts im (split colon text)) (refused TextShape))
-  where
-    at : (c : Checked) (r : Read) → unlessRefused c r ≡ label m → c ≡ Accepted
-    at Accepted r e = refl
-    at (Refused x) r e = let z : _≡_ {A = ℕ} 0 1 = cc in absurd (omega arith)
+pub parsed-has : (im text : List ℕ) (m : Marks) → parseOf im text ≡ ofText (read m) → labelExists im m ≡ true
+parsed-has im text m e = means-exists im m (parsed-exists im text m e)
 
-pub parsed-has : (im text : List ℕ) (m : Marks) → parseOf im text ≡ label m → labelExists im m ≡ true
-unfolding labelExists
-parsed-has im text m e =
-    let x = parsed-exists im text m e in
-    both (ltb (m .level) (levels im) && within (m .compartments) (allBelow (compartments im))) (within (m .groups) (allBelow (groups im)))
-    (both (ltb (m .level) (levels im)) (within (m .compartments) (allBelow (compartments im))) (lt-ltb (m .level) (levels im) (x .level))
-    (below-within (m .compartments) (compartments im) (x .compartments)))
-    (below-within (m .groups) (groups im) (x .groups))
-
-pub print-of-parse : (im text : List ℕ) (m : Marks) → parseOf im text ≡ label m
-    → (labelExists im m ≡ true) × (parseOf im (textOf im m) ≡ label m)
+pub print-of-parse : (im text : List ℕ) (m : Marks) → parseOf im text ≡ ofText (read m)
+    → (labelExists im m ≡ true) × (parseOf im (textOf im m) ≡ ofText (read m))
 print-of-parse im text m e =
     let h = parsed-has im text m e in
-    (h, parse-of-print im (parsed-accepted im text m e) m h)
+    (h, parse-of-print im (parsed-read im text (read m) e .0) m h)

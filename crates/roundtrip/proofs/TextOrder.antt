@@ -1,20 +1,21 @@
 -- A text whose lists give the same names in another order reads as the same label. Assumes nothing.
 use Prim.Native.Nat.{ℕ, _+_}
-use mathlib.Core.Path.{_≡_, refl, sym, ap}
+use mathlib.Core.Path.{_≡_, sym, ap}
 use mathlib.Core.Bool.{Bool, true, false, cond, true≢false}
 use mathlib.Core.List.{List, [], _∷_}
 use lib.Dec.{ltb}
 use lib.ListN.{length}
 use Rattle.sets.specs.Sets.{none}
-use Rattle.refusals.specs.declared.Refusal.the-variants.{TextShape, UnknownName}
 use Rattle.header.specs.Layout.{levels}
+use Rattle.header.specs.Limits.{limitsOf}
 use Rattle.image.specs.Check.{IsAccepted}
 use Rattle.labels.specs.Label.{Marks, labelExists}
 use Rattle.labels.specs.Text.{comma, colon, split, isEmpty, shapeRule}
-use Rattle.labels.specs.Parse.{placeOfName, Names, read, unknown, repeated, readList, Read, label, refused, badImage, thenRead, readSets, readParts, parseOf}
+use Rattle.labels.specs.Parse.{placeOfName, read, unknown, readList, groupsAfter, readSets, readParts, ofText, parseOf}
+use Rattle.labels.proofs.Tells.{then-read, text-parts, parsed-read}
 use Rattle.printing.specs.Print.{textOf}
 use Rattle.roundtrip.proofs.AnyOrder.{Reordered, any-order}
-use Rattle.roundtrip.proofs.RoundTrip.{parsed-accepted, parse-of-print}
+use Rattle.roundtrip.proofs.RoundTrip.{parse-of-print}
 
 -- two lists, or two empty parts, with the same names in another order
 pub record SameList (first other : List ℕ) : Type 0 where
@@ -34,64 +35,48 @@ list-order im class [] (y ∷ ys) same offset offset' s e = absurd (true≢false
 list-order im class (x ∷ xs) [] same offset offset' s e = absurd (true≢false (sym (same .empty)))
 list-order im class (x ∷ xs) (y ∷ ys) same offset offset' s e = any-order im class (same .names) offset offset' none s e
 
-abbrev isLabel : Read → Bool
-isLabel (label m) = true
-isLabel (refused r) = false
-isLabel (badImage r) = false
-
--- where reading on gives a label, the names were read
-then-read : (n : Names) (next : ℕ → Read) (m : Marks) → thenRead n next ≡ label m → (s : ℕ) × ((n ≡ read s) × (next s ≡ label m))
-then-read (read s) next m e = (s, (refl, e))
-then-read (unknown o) next m e = absurd (true≢false (sym (ap isLabel e)))
-then-read (repeated o) next m e = absurd (true≢false (sym (ap isLabel e)))
-
 module _ (im : List ℕ) (place offset : ℕ) (m : Marks) where
-  one-order : (f g : List ℕ) → SameList f g → readSets im place offset (f ∷ []) ≡ label m → readSets im place offset (g ∷ []) ≡ label m
+  groups-order : (c o o' : ℕ) (h k : List ℕ) → SameList h k → groupsAfter im place c o (h ∷ []) ≡ read m → groupsAfter im place c o' (k ∷ []) ≡ read m
+  groups-order c o o' h k same e =
+      let g = then-read (readList im 3 o h) _ m e in
+      rw (list-order im 3 h k same o o' (g .0) (g .1 .0)) (g .1 .1)
+
+  one-order : (f g : List ℕ) → SameList f g → readSets im place offset (f ∷ []) ≡ read m → readSets im place offset (g ∷ []) ≡ read m
   one-order f g same e =
-      let k = then-read (readList im 2 offset f) _ m e in
-      rw (list-order im 2 f g same offset offset (k .0) (k .1 .0)) (k .1 .1)
+      let c = then-read (readList im 2 offset f) _ m e in
+      rw (list-order im 2 f g same offset offset (c .0) (c .1 .0)) (c .1 .1)
 
-  two-order : (f g h k : List ℕ) → SameList f g → SameList h k → readSets im place offset (f ∷ h ∷ []) ≡ label m
-      → readSets im place offset (g ∷ k ∷ []) ≡ label m
+  two-order : (f g h k : List ℕ) → SameList f g → SameList h k → readSets im place offset (f ∷ h ∷ []) ≡ read m
+      → readSets im place offset (g ∷ k ∷ []) ≡ read m
   two-order f g h k same other e =
-      let a = then-read (readList im 2 offset f) _ m e in
-      let b = then-read (readList im 3 (offset + length f + 1) h) _ m (a .1 .1) in
-      rw (
-        list-order im 2 f g same offset offset (a .0) (a .1 .0),
-        list-order im 3 h k other (offset + length f + 1) (offset + length g + 1) (b .0) (b .1 .0),
-      ) (b .1 .1)
+      let c = then-read (readList im 2 offset f) _ m e in
+      rw (list-order im 2 f g same offset offset (c .0) (c .1 .0))
+      (groups-order (c .0) (offset + length f + 1) (offset + length g + 1) h k other (c .1 .1))
 
-parts-order : (im : List ℕ) (m : Marks) {ps qs : List (List ℕ)} → SameNames ps qs → readParts im ps ≡ label m → readParts im qs ≡ label m
+parts-order : (im : List ℕ) (m : Marks) {ps qs : List (List ℕ)} → SameNames ps qs → readParts im ps ≡ read m → readParts im qs ≡ read m
 parts-order im m (level l) e = e
 parts-order im m (compartments l {f} {g} same) e = at (ltb (placeOfName im 1 l) (levels im)) e
   where
-    at : (t : Bool) → cond t (readSets im (placeOfName im 1 l) (length l + 1) (f ∷ [])) (refused (UnknownName 0)) ≡ label m
-        → cond t (readSets im (placeOfName im 1 l) (length l + 1) (g ∷ [])) (refused (UnknownName 0)) ≡ label m
+    at : (t : Bool) → cond t (readSets im (placeOfName im 1 l) (length l + 1) (f ∷ [])) (unknown 0) ≡ read m
+        → cond t (readSets im (placeOfName im 1 l) (length l + 1) (g ∷ [])) (unknown 0) ≡ read m
     at true h = one-order im (placeOfName im 1 l) (length l + 1) m f g same h
     at false h = h
 parts-order im m (groups l {f} {g} {h} {k} same other) e = at (ltb (placeOfName im 1 l) (levels im)) e
   where
-    at : (t : Bool) → cond t (readSets im (placeOfName im 1 l) (length l + 1) (f ∷ h ∷ [])) (refused (UnknownName 0)) ≡ label m
-        → cond t (readSets im (placeOfName im 1 l) (length l + 1) (g ∷ k ∷ [])) (refused (UnknownName 0)) ≡ label m
+    at : (t : Bool) → cond t (readSets im (placeOfName im 1 l) (length l + 1) (f ∷ h ∷ [])) (unknown 0) ≡ read m
+        → cond t (readSets im (placeOfName im 1 l) (length l + 1) (g ∷ k ∷ [])) (unknown 0) ≡ read m
     at true d = two-order im (placeOfName im 1 l) (length l + 1) m f g h k same other d
     at false d = d
 
-read-parts : (im text : List ℕ) (m : Marks) → parseOf im text ≡ label m → readParts im (split colon text) ≡ label m
-unfolding parseOf
-read-parts im text m e = at (shapeRule text) (rw (parsed-accepted im text m e) at e)
-  where
-    at : (t : Bool) → cond t (readParts im (split colon text)) (refused TextShape) ≡ label m → readParts im (split colon text) ≡ label m
-    at true h = h
-    at false h = absurd (true≢false (sym (ap isLabel h)))
-
 -- the same names in any order give the same label
-pub parse-any-order : (im text other : List ℕ) (m : Marks) → SameNames (split colon text) (split colon other) → shapeRule other ≡ true
-    → parseOf im text ≡ label m → parseOf im other ≡ label m
+pub parse-any-order : (im text other : List ℕ) (m : Marks) → SameNames (split colon text) (split colon other) → shapeRule (limitsOf im .text) other ≡ true
+    → parseOf im text ≡ ofText (read m) → parseOf im other ≡ ofText (read m)
 unfolding parseOf
 parse-any-order im text other m same shaped e =
-    rw (parsed-accepted im text m e, shaped) (parts-order im m same (read-parts im text m e))
+    let p = parsed-read im text (read m) e in
+    rw (p .0, shaped) (ap ofText (parts-order im m same (text-parts im text m (p .1))))
 
 -- so a printed label reads back, also when its lists are given in another order
 pub print-any-order : (im : List ℕ) → IsAccepted im → (m : Marks) → labelExists im m ≡ true → (other : List ℕ)
-    → SameNames (split colon (textOf im m)) (split colon other) → shapeRule other ≡ true → parseOf im other ≡ label m
+    → SameNames (split colon (textOf im m)) (split colon other) → shapeRule (limitsOf im .text) other ≡ true → parseOf im other ≡ ofText (read m)
 print-any-order im acc m h other same shaped = parse-any-order im (textOf im m) other m same shaped (parse-of-print im acc m h)

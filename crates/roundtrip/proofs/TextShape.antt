@@ -4,15 +4,16 @@ use mathlib.Core.Path.{_≡_, refl, sym, ap, _∙_}
 use mathlib.Core.Bool.{Bool, true, false, cond, not, _&&_, _||_, true≢false, or-true}
 use mathlib.Core.List.{List, [], _∷_, _++_, append-nil}
 use native.Mathlib.Omega.{arith}
-use borrow.Author.Tests.{ltb-true, le-leb}
-use lib.Dec.{eqb, leb, ltb}
+use borrow.Author.Tests.{le-leb}
+use lib.Dec.{eqb, leb}
 use lib.ListN.{length, drop}
 use Rattle.fields.specs.Bytes.{all}
 use Rattle.fields.proofs.Both.{both, both-left, both-right}
-use Rattle.sets.specs.Sets.{has, empty, within, allBelow}
-use Rattle.sets.proofs.Bounds.{below-has, within-below}
+use Rattle.sets.specs.Sets.{has, empty}
+use Rattle.sets.proofs.Bounds.{below-has}
 use Rattle.sets.proofs.Meets.{empty-lacks, empty-place}
-use Rattle.header.specs.Layout.{levels, compartments, groups}
+use Rattle.header.specs.Layout.{compartments, groups}
+use Rattle.header.specs.Limits.{limitsOf}
 use Rattle.image.specs.Check.{IsAccepted}
 use Rattle.labels.specs.Label.{Marks, labelExists}
 use Rattle.labels.specs.Text.{comma, colon, split, isEmpty, isName, allNames, isList, shapeOfParts, shapeRule}
@@ -20,6 +21,7 @@ use Rattle.labels.specs.Parse.{classCount}
 use Rattle.printing.specs.Print.{nameAt, entryAt, listed, listText, section, textOf}
 use Rattle.roundtrip.proofs.Unmarked.{lacks, split-alone, split-joined}
 use Rattle.printing.proofs.Listed.{entry-has, entry-lacks}
+use Rattle.labels.proofs.Existing.{exists-means}
 use Rattle.printing.proofs.Whole.{text-short}
 use Rattle.roundtrip.proofs.OwnNames.{name-is, name-no-comma, name-no-colon}
 use Rattle.roundtrip.proofs.ListsRead.{namesFrom, parts-from}
@@ -106,31 +108,6 @@ pub list-none : (im : List ℕ) (class count set : ℕ) → empty set ≡ true �
 unfolding listText
 list-none im class count set e = rw (listed-none im class set count 0 e)
 
--- ---- what existence of a label tells
-module _ (im : List ℕ) (m : Marks) (h : labelExists im m ≡ true) where
-  level-and : (ltb (m .level) (levels im) && within (m .compartments) (allBelow (compartments im))) ≡ true
-  unfolding labelExists
-  level-and =
-      both-left (ltb (m .level) (levels im) && within (m .compartments) (allBelow (compartments im)))
-      (within (m .groups) (allBelow (groups im))) h
-
-  pub level-below : m .level < levels im
-  level-below =
-      ltb-true (m .level) (levels im)
-      (both-left (ltb (m .level) (levels im)) (within (m .compartments) (allBelow (compartments im))) level-and)
-
-  pub compartments-below : m .compartments < 2 ^ compartments im
-  compartments-below =
-      within-below (m .compartments) (compartments im)
-      (both-right (ltb (m .level) (levels im)) (within (m .compartments) (allBelow (compartments im))) level-and)
-
-  pub groups-below : m .groups < 2 ^ groups im
-  unfolding labelExists
-  groups-below =
-      within-below (m .groups) (groups im)
-      (both-right (ltb (m .level) (levels im) && within (m .compartments) (allBelow (compartments im)))
-      (within (m .groups) (allBelow (groups im))) h)
-
 -- ---- the parts of the text between colons
 module _ (im : List ℕ) (acc : IsAccepted im) (m : Marks) (h : labelExists im m ≡ true) where
   abbrev level : List ℕ
@@ -143,7 +120,7 @@ module _ (im : List ℕ) (acc : IsAccepted im) (m : Marks) (h : labelExists im m
   second = listText im 3 (groups im) (m .groups)
 
   level-no-colon : lacks colon level ≡ true
-  level-no-colon = name-no-colon im acc 1 (omega arith) (omega arith) (m .level) (level-below im m h)
+  level-no-colon = name-no-colon im acc 1 (omega arith) (omega arith) (m .level) (exists-means im m h .level)
 
   first-no-colon : lacks colon first ≡ true
   first-no-colon = list-no-colon im acc 2 (omega arith) (omega arith) (m .compartments)
@@ -171,13 +148,13 @@ module _ (im : List ℕ) (acc : IsAccepted im) (m : Marks) (h : labelExists im m
 
   -- ---- they have the shape
   level-named : isName level ≡ true
-  level-named = name-is im acc 1 (omega arith) (omega arith) (m .level) (level-below im m h)
+  level-named = name-is im acc 1 (omega arith) (omega arith) (m .level) (exists-means im m h .level)
 
   first-listed : empty (m .compartments) ≡ false → isList first ≡ true
-  first-listed = list-is im acc 2 (omega arith) (omega arith) (m .compartments) (compartments-below im m h)
+  first-listed = list-is im acc 2 (omega arith) (omega arith) (m .compartments) (exists-means im m h .compartments)
 
   second-listed : empty (m .groups) ≡ false → isList second ≡ true
-  second-listed = list-is im acc 3 (omega arith) (omega arith) (m .groups) (groups-below im m h)
+  second-listed = list-is im acc 3 (omega arith) (omega arith) (m .groups) (exists-means im m h .groups)
 
   first-either : (isEmpty first || isList first) ≡ true
   first-either = at (empty (m .compartments)) refl
@@ -197,8 +174,8 @@ module _ (im : List ℕ) (acc : IsAccepted im) (m : Marks) (h : labelExists im m
           (both (isName level && (isEmpty first || isList first)) (isList second)
           (both (isName level) (isEmpty first || isList first) level-named first-either) (second-listed e))
 
-  pub shape-of-text : shapeRule (textOf im m) ≡ true
+  pub shape-of-text : shapeRule (limitsOf im .text) (textOf im m) ≡ true
   unfolding shapeRule
   shape-of-text =
-      both (leb (length (textOf im m)) 4096) (shapeOfParts (split colon (textOf im m)))
-      (le-leb (length (textOf im m)) 4096 (text-short im acc m h)) parts-shaped
+      both (leb (length (textOf im m)) (limitsOf im .text)) (shapeOfParts (split colon (textOf im m)))
+      (le-leb (length (textOf im m)) (limitsOf im .text) (text-short im acc m h)) parts-shaped

@@ -1,35 +1,20 @@
--- Splitting a text at a mark and joining parts by it: a part has no mark inside, and parts without a mark come back. Assumes nothing.
+-- Splitting a text at a mark: parts without a mark that are joined by it come back. Assumes nothing.
 use Prim.Native.Nat.{ℕ}
 use mathlib.Core.Path.{_≡_, refl, sym, ap, _∙_}
-use mathlib.Core.Bool.{Bool, true, false, cond, not, _&&_, true≢false}
+use mathlib.Core.Bool.{Bool, true, false, not, true≢false}
 use mathlib.Core.List.{List, [], _∷_, _++_}
 use borrow.Author.Tests.{eqb-true, eq-eqb, not-true}
 use lib.Dec.{eqb}
 use Rattle.fields.specs.Bytes.{all}
 use Rattle.fields.specs.Names.{nameByte, allNameBytes}
 use Rattle.fields.proofs.Both.{both, both-left, both-right}
-use Rattle.labels.specs.Text.{onto, split}
+use Rattle.labels.specs.Text.{split}
 
 -- no byte is the mark
 abbrev pub lacks : ℕ → List ℕ → Bool
 lacks mark = all (λ x. not (eqb x mark))
 
-abbrev pub allLack : ℕ → List (List ℕ) → Bool
-allLack mark [] = true
-allLack mark (p ∷ ps) = lacks mark p && allLack mark ps
-
 module _ (mark : ℕ) where
-  pub split-lacks : (s : List ℕ) → allLack mark (split mark s) ≡ true
-  unfolding split all
-  split-lacks [] = refl
-  split-lacks (x ∷ xs) = at (eqb x mark) refl (split mark xs) (split-lacks xs)
-    where
-      at : (t : Bool) → eqb x mark ≡ t → (rest : List (List ℕ)) → allLack mark rest ≡ true
-          → allLack mark (cond t ([] ∷ rest) (onto x rest)) ≡ true
-      at true e rest h = h
-      at false e [] h = rw e
-      at false e (p ∷ ps) h = rw e h
-
   first-differs : (x : ℕ) (xs : List ℕ) → lacks mark (x ∷ xs) ≡ true → eqb x mark ≡ false
   unfolding all
   first-differs x xs h = not-true (eqb x mark) (both-left (not (eqb x mark)) (lacks mark xs) h)

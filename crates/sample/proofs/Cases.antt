@@ -11,8 +11,8 @@ use Rattle.hierarchy.specs.Below.{parent, hasParent, lineageWithin, lineage, be
 use Rattle.refusals.specs.declared.answers.Checked.the-variants.{Accepted}
 use Rattle.image.specs.Check.{checkOf}
 use Rattle.image.specs.Lookup.{componentIndex, labelOfTag}
-use Rattle.labels.specs.Text.{split, isName, isList, shapeRule}
-use Rattle.labels.specs.Parse.{matches, placeOfName, readNames, readText, parseOf}
+use Rattle.labels.specs.Text.{textByte, split, isName, isList, shapeRule}
+use Rattle.labels.specs.Parse.{matches, placeOfName, readNames, readText, ofText, parseOf}
 use Rattle.printing.specs.Print.{entryAt, listed, listText, section, textOf, acceptedAnswer, printOf}
 use Rattle.labels.specs.Label.{labelExists}
 use Rattle.dominance.specs.TwoLabels.{mergeLevels, mergeSets, lettersRule, mergedLabel, mergeOf}
@@ -43,9 +43,9 @@ shortly im (ofRow tag) =
     toldVerdicts im tag (verdictOf (mayRead im rights tag)) (verdictOf (mayWrite im rights tag))
 shortly im (newLabel text) = toldChange (labelChange im maraOpened text)
 shortly im (merged text1 text2 letters) =
-    onLabel (readText im text1)
-    (λ a. onLabel (readText im text2) (λ b. onMerged (mergeOf a b letters) (λ m. toldPrint (acceptedAnswer im m buffer))))
-shortly im (printed text) = onLabel (readText im text) (λ m. toldPrint (acceptedAnswer im m buffer))
+    onLabel (ofText (readText im text1))
+    (λ a. onLabel (ofText (readText im text2)) (λ b. onMerged (mergeOf a b letters) (λ m. toldPrint (acceptedAnswer im m buffer))))
+shortly im (printed text) = onLabel (ofText (readText im text)) (λ m. toldPrint (acceptedAnswer im m buffer))
 
 answer-shortly : (im : List ℕ) → Known im → (q : Question) → answer im q ≡ shortly im q
 unfolding answer mayReadOf mayWriteOf setLabelOf parseOf printOf
@@ -63,7 +63,7 @@ cases-shortly (c ∷ cases) = rw (answer-shortly casesImage cases-known (c .ques
 
 -- ---- the proof
 computed : map (λ (c : Case). shortly casesImage (c .question)) proved ≡ map (λ (c : Case). c .expected) proved
-unfolding proved mayRead mayWrite knownTag labelAt readsLabel readTests readLevelRule readGroupsRule readCompartmentsRule compaccessReads holdsCompaccess readsAll writesAll writesLabel writeTests writeLevelRule writeSetsRule writeGroupsRule writeCompartmentsRule compaccessWrites rightsAt writeCompartmentsOf writeGroupsOf casesImage number2 number4 number8 has difference empty within meets collect firstBad levels compartments groups labels components firstLabelBlock firstUserBlock componentOffset labelOffset userOffset componentRecord labelRecord userRecord parent hasParent lineageWithin lineage below labelOfTag labelChange sessionLabelAnswer rowInside sessionGroupsRule all nameByte nameIn sameName componentIndex split isName isList shapeRule matches placeOfName readNames allBelow entryAt listed listText section textOf labelExists acceptedAnswer mergeLevels mergeSets lettersRule mergedLabel mergeOf
+unfolding proved mayRead mayWrite knownTag labelAt readsLabel readTests readLevelRule readGroupsRule readCompartmentsRule compaccessReads holdsCompaccess readsAll writesAll writesLabel writeTests writeLevelRule writeSetsRule writeGroupsRule writeCompartmentsRule compaccessWrites rightsAt writeCompartmentsOf writeGroupsOf casesImage number2 number4 number8 has difference empty within meets collect firstBad levels compartments groups labels components firstLabelBlock firstUserBlock componentOffset labelOffset userOffset componentRecord labelRecord userRecord parent hasParent lineageWithin lineage below labelOfTag labelChange sessionLabelAnswer rowInside sessionGroupsRule all textByte nameByte nameIn sameName componentIndex split isName isList shapeRule matches placeOfName readNames allBelow entryAt listed listText section textOf labelExists acceptedAnswer mergeLevels mergeSets lettersRule mergedLabel mergeOf
 computed = refl
 
 pub all-cases : map asked proved ≡ map (λ (c : Case). c .expected) proved

@@ -10,7 +10,7 @@ use Rattle.header.specs.Layout.{levels, compartments, groups, users, labels, co
 use Rattle.hierarchy.specs.Below.{parent, hasParent, lineageWithin, lineage, below}
 use Rattle.refusals.specs.declared.answers.Checked.the-variants.{Accepted}
 use Rattle.image.specs.Lookup.{componentIndex, userOfName}
-use Rattle.labels.specs.Text.{colon, split, isName, isList, shapeRule}
+use Rattle.labels.specs.Text.{colon, textByte, split, isName, isList, shapeRule}
 use Rattle.labels.specs.Parse.{matches, placeOfName, readNames}
 use Rattle.access.specs.Rights.{writeCompartmentsOf, writeGroupsOf, rightsAt}
 use Rattle.access.specs.NewLabels.{sessionGroupsRule, rowInside, sessionLabelAnswer, rowLabelAnswer, sessionRule}
@@ -46,5 +46,5 @@ mara-passes-cases = passes-in-both .1
 -- ---- in the report's
 -- P10 holds there too: the calls of HiddenInstance.antt have it
 pub p10 : setLabelOf cooperative mara (vault ++ colon ∷ kiln ++ colon ∷ dock) ≡ (withLabel mara (marks 2 1 4), Accepted)
-unfolding setLabelOf labelChange sessionLabelAnswer rowInside sessionGroupsRule rightsAt writeCompartmentsOf writeGroupsOf cooperative number2 number4 number8 all nameByte nameIn sameName firstBad has within meets collect levels compartments groups users labels components firstLabelBlock firstUserBlock componentOffset userOffset componentRecord userRecord componentIndex parent hasParent lineageWithin lineage below split isName isList shapeRule matches placeOfName readNames
+unfolding setLabelOf labelChange sessionLabelAnswer rowInside sessionGroupsRule rightsAt writeCompartmentsOf writeGroupsOf cooperative number2 number4 number8 all textByte nameByte nameIn sameName firstBad has within meets collect levels compartments groups users labels components firstLabelBlock firstUserBlock componentOffset userOffset componentRecord userRecord componentIndex parent hasParent lineageWithin lineage below split isName isList shapeRule matches placeOfName readNames
 p10 = rw mara-passes

@@ -12,7 +12,7 @@ use Rattle.records.specs.Fields.{privileges}
 use Rattle.hierarchy.specs.Below.{parent, hasParent, lineageWithin, lineage, below}
 use Rattle.refusals.specs.declared.answers.Checked.the-variants.{Accepted, Refused}
 use Rattle.image.specs.Lookup.{componentIndex, labelOfTag, userOfName}
-use Rattle.labels.specs.Text.{split, isName, isList, shapeRule}
+use Rattle.labels.specs.Text.{textByte, split, isName, isList, shapeRule}
 use Rattle.labels.specs.Parse.{matches, placeOfName, readNames}
 use Rattle.access.specs.Rights.{writeCompartmentsOf, writeGroupsOf, rightsAt, maximumReadLabel}
 use Rattle.access.specs.NewLabels.{sessionGroupsRule, rowInside, sessionLabelAnswer, rowLabelAnswer, sessionRule}
@@ -86,16 +86,16 @@ glazed-verdicts = record { hides10 = refl; reads30 = refl; hides20 = refl; hides
 -- ---- label changes
 -- the row label CREW:KILN:DOCK does not lie inside CREW:GLAZE:NORTH
 pub glaze-refused : setLabelOf cooperative vaulted textGlaze ≡ (vaulted, Refused RowLabelOutside)
-unfolding setLabelOf labelChange sessionLabelAnswer rowInside sessionGroupsRule rightsAt writeCompartmentsOf writeGroupsOf cooperative number2 number4 number8 all nameByte nameIn sameName firstBad has within meets collect levels compartments groups users labels components firstLabelBlock firstUserBlock componentOffset userOffset componentRecord userRecord componentIndex parent hasParent lineageWithin lineage below split isName isList shapeRule matches placeOfName readNames
+unfolding setLabelOf labelChange sessionLabelAnswer rowInside sessionGroupsRule rightsAt writeCompartmentsOf writeGroupsOf cooperative number2 number4 number8 all textByte nameByte nameIn sameName firstBad has within meets collect levels compartments groups users labels components firstLabelBlock firstUserBlock componentOffset userOffset componentRecord userRecord componentIndex parent hasParent lineageWithin lineage below split isName isList shapeRule matches placeOfName readNames
 glaze-refused = rw vaulted-passes
 
 pub crew-accepted : setRowLabelOf cooperative vaulted textCrew ≡ (bare, Accepted)
-unfolding setRowLabelOf rowLabelChange rowLabelAnswer rightsAt writeCompartmentsOf writeGroupsOf cooperative number2 number4 number8 all nameByte nameIn sameName firstBad has within meets collect levels compartments groups users labels components firstLabelBlock firstUserBlock componentOffset userOffset componentRecord userRecord componentIndex parent hasParent lineageWithin lineage below split isName isList shapeRule matches placeOfName readNames
+unfolding setRowLabelOf rowLabelChange rowLabelAnswer rightsAt writeCompartmentsOf writeGroupsOf cooperative number2 number4 number8 all textByte nameByte nameIn sameName firstBad has within meets collect levels compartments groups users labels components firstLabelBlock firstUserBlock componentOffset userOffset componentRecord userRecord componentIndex parent hasParent lineageWithin lineage below split isName isList shapeRule matches placeOfName readNames
 crew-accepted = rw vaulted-passes
 
 -- CREW does
 pub glaze-accepted : setLabelOf cooperative bare textGlaze ≡ (glazed, Accepted)
-unfolding setLabelOf labelChange sessionLabelAnswer rowInside sessionGroupsRule rightsAt writeCompartmentsOf writeGroupsOf cooperative number2 number4 number8 all nameByte nameIn sameName firstBad has within meets collect levels compartments groups users labels components firstLabelBlock firstUserBlock componentOffset userOffset componentRecord userRecord componentIndex parent hasParent lineageWithin lineage below split isName isList shapeRule matches placeOfName readNames
+unfolding setLabelOf labelChange sessionLabelAnswer rowInside sessionGroupsRule rightsAt writeCompartmentsOf writeGroupsOf cooperative number2 number4 number8 all textByte nameByte nameIn sameName firstBad has within meets collect levels compartments groups users labels components firstLabelBlock firstUserBlock componentOffset userOffset componentRecord userRecord componentIndex parent hasParent lineageWithin lineage below split isName isList shapeRule matches placeOfName readNames
 glaze-accepted = rw bare-passes
 
 -- ---- refusals of an opening and of a lent session

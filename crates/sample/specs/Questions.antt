@@ -12,8 +12,8 @@ use Rattle.refusals.specs.Answers.{onChecked}
 use Rattle.labels.specs.Label.{Marks}
 use Rattle.labels.specs.Parse as parse
 use Rattle.printing.specs.Print.{textOf, printOf}
-use Rattle.printing.specs.declared.printing.Printed.{Printed}
-use Rattle.printing.specs.declared.printing.Printed.the-variants as print
+use Rattle.printing.specs.declared.answers.Printed.{Printed}
+use Rattle.printing.specs.declared.answers.Printed.the-variants as print
 use Rattle.dominance.specs.TwoLabels as merging
 use Rattle.access.specs.Verdicts.{labelAt, knownTag}
 use Rattle.sessions.specs.Session.{SessionMarks}
@@ -66,9 +66,9 @@ abbrev pub toldChange : SessionMarks × Checked → Told
 toldChange c = onChecked (c .1) (λ r. refusedBy r (sessionBytes (c .0))) (done (sessionBytes (c .0)))
 
 -- what is asked of the label that a text names, or that a merge gives
-abbrev pub onLabel : parse.Read → (Marks → Told) → Told
-onLabel (parse.label m) ask = ask m
-onLabel (parse.refused r) ask = refusedBy r []
+abbrev pub onLabel : parse.Parsing → (Marks → Told) → Told
+onLabel (parse.ofText (parse.read m)) ask = ask m
+onLabel (parse.ofText (parse.refused reason)) ask = refusedBy (parse.refusalOf reason) []
 onLabel (parse.badImage r) ask = refusedBy r []
 
 abbrev pub onMerged : merging.Merging → (Marks → Told) → Told

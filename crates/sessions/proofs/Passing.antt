@@ -21,7 +21,7 @@ use Rattle.image.specs.Lookup.{userOfName}
 use Rattle.image.proofs.Policy.{user-kept, user-below}
 use Rattle.labels.specs.Label.{Marks}
 use Rattle.labels.specs.Parse as parse
-use Rattle.labels.specs.Parse.{Read, label, badImage, readText}
+use Rattle.labels.specs.Parse.{Reading, read, readText, refusalOf}
 use Rattle.access.specs.Rights.{rightsAt, writeCompartmentsOf, writeGroupsOf}
 use Rattle.access.specs.NewLabels.{sessionLabelAnswer, rowLabelAnswer, sessionRule}
 use Rattle.access.proofs.Answers.{Inside, session-label-means, row-label-means, means-session}
@@ -107,11 +107,10 @@ change-taken : (old new t : SessionMarks) (c : Checked) → changeIf old c new �
 change-taken old new t Accepted e = (refl, ap (λ (p : SessionMarks × Checked). p .0) e)
 change-taken old new t (Refused r) e = absurd (refused-not r (ap (λ (p : SessionMarks × Checked). p .1) e))
 
-text-taken : (old t : SessionMarks) (r : Read) (rule : Marks → Checked) (change : Marks → SessionMarks)
+text-taken : (old t : SessionMarks) (r : Reading Marks) (rule : Marks → Checked) (change : Marks → SessionMarks)
     → changeTo old r rule change ≡ (t, Accepted) → (m : Marks) × ((rule m ≡ Accepted) × (change m ≡ t))
-text-taken old t (label m) rule change e = (m, change-taken old (change m) t (rule m) e)
-text-taken old t (parse.refused r) rule change e = absurd (refused-not r (ap (λ (p : SessionMarks × Checked). p .1) e))
-text-taken old t (badImage r) rule change e = absurd (refused-not r (ap (λ (p : SessionMarks × Checked). p .1) e))
+text-taken old t (read m) rule change e = (m, change-taken old (change m) t (rule m) e)
+text-taken old t (parse.refused reason) rule change e = absurd (refused-not (refusalOf reason) (ap (λ (p : SessionMarks × Checked). p .1) e))
 
 lent-taken : (im : List ℕ) (s t : SessionMarks) (change : SessionMarks × Checked) → afterLent im s change ≡ (t, Accepted)
     → (lentAnswer im s ≡ Accepted) × (change ≡ (t, Accepted))

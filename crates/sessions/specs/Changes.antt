@@ -5,7 +5,7 @@ use Rattle.refusals.specs.declared.answers.Checked.{Checked}
 use Rattle.refusals.specs.declared.answers.Checked.the-variants.{Accepted, Refused}
 use Rattle.refusals.specs.Answers.{onChecked}
 use Rattle.labels.specs.Label.{Marks}
-use Rattle.labels.specs.Parse.{Read, label, refused, badImage, readText}
+use Rattle.labels.specs.Parse.{Reading, read, refused, readText, refusalOf}
 use Rattle.access.specs.NewLabels.{sessionLabelAnswer, rowLabelAnswer}
 use Rattle.sessions.specs.Session.{SessionMarks, sessionOf, lentAnswer, sessionRights}
 use Rattle.sessions.specs.declared.answers.Changed.{Changed}
@@ -14,11 +14,10 @@ use Rattle.sessions.specs.declared.answers.Changed.{Changed}
 abbrev pub changeIf : SessionMarks → Checked → SessionMarks → SessionMarks × Checked
 changeIf old answer new = onChecked answer (λ r. (old, Refused r)) (new, Accepted)
 
--- the label of a text, asked of a rule: 5, the leftmost 6 or 7, then those of the rule. (No image is refused here any more.)
-abbrev pub changeTo : SessionMarks → Read → (Marks → Checked) → (Marks → SessionMarks) → SessionMarks × Checked
-changeTo old (label new) rule change = changeIf old (rule new) (change new)
-changeTo old (refused r) rule change = (old, Refused r)
-changeTo old (badImage r) rule change = (old, Refused r)
+-- the label of a text, asked of a rule: 5, the leftmost 6 or 7, then those of the rule
+abbrev pub changeTo : SessionMarks → Reading Marks → (Marks → Checked) → (Marks → SessionMarks) → SessionMarks × Checked
+changeTo old (read new) rule change = changeIf old (rule new) (change new)
+changeTo old (refused reason) rule change = (old, Refused (refusalOf reason))
 
 -- ---- a lent session that is accepted
 abbrev pub withLabel : SessionMarks → Marks → SessionMarks

@@ -1,6 +1,5 @@
 use Rattle.labels.proofs.Offsets.{parse-told, image-told}
-use Rattle.labels.specs.Parse.{readOf}
-use Rattle.labels.specs.Parse as parse
+use Rattle.labels.specs.Parse.{parsingOf}
 use mathlib.Core.Path.{sym, ap, _∙_}
 use borrow.Author.Needs.{needs}
 use Rattle.abi.proofs.brawnesk_parse.Statement.{statement}
@@ -22,13 +21,13 @@ refusal-requires : tie.Need-refusal-requires
 refusal-requires c κs = search needs
 
 refused-requires : tie.Need-refused-requires
-refused-requires c κs = parse-told _ _ _ (sym (c .before .before .before .before .parse .ensures) ∙ ap readOf (c .before .before .answer2 .given .1) ∙ ap parse.refused (sym (c .refusal .ensures)))
+refused-requires c κs = rw (c .refusal .ensures) (parse-told _ _ _ (sym (c .before .before .before .before .parse .ensures) ∙ ap parsingOf (c .before .before .answer2 .given .1)))
 
 enum-known-answer-3 : tie.Need-enum-known-answer-3
 enum-known-answer-3 c = search needs
 
 refused-requires-2 : tie.Need-refused-requires-2
-refused-requires-2 c κs = image-told _ _ _ (sym (c .before .before .before .parse .ensures) ∙ ap readOf (c .before .answer3 .given .1))
+refused-requires-2 c κs = image-told _ _ _ (sym (c .before .before .before .parse .ensures) ∙ ap parsingOf (c .before .answer3 .given .1))
 
 returns : tie.Need-returns
 returns c = rw (← c .before .before .before .before .parse .ensures, c .before .before .answer .given .1, c .label-bytes .ensures)

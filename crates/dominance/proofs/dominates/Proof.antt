@@ -1,4 +1,4 @@
-use Rattle.dominance.specs.TwoLabels.{dominatesLevel, dominatesCompartments, dominatesGroups}
+use Rattle.dominance.specs.TwoLabels.{dominatesLevel, dominatesCompartments}
 use Rattle.dominance.specs.TwoLabels as two
 use borrow.Author.Needs.{needs}
 use Rattle.dominance.proofs.dominates.Statement.{statement}
@@ -7,15 +7,12 @@ use Rattle.dominance.proofs.dominates.Tie as tie
 within-requires : tie.Need-within-requires
 within-requires c κs = search needs
 
-is-empty-requires : tie.Need-is-empty-requires
-is-empty-requires c κs = search needs
-
-meets-requires : tie.Need-meets-requires
-meets-requires c κs = search needs
+passes-requires : tie.Need-passes-requires
+passes-requires c κs = search needs
 
 returns : tie.Need-returns
-unfolding two.dominates dominatesLevel dominatesCompartments dominatesGroups
-returns c = rw (c .before .before .within .ensures, c .before .is-empty .ensures, c .meets .ensures)
+unfolding two.dominates dominatesLevel dominatesCompartments
+returns c = rw (c .before .within .ensures, c .passes .ensures)
 
 pub dominates-spec : {M : Type 1} → statement M
-dominates-spec = tie.close (tie.spec within-requires is-empty-requires meets-requires returns)
+dominates-spec = tie.close (tie.spec within-requires passes-requires returns)

@@ -21,7 +21,9 @@ same-length c = search needs
 
 returns : tie.Need-returns
 unfolding printOf
-returns c = rw (← c .before .before .before .before .before .before .check .ensures, c .before .before .before .before .enum-told .given .1) (c .before .before .print-accepted .ensures)
+returns c =
+    let told = c .before .before .before .before in
+    rw (← told .before .before .check .ensures, told .enum-told .given .1) (c .before .before .print-accepted .ensures)
 
 returns-2 : tie.Need-returns-2
 unfolding printOf

@@ -28,7 +28,10 @@ set-letter-requires-2 c κs = search needs
 
 returns-2 : tie.Need-returns-2
 unfolding lettersRule
-returns-2 c = rw (eq-eqb _ _ (c .before .before .before .before .before .before .if1 .left), c .before .before .before .before .level-letter .ensures, c .before .before .set-letter .ensures, c .set-letter2 .ensures)
+returns-2 c =
+    let second = c .before .before in
+    let first = second .before .before in
+    rw (eq-eqb _ _ (first .before .before .if1 .left), first .level-letter .ensures, second .set-letter .ensures, c .set-letter2 .ensures)
 
 pub letters-ok-spec : {M : Type 1} → statement M
 letters-ok-spec =

@@ -23,14 +23,17 @@ difference-requires c κs = search needs
 
 returns-3 : tie.Need-returns-3
 unfolding mergeSets
-returns-3 c = rw (ne-eqb _ _ (c .before .before .before .if1 .left), ne-eqb _ _ (c .before .before .if2 .left), eq-eqb _ _ (c .before .if3 .taken)) (c .difference .ensures)
+returns-3 c =
+    rw (ne-eqb _ _ (c .before .before .before .if1 .left), ne-eqb _ _ (c .before .before .if2 .left), eq-eqb _ _ (c .before .if3 .taken))
+    (c .difference .ensures)
 
 none-requires : tie.Need-none-requires
 none-requires c κs = search needs
 
 returns-4 : tie.Need-returns-4
 unfolding mergeSets
-returns-4 c = rw (ne-eqb _ _ (c .before .before .before .if1 .left), ne-eqb _ _ (c .before .before .if2 .left), ne-eqb _ _ (c .before .if3 .left), c .none .ensures)
+returns-4 c =
+    rw (ne-eqb _ _ (c .before .before .before .if1 .left), ne-eqb _ _ (c .before .before .if2 .left), ne-eqb _ _ (c .before .if3 .left), c .none .ensures)
 
 pub merge-groups-spec : {M : Type 1} → statement M
 merge-groups-spec =

@@ -1,6 +1,4 @@
-use mathlib.Core.Path.{sym, ap}
 use borrow.Author.Needs.{needs}
-use Rattle.labels.specs.Parse.{refusalOf}
 use Rattle.labels.proofs.answers.refusal.Statement.{statement}
 use Rattle.labels.proofs.answers.refusal.Tie as tie
 

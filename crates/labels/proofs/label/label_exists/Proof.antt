@@ -20,7 +20,9 @@ within-requires : tie.Need-within-requires
 within-requires c κs = search needs
 
 groups-requires : tie.Need-groups-requires
-groups-requires c κs = header-inside _ (c .before .before .before .before .before .before .pre .fitted)
+groups-requires c κs =
+    let first = c .before .before .before in
+    header-inside _ (first .before .before .before .pre .fitted)
 
 all-below-requires-2 : tie.Need-all-below-requires-2
 all-below-requires-2 c κs = search needs
@@ -31,14 +33,16 @@ within-requires-2 c κs = search needs
 returns : tie.Need-returns
 unfolding labelExists
 returns c =
+    let first = c .before .before .before in
+    let counted = first .before .before in
     rw (
       c .within2 .ensures,
       c .before .all-below2 .ensures,
       c .before .before .groups .ensures .0,
-      c .before .before .before .within .ensures,
-      c .before .before .before .before .all-below .ensures,
-      c .before .before .before .before .before .compartments .ensures .0,
-      c .before .before .before .before .before .before .levels .ensures .0,
+      first .within .ensures,
+      first .before .all-below .ensures,
+      counted .compartments .ensures .0,
+      counted .before .levels .ensures .0,
     )
 
 pub label-exists-spec : {M : Type 1} → statement M

@@ -99,22 +99,49 @@ read-names-enum-told : (t : ℕ) → read-names-lts.Need-enum-told (read-names-c
 read-names-enum-told t c = search needs
 
 read-names-returns : (t : ℕ) → read-names-lts.Need-returns (read-names-calls t) (read-names-at t) read-names.Post
-read-names-returns t c = list-unknown _ _ _ _ _ _ (c .before .before .before .before .before .before .before .pre .1 .1 .1) (c .before .before .before .before .mark-from .ensures .0) (c .before .before .before .before .mark-from .ensures .1 .1) (sym (c .before .before .find .ensures) ∙ c .enum-told .given .1)
+read-names-returns t c =
+    let end = c .before .before .before .before in
+    let start = end .before .before .before in
+    list-unknown _ _ _ _ _ _ (start .pre .1 .1 .1) (end .mark-from .ensures .0) (end .mark-from .ensures .1 .1)
+    (sym (c .before .before .find .ensures) ∙ c .enum-told .given .1)
 
 read-names-has-requires : (t : ℕ) → read-names-lts.Need-has-requires (read-names-calls t) (read-names-at t) read-names.Post
 read-names-has-requires t c κs = search needs
 
 read-names-returns-2 : (t : ℕ) → read-names-lts.Need-returns-2 (read-names-calls t) (read-names-at t) read-names.Post
-read-names-returns-2 t c = list-repeated _ _ _ _ _ _ (c .before .before .before .before .before .before .before .before .before .before .pre .1 .1 .1) (c .before .before .before .before .before .before .before .mark-from .ensures .0) (c .before .before .before .before .before .before .before .mark-from .ensures .1 .1) _ (sym (c .before .before .before .before .before .find .ensures) ∙ c .before .before .before .found .given .1) (sym (c .before .has .ensures) ∙ c .if1 .taken)
+read-names-returns-2 t c =
+    let place = c .before .before .before in
+    let look = place .before .before in
+    let end = look .before .before in
+    let start = end .before .before .before in
+    list-repeated _ _ _ _ _ _ (start .pre .1 .1 .1) (end .mark-from .ensures .0) (end .mark-from .ensures .1 .1) _
+    (sym (look .find .ensures) ∙ place .found .given .1) (sym (c .before .has .ensures) ∙ c .if1 .taken)
 
 read-names-with-requires : (t : ℕ) → read-names-lts.Need-with-requires (read-names-calls t) (read-names-at t) read-names.Post
-read-names-with-requires t c κs = omega (arith, found-below _ _ _ _ (sym (c .before .before .before .before .before .find .ensures) ∙ c .before .before .before .found .given .1), class-limit _ (c .before .before .before .before .before .before .before .before .before .before .args .class) (c .before .before .before .before .before .before .before .before .before .before .pre .1 .0))
+read-names-with-requires t c κs =
+    let place = c .before .before .before in
+    let look = place .before .before in
+    let start = look .before .before .before .before .before in
+    omega (arith, found-below _ _ _ _ (sym (look .find .ensures) ∙ place .found .given .1), class-limit _ (start .args .class) (start .pre .1 .0))
 
 read-names-after-name-requires : (t : ℕ) → read-names-lts.Need-after-name-requires (read-names-calls t) (read-names-at t) read-names.Post
-read-names-after-name-requires t c κs = (omega arith, (c .before .before .before .before .before .before .before .before .before .before .before .pre .1 .0, (c .before .before .before .before .before .before .before .before .before .before .before .pre .1 .1 .0, omega arith)))
+read-names-after-name-requires t c κs =
+    let place = c .before .before .before .before in
+    let look = place .before .before in
+    let start = look .before .before .before .before .before in
+    (omega arith, (start .pre .1 .0, (start .pre .1 .1 .0, omega arith)))
 
 read-names-returns-3 : (t : ℕ) → read-names-lts.Need-returns-3 (read-names-calls t) (read-names-at t) read-names.Post
-read-names-returns-3 t c = c .after-name .ensures ∙ rw (c .before .with .ensures) (list-next _ _ _ _ _ _ (c .before .before .before .before .before .before .before .before .before .before .before .before .pre .1 .1 .1) (c .before .before .before .before .before .before .before .before .before .mark-from .ensures .0) (c .before .before .before .before .before .before .before .before .before .mark-from .ensures .1 .1) _ (sym (c .before .before .before .before .before .before .before .find .ensures) ∙ c .before .before .before .before .before .found .given .1) (sym (c .before .before .before .has .ensures) ∙ c .before .before .if1 .left))
+read-names-returns-3 t c =
+    let test = c .before .before in
+    let place = test .before .before .before in
+    let look = place .before .before in
+    let end = look .before .before in
+    let start = end .before .before .before in
+    c .after-name .ensures
+    ∙ rw (c .before .with .ensures)
+    (list-next _ _ _ _ _ _ (start .pre .1 .1 .1) (end .mark-from .ensures .0) (end .mark-from .ensures .1 .1) _
+    (sym (look .find .ensures) ∙ place .found .given .1) (sym (test .before .has .ensures) ∙ test .if1 .left))
 
 pub +after-name+read-names-spec : {M : Type 1} → statement M
 +after-name+read-names-spec = close μ-after-name μ-read-names (λ t. after-name-lts.spec (after-name-calls t)

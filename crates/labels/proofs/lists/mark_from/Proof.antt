@@ -29,7 +29,8 @@ loop-less : tie.Need-loop-less Inv-loop μ-loop
 loop-less c = omega arith
 
 loop-again : tie.Need-loop-again Inv-loop μ-loop
-loop-again c = (omega arith, (omega arith, until-step _ _ _ _ (c .before .before .loop-test .taken) (c .before .before .before .loop .inv .1 .1) (c .if1 .left)))
+loop-again c =
+    (omega arith, (omega arith, until-step _ _ _ _ (c .before .before .loop-test .taken) (c .before .before .before .loop .inv .1 .1) (c .if1 .left)))
 
 returns-2 : tie.Need-returns-2 Inv-loop μ-loop
 returns-2 c = (until-done _ _ _ _ (c .loop-test .left) (c .before .loop .inv .1 .1), (omega arith, omega arith))

@@ -10,8 +10,14 @@ none-requires c κs = search needs
 read-names-requires : tie.Need-read-names-requires
 read-names-requires c κs = search needs
 
+list-read-requires : tie.Need-list-read-requires
+list-read-requires c κs = search needs
+
 returns : tie.Need-returns
-returns c = c .read-names .ensures ∙ rw (c .before .none .ensures) (list-begun _ _ _ _ (c .before .before .if1 .taken))
+returns c =
+    let names = c .before in
+    c .list-read .ensures ∙ names .read-names .ensures
+    ∙ rw (names .before .none .ensures) (list-begun _ _ _ _ (names .before .before .if1 .taken))
 
 none-requires-2 : tie.Need-none-requires-2
 none-requires-2 c κs = search needs
@@ -21,4 +27,4 @@ returns-2 c = rw (c .none2 .ensures) (list-empty _ _ _ _ (c .before .if1 .left))
 
 pub read-list-spec : {M : Type 1} → statement M
 read-list-spec =
-    tie.close (tie.spec none-requires read-names-requires returns none-requires-2 returns-2)
+    tie.close (tie.spec none-requires read-names-requires list-read-requires returns none-requires-2 returns-2)

@@ -29,16 +29,25 @@ enum-told : tie.Need-enum-told
 enum-told c = search needs
 
 returns : tie.Need-returns
-returns c = level-unknown _ _ _ (c .before .before .before .before .mark-from .ensures .0) (c .before .before .before .before .mark-from .ensures .1 .1) (sym (c .before .before .find .ensures) ∙ c .enum-told .given .1)
+returns c =
+    let look = c .before .before in
+    let ends = look .before .before .mark-from .ensures in
+    level-unknown _ _ _ (ends .0) (ends .1 .1) (sym (look .find .ensures) ∙ c .enum-told .given .1)
 
 cast-read-sets : tie.Need-cast-read-sets
-cast-read-sets c = omega (arith, found-below _ _ _ _ (sym (c .before .before .before .find .ensures) ∙ c .before .found .given .1), class-limit _ 1 (c .before .before .before .before .before .before .before .before .pre))
+cast-read-sets c =
+    let look = c .before .before .before in
+    let start = look .before .before .before .before .before in
+    omega (arith, found-below _ _ _ _ (sym (look .find .ensures) ∙ c .before .found .given .1), class-limit _ 1 (start .pre))
 
 read-sets-requires : tie.Need-read-sets-requires
 read-sets-requires c κs = search needs
 
 returns-2 : tie.Need-returns-2
-returns-2 c = c .read-sets .ensures ∙ level-found _ _ _ (c .before .before .before .before .before .before .mark-from .ensures .0) (c .before .before .before .before .before .before .mark-from .ensures .1 .1) _ (sym (c .before .before .before .before .find .ensures) ∙ c .before .before .found .given .1)
+returns-2 c =
+    let look = c .before .before .before .before in
+    let ends = look .before .before .mark-from .ensures in
+    c .read-sets .ensures ∙ level-found _ _ _ (ends .0) (ends .1 .1) _ (sym (look .find .ensures) ∙ c .before .before .found .given .1)
 
 pub read-parts-spec : {M : Type 1} → statement M
 read-parts-spec =

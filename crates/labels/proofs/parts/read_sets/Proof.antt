@@ -8,7 +8,9 @@ none-requires : tie.Need-none-requires
 none-requires c κs = search needs
 
 returns : tie.Need-returns
-returns c = rw (c .none .ensures) (sets-none (c .before .before .before .before .args .image .now) (c .before .before .before .before .args .text .now) _ _ (c .before .if1 .taken))
+returns c =
+    let args = c .before .before .before .before .args in
+    rw (c .none .ensures) (sets-none (args .image .now) (args .text .now) _ _ (c .before .if1 .taken))
 
 add-at : tie.Need-add-at
 add-at c = search needs
@@ -40,20 +42,23 @@ read-groups-requires c κs = search needs
 enum-known-names-2 : tie.Need-enum-known-names-2
 enum-known-names-2 c = search needs
 
-enum-known-names-3 : tie.Need-enum-known-names-3
-enum-known-names-3 c = search needs
-
 returns-2 : tie.Need-returns-2
 returns-2 c =
+    let read = c .before .before .before in
+    let list = read .before .before in
+    let stop = list .before .before in
+    let ends = stop .mark-from .ensures in
+    let start = stop .before .before .before .before in
     c .read-groups .ensures
     ∙ rw (c .before .word .ensures)
-    (sets-read _ _ _ _ _ (c .before .before .before .before .before .before .before .before .if1 .left) (c .before .before .before .before .before .before .before .mark-from .ensures .0) (c .before .before .before .before .before .before .before .mark-from .ensures .1 .1) (c .before .before .before .before .before .before .before .before .before .before .before .pre .0) _ _ (c .before .before .before .names .given .1) (c .before .before .before .before .before .read-list .ensures))
+    (sets-read _ _ _ _ _ (stop .before .if1 .left) (ends .0) (ends .1 .1) (start .pre .0) _ _ (read .names .given .1) (list .read-list .ensures))
 
 returns-3 : tie.Need-returns-3
-returns-3 c = sets-told _ _ _ _ _ (c .before .before .before .before .before .before .if1 .left) (c .before .before .before .before .before .mark-from .ensures .0) (c .before .before .before .before .before .mark-from .ensures .1 .1) _ _ (c .before .names2 .given .1) (c .before .before .before .read-list .ensures)
-
-returns-4 : tie.Need-returns-4
-returns-4 c = sets-told _ _ _ _ _ (c .before .before .before .before .before .before .if1 .left) (c .before .before .before .before .before .mark-from .ensures .0) (c .before .before .before .before .before .mark-from .ensures .1 .1) _ _ (c .before .names3 .given .1) (c .before .before .before .read-list .ensures)
+returns-3 c =
+    let list = c .before .before .before in
+    let stop = list .before .before in
+    let ends = stop .mark-from .ensures in
+    sets-told _ _ _ _ _ (stop .before .if1 .left) (ends .0) (ends .1 .1) _ _ (c .before .names2 .given .1) (list .read-list .ensures)
 
 pub read-sets-spec : {M : Type 1} → statement M
 read-sets-spec =
@@ -71,7 +76,5 @@ read-sets-spec =
     word-requires
     read-groups-requires
     enum-known-names-2
-    enum-known-names-3
     returns-2
-    returns-3
-    returns-4)
+    returns-3)

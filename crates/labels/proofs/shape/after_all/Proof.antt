@@ -5,7 +5,7 @@ use borrow.Author.Needs.{needs}
 use lib.ListN.{length, drop}
 use Rattle.fields.proofs.Scan.{bad-from}
 use Rattle.labels.specs.declared.shape.State.the-variants.{Start}
-use Rattle.labels.specs.States.{nameByteAt, afterAll}
+use Rattle.labels.specs.States.{textByteAt, afterAll}
 use Rattle.labels.proofs.Reading.{after-step, after-done}
 use Rattle.labels.proofs.Runs.{name-step, run-step}
 use Rattle.labels.proofs.shape.after_all.Statement.{statement}
@@ -23,8 +23,8 @@ loop-holds c = refl
 shared-slice-read-x : tie.Need-shared-slice-read-x Inv-loop μ-loop
 shared-slice-read-x c = omega arith
 
-name-byte-requires : tie.Need-name-byte-requires Inv-loop μ-loop
-name-byte-requires c κs = search needs
+text-byte-requires : tie.Need-text-byte-requires Inv-loop μ-loop
+text-byte-requires c κs = search needs
 
 after-name-byte-requires : tie.Need-after-name-byte-requires Inv-loop μ-loop
 after-name-byte-requires c κs = search needs
@@ -37,15 +37,18 @@ name-end-requires c κs = omega arith
 
 loop-less : tie.Need-loop-less Inv-loop μ-loop
 loop-less c =
-    let text = c .before .before .before .before .before .before .before .before .args .text .now in
-    let i = c .before .before .before .before .before .before .loop .i in
-    omega (arith, bad-from (nameByteAt text) (length text - (i + 1)) (i + 1))
+    let turn = c .before .before .before .before .before in
+    let text = turn .before .before .before .args .text .now in
+    let i = turn .before .loop .i in
+    omega (arith, bad-from (textByteAt text) (length text - (i + 1)) (i + 1))
 
 loop-again : tie.Need-loop-again Inv-loop μ-loop
 loop-again c =
-    let text = c .before .before .before .before .before .before .before .before .args .text .now in
-    let l = c .before .before .before .before .before .before .loop in
-    let first = name-step text (l .state) _ (l .i) (c .before .before .before .before .before .loop-test .taken) (sym (c .before .before .before .name-byte .ensures) ∙ c .before .before .if1 .taken) (l .inv) in
+    let turn = c .before .before .before .before .before in
+    let text = turn .before .before .before .args .text .now in
+    let l = turn .before .loop in
+    let named = sym (c .before .before .before .text-byte .ensures) ∙ c .before .before .if1 .taken in
+    let first = name-step text (l .state) _ (l .i) (turn .loop-test .taken) named (l .inv) in
     let inside : l .i + 1 ≤ length text = omega arith in
     rw (c .before .after-name-byte .ensures) (run-step text (l .state) _ (l .i + 1) _ inside (c .name-end .ensures) first)
 
@@ -59,7 +62,9 @@ loop-less-2 : tie.Need-loop-less-2 Inv-loop μ-loop
 loop-less-2 c = omega arith
 
 loop-again-2 : tie.Need-loop-again-2 Inv-loop μ-loop
-loop-again-2 c = rw (c .after-byte .ensures) (after-step _ _ _ _ (c .before .before .before .before .loop-test .taken) (c .before .before .before .before .before .loop .inv))
+loop-again-2 c =
+    let turn = c .before .before .before .before in
+    rw (c .after-byte .ensures) (after-step _ _ _ _ (turn .loop-test .taken) (turn .before .loop .inv))
 
 returns : tie.Need-returns Inv-loop μ-loop
 returns c = after-done _ _ _ _ (c .loop-test .left) (c .before .loop .inv)
@@ -72,7 +77,7 @@ after-all-spec =
     μ-loop
     loop-holds
     shared-slice-read-x
-    name-byte-requires
+    text-byte-requires
     after-name-byte-requires
     add-name-end
     name-end-requires

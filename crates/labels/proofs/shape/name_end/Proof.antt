@@ -6,12 +6,12 @@ use borrow.Author.Tests.{not-true, not-false}
 use lib.ListN.{length}
 use Rattle.fields.specs.Scan.{firstBad}
 use Rattle.fields.proofs.Scan.{loop-bad, loop-good, loop-end}
-use Rattle.labels.specs.States.{nameByteAt}
+use Rattle.labels.specs.States.{textByteAt}
 use Rattle.labels.proofs.shape.name_end.Statement.{statement}
 use Rattle.labels.proofs.shape.name_end.Tie as tie
 
 abbrev Inv-loop : tie.InvT-loop
-Inv-loop text at i₀ i = (i ≤ length text) × (firstBad (nameByteAt text) (length text - i) i ≡ firstBad (nameByteAt text) (length text - at) at)
+Inv-loop text at i₀ i = (i ≤ length text) × (firstBad (textByteAt text) (length text - i) i ≡ firstBad (textByteAt text) (length text - at) at)
 
 abbrev μ-loop : tie.MeasureT-loop
 μ-loop text at i₀ i = length text - i
@@ -19,14 +19,16 @@ abbrev μ-loop : tie.MeasureT-loop
 loop-holds : tie.Need-loop-holds Inv-loop μ-loop
 loop-holds c = (omega arith, refl)
 
-shared-slice-read-name-byte : tie.Need-shared-slice-read-name-byte Inv-loop μ-loop
-shared-slice-read-name-byte c = omega arith
+shared-slice-read-text-byte : tie.Need-shared-slice-read-text-byte Inv-loop μ-loop
+shared-slice-read-text-byte c = omega arith
 
-name-byte-requires : tie.Need-name-byte-requires Inv-loop μ-loop
-name-byte-requires c κs = search needs
+text-byte-requires : tie.Need-text-byte-requires Inv-loop μ-loop
+text-byte-requires c κs = search needs
 
 returns : tie.Need-returns Inv-loop μ-loop
-returns c = loop-bad _ _ _ _ (c .before .before .before .loop-test .taken) (c .before .before .before .before .loop .inv .1) (sym (c .before .name-byte .ensures) ∙ not-true _ (c .if1 .taken))
+returns c =
+    let turn = c .before .before .before in
+    loop-bad _ _ _ _ (turn .loop-test .taken) (turn .before .loop .inv .1) (sym (c .before .text-byte .ensures) ∙ not-true _ (c .if1 .taken))
 
 add-i : tie.Need-add-i Inv-loop μ-loop
 add-i c = omega arith
@@ -35,7 +37,9 @@ loop-less : tie.Need-loop-less Inv-loop μ-loop
 loop-less c = omega arith
 
 loop-again : tie.Need-loop-again Inv-loop μ-loop
-loop-again c = (omega arith, loop-good _ _ _ _ (c .before .before .before .loop-test .taken) (c .before .before .before .before .loop .inv .1) (sym (c .before .name-byte .ensures) ∙ not-false _ (c .if1 .left)))
+loop-again c =
+    let turn = c .before .before .before in
+    (omega arith, loop-good _ _ _ _ (turn .loop-test .taken) (turn .before .loop .inv .1) (sym (c .before .text-byte .ensures) ∙ not-false _ (c .if1 .left)))
 
 returns-2 : tie.Need-returns-2 Inv-loop μ-loop
 returns-2 c = loop-end _ _ _ _ (c .loop-test .left) (c .before .loop .inv .1)
@@ -47,8 +51,8 @@ name-end-spec =
     Inv-loop
     μ-loop
     loop-holds
-    shared-slice-read-name-byte
-    name-byte-requires
+    shared-slice-read-text-byte
+    text-byte-requires
     returns
     add-i
     loop-less
