@@ -43,7 +43,7 @@ countsOf im = record { levels = levels im; compartments = compartments im; group
 
 -- ---- classes: 1 level, 2 compartment, 3 group. Levels come first, then compartments, then groups
 -- how many components a class has
-unfoldable pub classCount : Counts → ℕ → ℕ
+abbrev pub classCount : Counts → ℕ → ℕ
 classCount n class = cond (eqb class 1) (n .levels) (cond (eqb class 2) (n .compartments) (n .groups))
 
 -- the place of the first component of a class, among all components

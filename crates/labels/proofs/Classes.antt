@@ -8,9 +8,9 @@ use native.Mathlib.Omega.{arith}
 use borrow.Author.Tests.{lt-ltb, eq-eqb, eqb-false}
 use lib.Dec.{eqb}
 use Rattle.fields.specs.Scan.{firstBad}
-use Rattle.fields.proofs.Scan.{bad-shift, bad-same}
-use Rattle.header.specs.Layout.{levels, compartments, groups, components}
-use Rattle.records.specs.Rules.{otherName}
+use Rattle.fields.proofs.Scan.{bad-shift}
+use Rattle.header.specs.Layout.{levels, compartments, groups, components, countsOf, classFirst}
+use Rattle.records.specs.Rules.{otherName, othersNamed}
 use Rattle.header.specs.Limits.{Counted}
 use Rattle.image.specs.Lookup.{hasComponent, componentIndex}
 use Rattle.labels.specs.Parse.{matches, classCount, placeOfName}
@@ -39,35 +39,22 @@ class-limit im class k = at (eqb class 1) (eqb class 2)
 
 -- ---- a class's components follow one another
 module _ (im : List ℕ) (class : ℕ) where
-  index-from : (p : ℕ) → componentIndex im class 0 + p ≡ componentIndex im class p
-  unfolding componentIndex
-  index-from p = at (eqb class 1) (eqb class 2)
-    where
-      at : (s t : Bool)
-          → cond s 0 (cond t (levels im + 0) (levels im + compartments im + 0)) + p
-          ≡ cond s p (cond t (levels im + p) (levels im + compartments im + p))
-      at true t = omega arith
-      at false true = omega arith
-      at false false = omega arith
-
-  pub class-inside : componentIndex im class 0 + classCount im class ≤ components im
-  unfolding componentIndex components
+  pub class-inside : classFirst (countsOf im) class + classCount im class ≤ components im
+  unfolding classFirst components
   class-inside = at (eqb class 1) (eqb class 2)
     where
       at : (s t : Bool)
-          → cond s 0 (cond t (levels im + 0) (levels im + compartments im + 0)) + cond s (levels im) (cond t (compartments im) (groups im))
+          → cond s 0 (cond t (levels im) (levels im + compartments im)) + cond s (levels im) (cond t (compartments im) (groups im))
           ≤ levels im + compartments im + groups im
       at true t = omega arith
       at false true = omega arith
       at false false = omega arith
 
   -- so the first of them that has the name, among all components, stands at its place in the class from their first on
-  pub place-found : (name : List ℕ) (s n r : ℕ) → s ≡ componentIndex im class 0 → n ≡ classCount im class
-      → r ≡ firstBad (otherName im name) (s + n - s) s → r ≡ s + placeOfName im class name
-  unfolding placeOfName matches otherName
+  pub place-found : (name : List ℕ) (s n r : ℕ) → s ≡ classFirst (countsOf im) class → n ≡ classCount im class
+      → r ≡ firstBad (othersNamed im name) (s + n - s) s → r ≡ s + placeOfName im class name
+  unfolding placeOfName matches otherName componentIndex
   place-found name s n r e d f =
       f ∙ rw (add-sub-cancel-left, d, e)
-      (ap (firstBad (otherName im name) (classCount im class)) (sym (add-zero _))
-      ∙ bad-shift (otherName im name) (componentIndex im class 0) (classCount im class) 0
-      ∙ ap (λ (w : ℕ). componentIndex im class 0 + w)
-      (bad-same _ _ (λ p. ap (otherName im name) (index-from p)) (classCount im class) 0))
+      (ap (firstBad (othersNamed im name) (classCount im class)) (sym (add-zero _))
+      ∙ bad-shift (othersNamed im name) (classFirst (countsOf im) class) (classCount im class) 0)

@@ -8,7 +8,8 @@ use lib.Dec.{ltb}
 use lib.ListN.{length}
 use Rattle.sets.specs.Sets.{has, none, one, union}
 use Rattle.fields.proofs.Both.{parts}
-use Rattle.sets.proofs.Bounds.{none-below, one-below, union-below, within-below, below-within, has-below}
+use Rattle.sets.proofs.Bounds.{none-below, one-below, union-below, within-below, below-within}
+use Rattle.records.proofs.MeaningLabels.{exist-holds}
 use Rattle.header.specs.Layout.{levels, compartments, groups, labels, labelRecord}
 use Rattle.records.specs.Fields.{labelCompartments, labelGroups}
 use Rattle.image.specs.Check.{IsAccepted}
@@ -48,12 +49,12 @@ means-exists im m x =
 pub record-exists : (im : List ℕ) → IsAccepted im → (k : ℕ) → k < labels im → labelExists im (labelAt im k) ≡ true
 unfolding labelAt
 record-exists im acc k h =
-    let kept = label-kept im acc k h .kept in
+    let kept = label-kept im acc k h in
     means-exists im (labelAt im k)
     (record {
       level = kept .levelExists;
-      compartments = has-below (labelCompartments (labelRecord im k)) (compartments im) (kept .compartmentsExist);
-      groups = has-below (labelGroups (labelRecord im k)) (groups im) (kept .groupsExist);
+      compartments = within-below _ (compartments im) (exist-holds (labelCompartments (labelRecord im k)) (compartments im) (kept .compartmentsExist));
+      groups = within-below _ (groups im) (exist-holds (labelGroups (labelRecord im k)) (groups im) (kept .groupsExist));
     })
 
 -- ---- a list

@@ -10,7 +10,8 @@ use Rattle.sets.specs.Sets.{has, none, one, union}
 use Rattle.refusals.specs.declared.Refusal.{Refusal}
 use Rattle.refusals.specs.declared.Refusal.the-variants.{TextShape, UnknownName, RepeatedName}
 use Rattle.refusals.specs.Answers.{onChecked}
-use Rattle.header.specs.Layout.{levels, compartments, groups, componentRecord}
+use Rattle.header.specs.Layout as layout
+use Rattle.header.specs.Layout.{levels, compartments, groups, componentRecord, countsOf}
 use Rattle.header.specs.Limits.{limitsOf}
 use Rattle.records.specs.Fields.{componentName}
 use Rattle.image.specs.Check.{checkOf}
@@ -31,7 +32,7 @@ matches component name = sameName component name
 
 -- how many components a class has
 abbrev pub classCount : List ℕ → ℕ → ℕ
-classCount im class = cond (eqb class 1) (levels im) (cond (eqb class 2) (compartments im) (groups im))
+classCount im class = layout.classCount (countsOf im) class
 
 -- the place in its class, 1 level, 2 compartment, 3 group, of the component that a name matches; the class's count where none does
 unfoldable pub placeOfName : List ℕ → ℕ → List ℕ → ℕ

@@ -46,11 +46,11 @@ module _ (im : List ℕ) (acc : IsAccepted im) (u k : ℕ) (here : u < users im)
   name-short =
       let field = userNameField (userRecord im u) in
       let n = byteAt field 0 in
-      let l : n ≤ 30 = user-kept im acc u here .kept .named .longest in
+      let l : n ≤ 30 = user-kept im acc u here .named .longest in
       le-trans (le-of-eq (length-take n (drop 1 field))) (le-trans (min-le-left n (length (drop 1 field))) l)
 
   pub tag-short : length (decimal (tagOf (labelRecord im k))) ≤ 8
-  tag-short = decimal-short tag 8 (lit≤ tt) (let l = label-kept im acc k there .kept .tagLimit in omega arith)
+  tag-short = decimal-short tag 8 (lit≤ tt) (let l = label-kept im acc k there .tagLimit in omega arith)
 
   pub line-short : length (lineAt im u k) ≤ 43
   unfolding lineAt

@@ -35,7 +35,7 @@ module _ (im : List ℕ) (acc : IsAccepted im) (u : ℕ) (here : u < users im) w
   default-inside : Inside (rightsAt im u (defaultLabel (userRecord im u))) (defaultRowLabel (userRecord im u))
   unfolding rightsAt defaultLabel defaultRowLabel writeCompartmentsOf writeGroupsOf
   default-inside =
-      let k = user-kept im acc u here .kept in
+      let k = user-kept im acc u here in
       let b = user-below im acc u here in
       let r = userRecord im u in
       record {
@@ -50,7 +50,7 @@ module _ (im : List ℕ) (acc : IsAccepted im) (u : ℕ) (here : u < users im) w
   pub default-passes : sessionRule im u (defaultLabel (userRecord im u)) (defaultRowLabel (userRecord im u)) ≡ true
   unfolding defaultRowLabel
   default-passes =
-      let k = user-kept im acc u here .kept in
+      let k = user-kept im acc u here in
       let b = user-below im acc u here in
       let r = userRecord im u in
       means-session im u (defaultLabel r) (defaultRowLabel r)

@@ -1,6 +1,5 @@
 use borrow.Author.Needs.{needs}
 use borrow.Author.Tests.{eq-eqb, ne-eqb}
-use Rattle.header.specs.Layout.{classCount}
 use Rattle.header.proofs.layout.class_count.Statement.{statement}
 use Rattle.header.proofs.layout.class_count.Tie as tie
 
@@ -8,21 +7,18 @@ levels-requires : tie.Need-levels-requires
 levels-requires c κs = search needs
 
 returns : tie.Need-returns
-unfolding classCount
 returns c = (rw (eq-eqb _ _ (c .before .if1 .taken)) (c .levels .ensures .0), c .levels .ensures .1)
 
 compartments-requires : tie.Need-compartments-requires
 compartments-requires c κs = search needs
 
 returns-2 : tie.Need-returns-2
-unfolding classCount
 returns-2 c = (rw (ne-eqb _ _ (c .before .before .if1 .left), eq-eqb _ _ (c .before .if2 .taken)) (c .compartments .ensures .0), c .compartments .ensures .1)
 
 groups-requires : tie.Need-groups-requires
 groups-requires c κs = search needs
 
 returns-3 : tie.Need-returns-3
-unfolding classCount
 returns-3 c = (rw (ne-eqb _ _ (c .before .before .if1 .left), ne-eqb _ _ (c .before .if2 .left)) (c .groups .ensures .0), c .groups .ensures .1)
 
 pub class-count-spec : {M : Type 1} → statement M

@@ -1,6 +1,7 @@
 use borrow.Author.Tests.{lt-ltb, le-ltb}
 use Rattle.labels.specs.Lists.{foundOf}
 use borrow.Author.Needs.{needs}
+use Rattle.header.proofs.Inside.{header-inside}
 use Rattle.labels.proofs.names.find.Statement.{statement}
 use Rattle.labels.proofs.names.find.Tie as tie
 
@@ -8,7 +9,7 @@ place-of-name-requires : tie.Need-place-of-name-requires
 place-of-name-requires c κs = search needs
 
 class-count-requires : tie.Need-class-count-requires
-class-count-requires c κs = search needs
+class-count-requires c κs = header-inside _ (c .before .before .before .pre .0 .fitted)
 
 returns : tie.Need-returns
 unfolding foundOf

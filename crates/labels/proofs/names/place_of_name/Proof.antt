@@ -1,24 +1,23 @@
 use native.Mathlib.Omega.{arith}
 use borrow.Author.Needs.{needs}
-use Rattle.header.specs.Layout.{components}
-use Rattle.labels.proofs.Classes.{place-found}
+use Rattle.header.proofs.Inside.{header-inside}
+use Rattle.labels.proofs.Classes.{class-inside, place-found}
 use Rattle.labels.proofs.names.place_of_name.Statement.{statement}
 use Rattle.labels.proofs.names.place_of_name.Tie as tie
 
 class-count-requires : tie.Need-class-count-requires
-class-count-requires c κs = search needs
+class-count-requires c κs = header-inside _ (c .before .before .pre .0 .fitted)
 
 class-first-requires : tie.Need-class-first-requires
-class-first-requires c κs = search needs
+class-first-requires c κs = header-inside _ (c .before .before .before .pre .0 .fitted)
 
 add-first-named : tie.Need-add-first-named
-unfolding components
-add-first-named c =
-    let p = c .before .before .before .before .pre .0 in
-    omega (arith, p .levelsLimit, p .compartmentsLimit, p .groupsLimit)
+add-first-named c = omega arith
 
 first-named-requires : tie.Need-first-named-requires
-first-named-requires c κs = search needs
+first-named-requires c κs =
+    let a = c .before .before .before .before .args in
+    (c .before .before .before .before .pre .0 .fitted, (omega (arith, class-inside (a .image .now) (a .class)), omega arith))
 
 sub-result : tie.Need-sub-result
 sub-result c =
