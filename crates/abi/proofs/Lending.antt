@@ -26,17 +26,17 @@ use Rattle.printing.specs.declared.printing.Printed.{Printed}
 use Rattle.printing.specs.declared.printing.Printed.the-variants as printed
 use Rattle.printing.specs.Print.{textOf, acceptedAnswer, unlessRefused, printOf}
 use Rattle.abi.specs.Answers.{afterCheck}
-use Rattle.encoding.specs.Labels.{high, labelIn}
-use Rattle.encoding.proofs.Wide.{above-large}
+use Rattle.encoding.specs.Labels.{highGroups, labelIn}
+use Rattle.encoding.proofs.Wide.{word-then-large}
 use Rattle.abi.specs.Labels.{printCode, printAnswer}
 
 -- a label that names a group past the 64th is not one of an accepted image
-wide-lacks : (im bytes : List ℕ) → checkOf im ≡ Accepted → (high bytes ≡ 0 → ⊥) → labelExists im (labelIn bytes) ≡ false
+wide-lacks : (im bytes : List ℕ) → checkOf im ≡ Accepted → (highGroups bytes ≡ 0 → ⊥) → labelExists im (labelIn bytes) ≡ false
 unfolding labelExists
 wide-lacks im bytes acc wide = rw none (and-false (ltb (labelIn bytes .level) (levels im) && within (labelIn bytes .compartments) (allBelow (compartments im))))
   where
     large : 2 ^ 64 ≤ labelIn bytes .groups
-    large = unfold labelIn in above-large (number8 bytes 16) (high bytes) wide
+    large = unfold labelIn in word-then-large (number8 bytes 16) (highGroups bytes) wide
 
     small : within (labelIn bytes .groups) (allBelow (groups im)) ≡ true → labelIn bytes .groups < 2 ^ 64
     small e =
@@ -51,12 +51,12 @@ wide-lacks im bytes acc wide = rw none (and-false (ltb (labelIn bytes .level) (l
     none : within (labelIn bytes .groups) (allBelow (groups im)) ≡ false
     none = go (within (labelIn bytes .groups) (allBelow (groups im))) refl
 
-wide-answer : (im bytes buffer : List ℕ) → checkOf im ≡ Accepted → (high bytes ≡ 0 → ⊥)
+wide-answer : (im bytes buffer : List ℕ) → checkOf im ≡ Accepted → (highGroups bytes ≡ 0 → ⊥)
     → acceptedAnswer im (labelIn bytes) buffer ≡ (printed.Refused NoComponent, buffer)
 unfolding acceptedAnswer
 wide-answer im bytes buffer acc wide = rw (wide-lacks im bytes acc wide)
 
-pub wide-print : (im bytes buffer : List ℕ) → (high bytes ≡ 0 → ⊥)
+pub wide-print : (im bytes buffer : List ℕ) → (highGroups bytes ≡ 0 → ⊥)
     → _≡_ {A = ℕ × List ℕ} (printAnswer im bytes buffer) (afterCheck im NoComponent, buffer)
 unfolding printOf
 wide-print im bytes buffer wide = at (checkOf im) refl

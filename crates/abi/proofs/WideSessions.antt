@@ -27,10 +27,10 @@ use Rattle.sessions.specs.Session.{SessionMarks, lentAnswer}
 use Rattle.sessions.specs.Changes.{afterLent}
 use Rattle.refusals.specs.declared.answers.Verdict.{Verdict}
 use Rattle.refusals.specs.declared.answers.Verdict.the-variants as verdict
-use Rattle.encoding.specs.Labels.{labelIn, high}
+use Rattle.encoding.specs.Labels.{labelIn, highGroups}
 use Rattle.encoding.specs.Sessions.{sessionIn, oneUser, sessionFits, changedInto}
 use Rattle.encoding.specs.Verdicts.{verdictCode}
-use Rattle.encoding.proofs.Wide.{above-large}
+use Rattle.encoding.proofs.Wide.{word-then-large}
 use Rattle.abi.specs.Answers.{afterCheck}
 use Rattle.abi.specs.Sessions.{changeAnswer}
 
@@ -53,9 +53,9 @@ module _ (im : List ℕ) (acc : IsAccepted im) (s : SessionMarks) (e : sessionRu
       let limit = intersection-below (below im (s .label .groups)) (below im (writeGroups (userRecord im (s .user)))) (groups im) (below-limit im (s .label .groups)) in
       few _ (part-below (s .row .groups) (rightsAt im (s .user) (s .label) .writeGroups) (groups im) (k .rowLabel .inside .groups) limit)
 
-wide-groups : (bytes : List ℕ) → eqb (high bytes) 0 ≡ false → 2 ^ 64 ≤ labelIn bytes .groups
+wide-groups : (bytes : List ℕ) → eqb (highGroups bytes) 0 ≡ false → 2 ^ 64 ≤ labelIn bytes .groups
 unfolding labelIn
-wide-groups bytes e = above-large (number8 bytes 16) (high bytes) (eqb-false (high bytes) 0 e)
+wide-groups bytes e = word-then-large (number8 bytes 16) (highGroups bytes) (eqb-false (highGroups bytes) 0 e)
 
 -- ---- so one that does not fit breaks them
 module _ (im bytes : List ℕ) where
@@ -64,7 +64,7 @@ module _ (im bytes : List ℕ) where
   unfolding sessionFits
   unfit-rule acc one unfit = at (sessionRule im (sessionIn bytes .user) (sessionIn bytes .label) (sessionIn bytes .row)) refl
     where
-      wide : (l r : Bool) → eqb (high (part bytes 8 48)) 0 ≡ l → eqb (high (part bytes 56 48)) 0 ≡ r → (true && l && r) ≡ false
+      wide : (l r : Bool) → eqb (highGroups (part bytes 8 48)) 0 ≡ l → eqb (highGroups (part bytes 56 48)) 0 ≡ r → (true && l && r) ≡ false
           → sessionRule im (sessionIn bytes .user) (sessionIn bytes .label) (sessionIn bytes .row) ≡ true → ⊥
       wide true true a b n e = absurd (true≢false n)
       wide false r a b n e =
@@ -77,7 +77,7 @@ module _ (im bytes : List ℕ) where
           unfold sessionIn in omega (arith, small, large)
 
       at : (t : Bool) → sessionRule im (sessionIn bytes .user) (sessionIn bytes .label) (sessionIn bytes .row) ≡ t → t ≡ false
-      at true e = absurd (wide _ _ refl refl (sym (ap (λ (t : Bool). t && eqb (high (part bytes 8 48)) 0 && eqb (high (part bytes 56 48)) 0) one) ∙ unfit) e)
+      at true e = absurd (wide _ _ refl refl (sym (ap (λ (t : Bool). t && eqb (highGroups (part bytes 8 48)) 0 && eqb (highGroups (part bytes 56 48)) 0) one) ∙ unfit) e)
       at false e = refl
 
   pub unfit-lent : oneUser bytes ≡ true → sessionFits bytes ≡ false → lentAnswer im (sessionIn bytes) ≡ onChecked (checkOf im) Refused (Refused SessionRules)

@@ -81,7 +81,7 @@ pub extern "C" fn brawnesk_parse(image: &[u8], text: &[u8], label: &mut [u8; 48]
 pub extern "C" fn brawnesk_print(image: &[u8], label: &[u8; 48], text: &mut [u8]) -> u64
     ensures { λ r. ⌜ (r, now (text .exit)) ≡ printAnswer (now (image .entry)) (now (label .entry)) (now (text .entry)) ⌝ }
 {
-    if !bytes48::few_groups(label) {
+    if !bytes48::only_low_groups(label) {
         return after_check(image, Refusal::NoComponent);
     }
     let answer = printing::print(image, bytes48::label_in(label), text);

@@ -1,6 +1,6 @@
 -- A session in 104 bytes: byte 0 the user's place, byte 1 the signed-on user's place, which equals it; 2..7 are written as zero and
 -- not looked at; 8..55 session label; 56..103 row label.
-use Prim.Native.Nat.{ℕ}
+use Prim.Native.Nat.{ℕ, _^_, _<_}
 use mathlib.Core.Bool.{Bool, _&&_}
 use mathlib.Core.List.{List, _∷_, _++_}
 use lib.Dec.{eqb}
@@ -9,10 +9,16 @@ use Rattle.refusals.specs.Refusals.{placeOf, answerOf}
 use Rattle.refusals.specs.declared.answers.Checked.{Checked}
 use Rattle.refusals.specs.declared.answers.Checked.the-variants.{Accepted, Refused}
 use Rattle.sessions.specs.Session.{SessionMarks}
-use Rattle.encoding.specs.Labels.{labelBytes, labelIn, high}
+use Rattle.encoding.specs.Labels.{labelBytes, labelIn, highGroups, LabelFits}
 
 unfoldable pub sessionBytes : SessionMarks → List ℕ
 sessionBytes s = s .user ∷ s .user ∷ 0 ∷ 0 ∷ 0 ∷ 0 ∷ 0 ∷ 0 ∷ labelBytes (s .label) ++ labelBytes (s .row)
+
+-- each part of the session fits its bytes
+pub record SessionPartsFit (s : SessionMarks) : Type 0 where
+  pub user : s .user < 2 ^ 8
+  pub label : LabelFits (s .label)
+  pub row : LabelFits (s .row)
 
 -- the session that 104 bytes hold
 unfoldable pub sessionIn : List ℕ → SessionMarks
@@ -24,7 +30,7 @@ oneUser bytes = eqb (byteAt bytes 1) (byteAt bytes 0)
 
 -- one user, and no group past the 64th in either label: such groups no image has
 unfoldable pub sessionFits : List ℕ → Bool
-sessionFits bytes = oneUser bytes && eqb (high (part bytes 8 48)) 0 && eqb (high (part bytes 56 48)) 0
+sessionFits bytes = oneUser bytes && eqb (highGroups (part bytes 8 48)) 0 && eqb (highGroups (part bytes 56 48)) 0
 
 -- what a label change leaves: 0 and the session, or the refusal and the bytes as they were
 abbrev pub changedInto : SessionMarks → Checked → List ℕ → ℕ × List ℕ

@@ -6,16 +6,16 @@ ghost use lib.ListN.{length};
 ghost use Rattle.sessions.specs.Session.{sessionOf};
 ghost use Rattle.encoding.specs.Sessions.{sessionBytes, sessionIn, sessionFits, changedInto, answerPlace};
 use crate::answers::refused;
-use crate::bytes48::few_groups;
 use crate::bytes48::label_bytes;
 use crate::bytes48::label_in;
+use crate::bytes48::only_low_groups;
 use refusals::answers::Checked;
 use sessions::answers::Changed;
 use sessions::session::Session;
 
-// Each byte of the session; the unused ones are zero.
+// Each byte of the session; the unused ones are zero. They read back as the session.
 pub fn session_bytes(session: Session) -> [u8; 104]
-    ensures { λ r. ⌜ r ≡ sessionBytes (sessionOf session) ⌝ }
+    ensures { λ r. ⌜ (r ≡ sessionBytes (sessionOf session)) × (sessionIn r ≡ sessionOf session) ⌝ }
 {
     let mut b = [0u8; 104];
     b[0] = session.user;
@@ -32,7 +32,7 @@ pub fn session_fits(bytes: &[u8]) -> bool
     requires { ⌜ length (now bytes) ≡ 104 ⌝ }
     ensures { λ r. ⌜ r ≡ sessionFits (now (bytes .entry)) ⌝ }
 {
-    (bytes[1] == bytes[0]) & few_groups(&bytes[8..56]) & few_groups(&bytes[56..104])
+    (bytes[1] == bytes[0]) & only_low_groups(&bytes[8..56]) & only_low_groups(&bytes[56..104])
 }
 
 // The session that the bytes hold, where they name no other groups.

@@ -27,7 +27,7 @@ refused-requires : tie.Need-refused-requires
 refused-requires c κs = merge-told _ _ _ _ (sym (c .before .before .before .merge .ensures) ∙ ap mergingOf (c .before .answer2 .given .1))
 
 returns : tie.Need-returns
-returns c = rw (← c .before .before .before .before .before .before .before .low-label-in .ensures, ← c .before .before .before .before .before .low-label-in2 .ensures, ← c .before .before .before .before .merge .ensures, c .before .before .answer .given .1, c .label-bytes .ensures)
+returns c = rw (← c .before .before .before .before .before .before .before .low-label-in .ensures, ← c .before .before .before .before .before .low-label-in2 .ensures, ← c .before .before .before .before .merge .ensures, c .before .before .answer .given .1, c .label-bytes .ensures .0)
 
 returns-2 : tie.Need-returns-2
 returns-2 c = rw (← c .before .before .before .before .before .before .before .low-label-in .ensures, ← c .before .before .before .before .before .low-label-in2 .ensures, ← c .before .before .before .before .merge .ensures, c .before .before .answer2 .given .1, c .refused .ensures)

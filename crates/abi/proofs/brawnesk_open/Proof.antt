@@ -21,7 +21,7 @@ refused-requires : tie.Need-refused-requires
 refused-requires c κs = open-told _ _ _ (sym (c .before .before .before .open .ensures) ∙ ap openingOf (c .before .answer2 .given .1))
 
 returns : tie.Need-returns
-returns c = rw (← c .before .before .before .before .open .ensures, c .before .before .answer .given .1, c .session-bytes .ensures)
+returns c = rw (← c .before .before .before .before .open .ensures, c .before .before .answer .given .1, c .session-bytes .ensures .0)
 
 returns-2 : tie.Need-returns-2
 returns-2 c = rw (← c .before .before .before .before .open .ensures, c .before .before .answer2 .given .1, c .refused .ensures)

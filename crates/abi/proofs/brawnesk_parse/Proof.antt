@@ -31,7 +31,7 @@ refused-requires-2 : tie.Need-refused-requires-2
 refused-requires-2 c κs = image-told _ _ _ (sym (c .before .before .before .parse .ensures) ∙ ap readOf (c .before .answer3 .given .1))
 
 returns : tie.Need-returns
-returns c = rw (← c .before .before .before .before .parse .ensures, c .before .before .answer .given .1, c .label-bytes .ensures)
+returns c = rw (← c .before .before .before .before .parse .ensures, c .before .before .answer .given .1, c .label-bytes .ensures .0)
 
 returns-2 : tie.Need-returns-2
 returns-2 c = rw (← c .before .before .before .before .before .parse .ensures, c .before .before .before .answer2 .given .1, c .refused .ensures, c .before .refusal .ensures)

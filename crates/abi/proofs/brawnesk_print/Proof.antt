@@ -5,17 +5,17 @@ use Rattle.abi.proofs.Lending.{wide-print, print-told}
 use Rattle.abi.proofs.brawnesk_print.Statement.{statement}
 use Rattle.abi.proofs.brawnesk_print.Tie as tie
 
-few-groups-requires : tie.Need-few-groups-requires
-few-groups-requires c κs = search needs
+only-low-groups-requires : tie.Need-only-low-groups-requires
+only-low-groups-requires c κs = search needs
 
 after-check-requires : tie.Need-after-check-requires
 after-check-requires c κs = search needs
 
 returns : tie.Need-returns
-returns c = rw (c .after-check .ensures) (sym (wide-print _ _ _ (eqb-false _ _ (sym (c .before .before .few-groups .ensures) ∙ not-true _ (c .before .if1 .taken)))))
+returns c = rw (c .after-check .ensures) (sym (wide-print _ _ _ (eqb-false _ _ (sym (c .before .before .only-low-groups .ensures) ∙ not-true _ (c .before .if1 .taken)))))
 
 label-in-requires : tie.Need-label-in-requires
-label-in-requires c κs = (search needs, eqb-true _ _ (sym (c .before .before .few-groups .ensures) ∙ not-false _ (c .before .if1 .left)))
+label-in-requires c κs = (search needs, eqb-true _ _ (sym (c .before .before .only-low-groups .ensures) ∙ not-false _ (c .before .if1 .left)))
 
 print-requires : tie.Need-print-requires
 print-requires c κs = search needs
@@ -45,7 +45,7 @@ pub brawnesk-print-spec : {M : Type 1} → statement M
 brawnesk-print-spec =
     tie.close
     (tie.spec
-    few-groups-requires
+    only-low-groups-requires
     after-check-requires
     returns
     label-in-requires

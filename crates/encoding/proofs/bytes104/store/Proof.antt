@@ -19,7 +19,7 @@ refused-requires : tie.Need-refused-requires
 refused-requires c κs = subst (λ (a : Checked). answerPlace a < 2 ^ 32) (c .before .answer .given .1) (c .before .before .before .before .pre)
 
 returns : tie.Need-returns
-returns c = rw (c .before .enum-told .given .1, c .session-bytes .ensures)
+returns c = rw (c .before .enum-told .given .1, c .session-bytes .ensures .0)
 
 returns-2 : tie.Need-returns-2
 returns-2 c = rw (c .before .before .answer .given .1, c .refused .ensures)
