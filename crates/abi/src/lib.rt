@@ -1,7 +1,6 @@
 // The C functions. Each takes the bytes apart, makes the call and lays its answer down in one number.
-ghost use Prim.Native.Nat.{_^_, _<_};
 ghost use mathlib.Core.Path.{_≡_};
-ghost use Rattle.refusals.specs.Refusals.{placeOf};
+ghost use Rattle.refusals.specs.Answers.{PlaceFits, refusalGiven, answerOf};
 ghost use Rattle.abi.specs.Answers.{afterCheck, checkAnswer, nameSpan};
 ghost use Rattle.abi.specs.Labels.{parseAnswer, printAnswer};
 ghost use Rattle.abi.specs.Sessions.{openAnswer, setLabelAnswer, setRowLabelAnswer, mayReadAnswer, mayWriteAnswer};
@@ -50,8 +49,8 @@ pub extern "C" fn brawnesk_name(image: &[u8], class: u8, place: u8) -> u64
 
 // The refusal of the image, and of an accepted one that refusal.
 fn after_check(image: &[u8], refusal: Refusal) -> u64
-    requires { ⌜ placeOf refusal < 2 ^ 32 ⌝ }
-    ensures { λ r. ⌜ r ≡ afterCheck (now (image .entry)) refusal ⌝ }
+    requires { ⌜ PlaceFits (refusalGiven refusal) ⌝ }
+    ensures { λ r. ⌜ r ≡ answerOf (afterCheck (now (image .entry)) refusal) ⌝ }
 {
     let answer = image::check(image);
     match answer {

@@ -13,7 +13,7 @@ use Rattle.labels.specs.Label.{Marks}
 use Rattle.sessions.specs.Session.{SessionMarks}
 use Rattle.encoding.specs.Labels.{bytes8, labelBytes, labelIn, wordThen, highGroups, LabelFits}
 use Rattle.encoding.proofs.Wide.{word-then-none}
-use Rattle.encoding.specs.Sessions.{sessionBytes, sessionIn, oneUser, SessionPartsFit}
+use Rattle.encoding.specs.Sessions.{sessionBytes, sessionIn, oneUser, SessionPartsFit, Holds}
 
 -- ---- a word in eight bytes
 -- the low digits of x to the bases c and then m
@@ -109,6 +109,9 @@ labels-back s label row = rw (user-place s, label-place s, row-place s, label, r
 
 pub session-back : (s : SessionMarks) → SessionPartsFit s → sessionIn (sessionBytes s) ≡ s
 session-back s fits = labels-back s (label-back (s .label) (fits .label)) (label-back (s .row) (fits .row))
+
+pub bytes-hold : (s : SessionMarks) → SessionPartsFit s → Holds (sessionBytes s) s
+bytes-hold s fits = record { one = one-user s; session = session-back s fits }
 
 -- what a function that lays a session down has to show: its labels' bytes, as `label_bytes` gives them, and each byte
 pub session-kept : (bytes label row : List ℕ) (s : SessionMarks)

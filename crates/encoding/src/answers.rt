@@ -1,14 +1,13 @@
 // The numbers that tell a refusal and a verdict.
-ghost use Prim.Native.Nat.{_^_, _<_};
 ghost use mathlib.Core.Path.{_≡_};
-ghost use Rattle.refusals.specs.Refusals.{placeOf, answerOf};
-ghost use Rattle.encoding.specs.Verdicts.{verdictPlace, verdictCode};
+ghost use Rattle.refusals.specs.Answers.{PlaceFits, refusalGiven, verdictGiven, answerOf};
+ghost use Rattle.encoding.specs.Verdicts.{verdictCode};
 use refusals::Refusal;
 use refusals::answers::Verdict;
 
 // 2^63 + number × 2^32 + place.
 pub fn refused(r: Refusal) -> u64
-    requires { ⌜ placeOf r < 2 ^ 32 ⌝ }
+    requires { ⌜ PlaceFits (refusalGiven r) ⌝ }
     ensures { λ n. ⌜ n ≡ answerOf r ⌝ }
 {
     let number = refusals::number(r) as u64;
@@ -18,7 +17,7 @@ pub fn refused(r: Refusal) -> u64
 
 // 1 yes, 0 no.
 pub fn verdict_code(verdict: Verdict) -> u64
-    requires { ⌜ verdictPlace verdict < 2 ^ 32 ⌝ }
+    requires { ⌜ PlaceFits (verdictGiven verdict) ⌝ }
     ensures { λ n. ⌜ n ≡ verdictCode verdict ⌝ }
 {
     match verdict {

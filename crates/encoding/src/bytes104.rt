@@ -1,10 +1,10 @@
 // A session in 104 bytes.
-ghost use Prim.Native.Nat.{_^_, _<_};
 ghost use mathlib.Core.Path.{_≡_};
 ghost use mathlib.Core.Bool.{true};
 ghost use lib.ListN.{length};
+ghost use Rattle.refusals.specs.Answers.{PlaceFits, checkedGiven};
 ghost use Rattle.sessions.specs.Session.{sessionOf};
-ghost use Rattle.encoding.specs.Sessions.{sessionBytes, sessionIn, sessionFits, changedInto, answerPlace};
+ghost use Rattle.encoding.specs.Sessions.{sessionBytes, sessionIn, sessionFits, changedInto};
 use crate::answers::refused;
 use crate::bytes48::label_bytes;
 use crate::bytes48::label_in;
@@ -49,7 +49,7 @@ pub fn session_in(bytes: &[u8]) -> Session
 
 // Lays a changed session down; a refusal leaves the bytes as they were.
 pub fn store(session: &mut [u8; 104], change: Changed) -> u64
-    requires { ⌜ answerPlace (change .answer) < 2 ^ 32 ⌝ }
+    requires { ⌜ PlaceFits (checkedGiven (change .answer)) ⌝ }
     ensures { λ r. ⌜ (r, now (session .exit)) ≡ changedInto (sessionOf (change .session)) (change .answer) (now (session .entry)) ⌝ }
 {
     let answer = change.answer;

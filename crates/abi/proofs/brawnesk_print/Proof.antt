@@ -1,7 +1,8 @@
 use mathlib.Core.Path.{sym, ap, _∙_}
 use borrow.Author.Needs.{needs}
 use borrow.Author.Tests.{not-true, not-false, eqb-true, eqb-false}
-use Rattle.abi.proofs.Lending.{wide-print, print-told}
+use Rattle.abi.proofs.Places.{print-fits}
+use Rattle.abi.proofs.Unfit.{wide-print}
 use Rattle.abi.proofs.brawnesk_print.Statement.{statement}
 use Rattle.abi.proofs.brawnesk_print.Tie as tie
 
@@ -27,7 +28,7 @@ enum-known-answer-2 : tie.Need-enum-known-answer-2
 enum-known-answer-2 c = search needs
 
 refused-requires : tie.Need-refused-requires
-refused-requires c κs = print-told _ _ _ _ (sym (ap (λ p. p .0) (c .before .before .before .before .before .print .ensures)) ∙ c .before .answer2 .given .1)
+refused-requires c κs = print-fits _ _ _ _ (sym (ap (λ p. p .0) (c .before .before .before .before .before .print .ensures)) ∙ c .before .answer2 .given .1)
 
 same-length : tie.Need-same-length
 same-length c = search needs

@@ -2,7 +2,8 @@ use mathlib.Core.Path.{sym, ap, _∙_}
 use borrow.Author.Tests.{not-true, not-false}
 use borrow.Author.Needs.{needs}
 use Rattle.encoding.proofs.Wide.{fits-means}
-use Rattle.abi.proofs.Rows.{unfit-read, read-told}
+use Rattle.abi.proofs.RowPlaces.{read-fits}
+use Rattle.abi.proofs.Unfit.{unfit-read}
 use Rattle.abi.proofs.brawnesk_read.Statement.{statement}
 use Rattle.abi.proofs.brawnesk_read.Tie as tie
 
@@ -13,7 +14,7 @@ after-check-requires : tie.Need-after-check-requires
 after-check-requires c κs = search needs
 
 returns : tie.Need-returns
-returns c = rw (c .after-check .ensures) (sym (unfit-read _ _ _ _ (sym (c .before .before .session-fits .ensures) ∙ not-true _ (c .before .if1 .taken)) _))
+returns c = rw (c .after-check .ensures) (sym (unfit-read _ _ (sym (c .before .before .session-fits .ensures) ∙ not-true _ (c .before .if1 .taken)) _ _ _))
 
 session-in-requires : tie.Need-session-in-requires
 session-in-requires c κs = (search needs, sym (c .before .before .session-fits .ensures) ∙ not-false _ (c .before .if1 .left))
@@ -28,7 +29,7 @@ enum-known-answer-2 : tie.Need-enum-known-answer-2
 enum-known-answer-2 c = search needs
 
 refused-requires : tie.Need-refused-requires
-refused-requires c κs = read-told _ _ _ _ _ _ (sym (ap (λ p. p .0) (c .before .before .before .before .before .read .ensures)) ∙ c .before .answer2 .given .1)
+refused-requires c κs = read-fits _ _ _ _ _ _ (sym (ap (λ p. p .0) (c .before .before .before .before .before .read .ensures)) ∙ c .before .answer2 .given .1)
 
 same-length : tie.Need-same-length
 same-length c = search needs
