@@ -1,7 +1,7 @@
 -- A call on a session in bytes is the call on that session: what is handed out holds the session of the by-value call, so the next call works
 -- on it, and a refused change leaves bytes that hold the session as it was. Assumes nothing.
 use Prim.Native.Nat.{ℕ}
-use mathlib.Core.Path.{_≡_, refl, sym, ap, _∙_}
+use mathlib.Core.Path.{_≡_, refl, sym, ap}
 use mathlib.Core.List.{List}
 use Rattle.refusals.specs.declared.Refusal.{Refusal}
 use Rattle.refusals.specs.declared.answers.Checked.{Checked}
@@ -22,7 +22,7 @@ use Rattle.rows.specs.Reading.{readRowsOf}
 use Rattle.rows.specs.Updating.{updateRowOf}
 use Rattle.rows.specs.Masked.{maskedVerdictOf}
 use Rattle.rows.specs.declared.answers.RowsRead.the-variants as read
-use Rattle.encoding.specs.Sessions.{sessionBytes, sessionIn, oneUser, SessionPartsFit, Holds, changedInto}
+use Rattle.encoding.specs.Sessions.{sessionBytes, sessionIn, SessionPartsFit, Holds, changedInto}
 use Rattle.encoding.specs.Verdicts.{verdictCode}
 use Rattle.encoding.proofs.ReadBack.{bytes-hold}
 use Rattle.abi.specs.Answers.{coded, withSession}
@@ -98,16 +98,18 @@ module _ (im bytes : List ℕ) (s : SessionMarks) (holds : Holds bytes s) where
 
   pub set-label-holds : (text : List ℕ) → Holds (setLabelAnswer im bytes text .1) (setLabelOf im s text .0)
   set-label-holds text =
+      let new = setLabelOf im s text in
       change-holds (λ t. setLabelOf im t text) (set-label-same im text s)
-      (λ e. lent-widths im (setLabelOf im s text .0) (label-changed-passes im text s (setLabelOf im s text .0) (both-parts (setLabelOf im s text) Accepted e)))
+      (λ e. lent-widths im (new .0) (label-changed-passes im text s (new .0) (both-parts new Accepted e)))
 
   pub set-row-label-code : (text : List ℕ) → setRowLabelAnswer im bytes text .0 ≡ codeOf (checkedGiven (setRowLabelOf im s text .1))
   set-row-label-code text = change-code (λ t. setRowLabelOf im t text)
 
   pub set-row-label-holds : (text : List ℕ) → Holds (setRowLabelAnswer im bytes text .1) (setRowLabelOf im s text .0)
   set-row-label-holds text =
+      let new = setRowLabelOf im s text in
       change-holds (λ t. setRowLabelOf im t text) (set-row-label-same im text s)
-      (λ e. lent-widths im (setRowLabelOf im s text .0) (row-label-changed-passes im text s (setRowLabelOf im s text .0) (both-parts (setRowLabelOf im s text) Accepted e)))
+      (λ e. lent-widths im (new .0) (row-label-changed-passes im text s (new .0) (both-parts new Accepted e)))
 
   -- verdicts
   pub may-read-held : (tag : ℕ) → mayReadAnswer im bytes tag ≡ verdictCode (mayReadOf im s tag)

@@ -1,5 +1,5 @@
 -- The place that a refusal tells fits its 32 bits, for each call on sessions, for prints and for merges. Assumes nothing.
-use Prim.Native.Nat.{ℕ, _^_, _<_}
+use Prim.Native.Nat.{ℕ}
 use mathlib.Core.Path.{_≡_, refl, _∙_, subst}
 use mathlib.Core.Bool.{Bool, true, false, cond}
 use mathlib.Core.List.{List}
@@ -8,7 +8,8 @@ use mir.Val.{boolByte}
 use lib.Dec.{leb, ltb}
 use lib.ListN.{length}
 use Rattle.refusals.specs.declared.Refusal.{Refusal}
-use Rattle.refusals.specs.declared.Refusal.the-variants.{NoUser, MergeLetters, SessionRules, LevelNotAllowed, CompartmentsNotAllowed, GroupsNotAllowed, RowLabelOutside, Room, NoComponent}
+use Rattle.refusals.specs.declared.Refusal.the-variants.{NoUser, MergeLetters, SessionRules, Room, NoComponent}
+use Rattle.refusals.specs.declared.Refusal.the-variants.{LevelNotAllowed, CompartmentsNotAllowed, GroupsNotAllowed, RowLabelOutside}
 use Rattle.refusals.specs.declared.answers.Checked.{Checked}
 use Rattle.refusals.specs.declared.answers.Checked.the-variants.{Accepted, Refused}
 use Rattle.refusals.specs.declared.answers.Verdict.the-variants as verdict
@@ -73,7 +74,8 @@ session-label-fits im u new row =
     (sessionGroupsRule im r (new .groups)) (rowInside (rightsAt im u new) row)
   where
     at : (a b c d : Bool)
-        → PlaceFits (checkedGiven (orRefuse a LevelNotAllowed (orRefuse b CompartmentsNotAllowed (orRefuse c GroupsNotAllowed (orRefuse d RowLabelOutside Accepted)))))
+        → PlaceFits (checkedGiven
+        (orRefuse a LevelNotAllowed (orRefuse b CompartmentsNotAllowed (orRefuse c GroupsNotAllowed (orRefuse d RowLabelOutside Accepted)))))
     at true true true true = omega arith
     at true true true false = omega arith
     at true true false d = omega arith
@@ -165,11 +167,15 @@ may-write-fits im s tag = asked-fits im s (mayWrite im (sessionRights im s) tag)
 -- ---- prints
 pub print-fits : (im : List ℕ) (m : Marks) (buffer : List ℕ) (r : Refusal) → printOf im m buffer .0 ≡ printed.Refused r → PlaceFits (refusalGiven r)
 unfolding printOf acceptedAnswer
-print-fits im m buffer r e = subst (λ (a : Printed). PlaceFits (printedGiven a)) e (at (checkOf im) refl (labelExists im m) (leb (length (textOf im m)) (length buffer)))
+print-fits im m buffer r e =
+    subst (λ (a : Printed). PlaceFits (printedGiven a)) e (at (checkOf im) refl (labelExists im m) (leb (length text) (length buffer)))
   where
+    text : List ℕ
+    text = textOf im m
+
     at : (c : Checked) → checkOf im ≡ c → (s t : Bool)
         → PlaceFits (printedGiven (unlessRefused c (cond {A = Printed × List ℕ} s
-        (cond t (printed.Done (length (textOf im m)), atFront (textOf im m) buffer) (printed.Refused Room, buffer)) (printed.Refused NoComponent, buffer)) buffer .0))
+        (cond t (printed.Done (length text), atFront text buffer) (printed.Refused Room, buffer)) (printed.Refused NoComponent, buffer)) buffer .0))
     at Accepted d true true = omega arith
     at Accepted d true false = omega arith
     at Accepted d false t = omega arith

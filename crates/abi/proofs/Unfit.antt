@@ -128,7 +128,10 @@ module _ (im bytes : List ℕ) (unfit : sessionFits bytes ≡ false) where
           unfold sessionIn in omega (arith, small, large)
 
       at : (t : Bool) → sessionRule im (sessionIn bytes .user) (sessionIn bytes .label) (sessionIn bytes .row) ≡ t → t ≡ false
-      at true e = absurd (wide _ _ refl refl (sym (ap (λ (t : Bool). t && eqb (highGroups (part bytes 8 48)) 0 && eqb (highGroups (part bytes 56 48)) 0) one) ∙ unfit) e)
+      at true e =
+          absurd
+          (wide _ _ refl refl
+          (sym (ap (λ (t : Bool). t && eqb (highGroups (part bytes 8 48)) 0 && eqb (highGroups (part bytes 56 48)) 0) one) ∙ unfit) e)
       at false e = refl
 
   unfit-lent : oneUser bytes ≡ true → lentAnswer im (sessionIn bytes) ≡ Refused (afterCheck im SessionRules)

@@ -9,7 +9,7 @@ use lib.ListN.{getD}
 use borrow.Author.Tests.{leb-true}
 use native.Mathlib.Omega.{arith}
 use Rattle.refusals.specs.Refusals.{numberOf, valuesOf, placeOf}
-use Rattle.refusals.specs.Answers.{Given, done, refused, refusalGiven, checkedGiven}
+use Rattle.refusals.specs.Answers.{done, refused, refusalGiven, checkedGiven}
 use Rattle.refusals.specs.declared.answers.Checked.{Checked}
 use Rattle.refusals.specs.declared.answers.Checked.the-variants.{Accepted, Refused}
 use Rattle.refusals.specs.declared.Refusal.{Refusal}

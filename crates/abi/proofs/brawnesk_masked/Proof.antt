@@ -26,7 +26,10 @@ verdict-code-requires : tie.Need-verdict-code-requires
 verdict-code-requires c κs = rw (c .masked-verdict .ensures) (masked-fits _ _ _ _ _)
 
 returns-2 : tie.Need-returns-2
-returns-2 c = rw (fits-means _ (sym (c .before .before .before .before .before .session-fits .ensures) ∙ not-false _ (c .before .before .before .before .if1 .left)) .one, c .verdict-code .ensures, c .before .masked-verdict .ensures, c .before .before .session-in .ensures)
+returns-2 c =
+    let fit = c .before .before .before .before in
+    let one = fits-means _ (sym (fit .before .session-fits .ensures) ∙ not-false _ (fit .if1 .left)) .one in
+    rw (one, c .verdict-code .ensures, c .before .masked-verdict .ensures, c .before .before .session-in .ensures)
 
 pub brawnesk-masked-spec : {M : Type 1} → statement M
 brawnesk-masked-spec =

@@ -2,7 +2,6 @@ use Rattle.encoding.proofs.Wide.{fits-means}
 use borrow.Author.Tests.{not-true, not-false}
 use Rattle.abi.proofs.Places.{may-write-fits}
 use Rattle.abi.proofs.Unfit.{unfit-may-write}
-use borrow.Author.Tests.{not-true, not-false}
 use mathlib.Core.Path.{sym, _∙_}
 use borrow.Author.Needs.{needs}
 use Rattle.abi.proofs.brawnesk_may_write.Statement.{statement}
@@ -27,7 +26,10 @@ verdict-code-requires : tie.Need-verdict-code-requires
 verdict-code-requires c κs = rw (c .may-write .ensures) (may-write-fits _ _ _)
 
 returns-2 : tie.Need-returns-2
-returns-2 c = rw (fits-means _ (sym (c .before .before .before .before .before .session-fits .ensures) ∙ not-false _ (c .before .before .before .before .if1 .left)) .one, c .verdict-code .ensures, c .before .may-write .ensures, c .before .before .session-in .ensures)
+returns-2 c =
+    let fit = c .before .before .before .before in
+    let one = fits-means _ (sym (fit .before .session-fits .ensures) ∙ not-false _ (fit .if1 .left)) .one in
+    rw (one, c .verdict-code .ensures, c .before .may-write .ensures, c .before .before .session-in .ensures)
 
 pub brawnesk-may-write-spec : {M : Type 1} → statement M
 brawnesk-may-write-spec =

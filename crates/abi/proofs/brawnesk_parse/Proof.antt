@@ -22,7 +22,9 @@ refusal-requires : tie.Need-refusal-requires
 refusal-requires c κs = search needs
 
 refused-requires : tie.Need-refused-requires
-refused-requires c κs = parse-told _ _ _ (sym (c .before .before .before .before .parse .ensures) ∙ ap readOf (c .before .before .answer2 .given .1) ∙ ap parse.refused (sym (c .refusal .ensures)))
+refused-requires c κs =
+    let told = c .before .before in
+    parse-told _ _ _ (sym (told .before .before .parse .ensures) ∙ ap readOf (told .answer2 .given .1) ∙ ap parse.refused (sym (c .refusal .ensures)))
 
 enum-known-answer-3 : tie.Need-enum-known-answer-3
 enum-known-answer-3 c = search needs
@@ -34,7 +36,9 @@ returns : tie.Need-returns
 returns c = rw (← c .before .before .before .before .parse .ensures, c .before .before .answer .given .1, c .label-bytes .ensures .0)
 
 returns-2 : tie.Need-returns-2
-returns-2 c = rw (← c .before .before .before .before .before .parse .ensures, c .before .before .before .answer2 .given .1, c .refused .ensures, c .before .refusal .ensures)
+returns-2 c =
+    let told = c .before .before .before in
+    rw (← told .before .before .parse .ensures, told .answer2 .given .1, c .refused .ensures, c .before .refusal .ensures)
 
 returns-3 : tie.Need-returns-3
 returns-3 c = rw (← c .before .before .before .before .parse .ensures, c .before .before .answer3 .given .1, c .refused2 .ensures)

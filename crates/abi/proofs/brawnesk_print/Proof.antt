@@ -13,7 +13,9 @@ after-check-requires : tie.Need-after-check-requires
 after-check-requires c κs = search needs
 
 returns : tie.Need-returns
-returns c = rw (c .after-check .ensures) (sym (wide-print _ _ _ (eqb-false _ _ (sym (c .before .before .only-low-groups .ensures) ∙ not-true _ (c .before .if1 .taken)))))
+returns c =
+    let wide = eqb-false _ _ (sym (c .before .before .only-low-groups .ensures) ∙ not-true _ (c .before .if1 .taken)) in
+    rw (c .after-check .ensures) (sym (wide-print _ _ _ wide))
 
 label-in-requires : tie.Need-label-in-requires
 label-in-requires c κs = (search needs, eqb-true _ _ (sym (c .before .before .only-low-groups .ensures) ∙ not-false _ (c .before .if1 .left)))
@@ -34,13 +36,19 @@ same-length : tie.Need-same-length
 same-length c = search needs
 
 returns-2 : tie.Need-returns-2
-returns-2 c = rw (← c .before .before .before .before .before .before .before .label-in .ensures, ← c .before .before .before .before .before .print .ensures, c .before .answer .given .1)
+returns-2 c =
+    let told = c .before in
+    let called = told .before .before .before .before in
+    rw (← called .before .before .label-in .ensures, ← called .print .ensures, told .answer .given .1)
 
 same-length-2 : tie.Need-same-length-2
 same-length-2 c = search needs
 
 returns-3 : tie.Need-returns-3
-returns-3 c = rw (← c .before .before .before .before .before .before .before .before .label-in .ensures, ← c .before .before .before .before .before .before .print .ensures, c .before .before .answer2 .given .1, c .refused .ensures)
+returns-3 c =
+    let told = c .before .before in
+    let called = told .before .before .before .before in
+    rw (← called .before .before .label-in .ensures, ← called .print .ensures, told .answer2 .given .1, c .refused .ensures)
 
 pub brawnesk-print-spec : {M : Type 1} → statement M
 brawnesk-print-spec =

@@ -35,13 +35,23 @@ same-length : tie.Need-same-length
 same-length c = search needs
 
 returns-2 : tie.Need-returns-2
-returns-2 c = rw (fits-means _ (sym (c .before .before .before .before .before .before .before .before .before .before .session-fits .ensures) ∙ not-false _ (c .before .before .before .before .before .before .before .before .before .if1 .left)) .one, ← c .before .before .before .before .before .before .before .session-in .ensures, ← c .before .before .before .before .before .read .ensures, c .before .answer .given .1)
+returns-2 c =
+    let told = c .before in
+    let called = told .before .before .before .before in
+    let fit = called .before .before .before .before in
+    let one = fits-means _ (sym (fit .before .session-fits .ensures) ∙ not-false _ (fit .if1 .left)) .one in
+    rw (one, ← called .before .before .session-in .ensures, ← called .read .ensures, told .answer .given .1)
 
 same-length-2 : tie.Need-same-length-2
 same-length-2 c = search needs
 
 returns-3 : tie.Need-returns-3
-returns-3 c = rw (fits-means _ (sym (c .before .before .before .before .before .before .before .before .before .before .before .session-fits .ensures) ∙ not-false _ (c .before .before .before .before .before .before .before .before .before .before .if1 .left)) .one, ← c .before .before .before .before .before .before .before .before .session-in .ensures, ← c .before .before .before .before .before .before .read .ensures, c .before .before .answer2 .given .1, c .refused .ensures)
+returns-3 c =
+    let told = c .before .before in
+    let called = told .before .before .before .before in
+    let fit = called .before .before .before .before in
+    let one = fits-means _ (sym (fit .before .session-fits .ensures) ∙ not-false _ (fit .if1 .left)) .one in
+    rw (one, ← called .before .before .session-in .ensures, ← called .read .ensures, told .answer2 .given .1, c .refused .ensures)
 
 pub brawnesk-read-spec : {M : Type 1} → statement M
 brawnesk-read-spec =

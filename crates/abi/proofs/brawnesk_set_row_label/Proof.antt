@@ -28,7 +28,11 @@ store-requires : tie.Need-store-requires
 store-requires c κs = rw (ap (λ (p : SessionMarks × Checked). p .1) (c .before .set-row-label .ensures)) (set-row-label-fits _ _ _)
 
 returns-2 : tie.Need-returns-2
-returns-2 c = rw (fits-means _ (sym (c .before .before .before .before .before .before .before .session-fits .ensures) ∙ not-false _ (c .before .before .before .before .before .before .if1 .left)) .one, ← c .before .before .before .session-in .ensures, ← c .before .before .set-row-label .ensures) (c .store .ensures)
+returns-2 c =
+    let called = c .before .before in
+    let fit = called .before .before .before .before in
+    let one = fits-means _ (sym (fit .before .session-fits .ensures) ∙ not-false _ (fit .if1 .left)) .one in
+    rw (one, ← called .before .session-in .ensures, ← called .set-row-label .ensures) (c .store .ensures)
 
 pub brawnesk-set-row-label-spec : {M : Type 1} → statement M
 brawnesk-set-row-label-spec =

@@ -29,19 +29,30 @@ enum-known-answer : tie.Need-enum-known-answer
 enum-known-answer c = search needs
 
 refused-requires : tie.Need-refused-requires
-refused-requires c κs = update-fits _ _ _ _ _ _ _ (sym (ap (λ p. p .0) (c .before .before .before .before .before .update .ensures)) ∙ c .before .answer .given .1)
+refused-requires c κs =
+    let told = c .before in
+    update-fits _ _ _ _ _ _ _ (sym (ap (λ p. p .0) (told .before .before .before .before .update .ensures)) ∙ told .answer .given .1)
 
 same-length : tie.Need-same-length
 same-length c = search needs
 
 returns-2 : tie.Need-returns-2
-returns-2 c = rw (fits-means _ (sym (c .before .before .before .before .before .before .before .before .before .session-fits .ensures) ∙ not-false _ (c .before .before .before .before .before .before .before .before .if1 .left)) .one, ← c .before .before .before .before .before .before .session-in .ensures, ← c .before .before .before .before .update .ensures, c .enum-told .given .1)
+returns-2 c =
+    let called = c .before .before .before .before in
+    let fit = called .before .before .before .before in
+    let one = fits-means _ (sym (fit .before .session-fits .ensures) ∙ not-false _ (fit .if1 .left)) .one in
+    rw (one, ← called .before .before .session-in .ensures, ← called .update .ensures, c .enum-told .given .1)
 
 same-length-2 : tie.Need-same-length-2
 same-length-2 c = search needs
 
 returns-3 : tie.Need-returns-3
-returns-3 c = rw (fits-means _ (sym (c .before .before .before .before .before .before .before .before .before .before .before .session-fits .ensures) ∙ not-false _ (c .before .before .before .before .before .before .before .before .before .before .if1 .left)) .one, ← c .before .before .before .before .before .before .before .before .session-in .ensures, ← c .before .before .before .before .before .before .update .ensures, c .before .before .answer .given .1, c .refused .ensures)
+returns-3 c =
+    let told = c .before .before in
+    let called = told .before .before .before .before in
+    let fit = called .before .before .before .before in
+    let one = fits-means _ (sym (fit .before .session-fits .ensures) ∙ not-false _ (fit .if1 .left)) .one in
+    rw (one, ← called .before .before .session-in .ensures, ← called .update .ensures, told .answer .given .1, c .refused .ensures)
 
 pub brawnesk-update-spec : {M : Type 1} → statement M
 brawnesk-update-spec =
