@@ -46,6 +46,13 @@ use Rattle.abi.specs.TwoLabels.{mergedGiven}
 pub image-fits : (im : List ℕ) (r : Refusal) → checkOf im ≡ Refused r → PlaceFits (refusalGiven r)
 image-fits im r e = omega (arith, check-place im r e)
 
+pub check-fits : (im : List ℕ) → PlaceFits (checkedGiven (checkOf im))
+check-fits im = at (checkOf im) refl
+  where
+    at : (c : Checked) → checkOf im ≡ c → PlaceFits (checkedGiven c)
+    at Accepted d = omega arith
+    at (Refused q) d = image-fits im q d
+
 -- an answer that comes after the check of the image
 after-check-fits : (im : List ℕ) (answer : Checked) → PlaceFits (checkedGiven answer) → PlaceFits (checkedGiven (onChecked (checkOf im) Refused answer))
 after-check-fits im answer fits = at (checkOf im) refl
@@ -165,10 +172,9 @@ unfolding mayWriteOf
 may-write-fits im s tag = asked-fits im s (mayWrite im (sessionRights im s) tag)
 
 -- ---- prints
-pub print-fits : (im : List ℕ) (m : Marks) (buffer : List ℕ) (r : Refusal) → printOf im m buffer .0 ≡ printed.Refused r → PlaceFits (refusalGiven r)
+pub print-fits : (im : List ℕ) (m : Marks) (buffer : List ℕ) → PlaceFits (printedGiven (printOf im m buffer .0))
 unfolding printOf acceptedAnswer
-print-fits im m buffer r e =
-    subst (λ (a : Printed). PlaceFits (printedGiven a)) e (at (checkOf im) refl (labelExists im m) (leb (length text) (length buffer)))
+print-fits im m buffer = at (checkOf im) refl (labelExists im m) (leb (length text) (length buffer))
   where
     text : List ℕ
     text = textOf im m

@@ -40,9 +40,9 @@ module _ (im : List ℕ) (s : SessionMarks) (table : List ℕ) (w : ℕ) where
       at Accepted d false = omega arith
       at (Refused q) d t = lent-fits im s q d
 
-  pub read-fits : (buffer : List ℕ) (r : Refusal) → readRowsOf im s table w buffer .0 ≡ read.Refused r → PlaceFits (refusalGiven r)
+  pub read-fits : (buffer : List ℕ) → PlaceFits (rowsGiven (readRowsOf im s table w buffer .0))
   unfolding readRowsOf handedOut
-  read-fits buffer r e = subst (λ (a : RowsRead). PlaceFits (rowsGiven a)) e (at (tableAnswer im s w table) refl)
+  read-fits buffer = at (tableAnswer im s w table) refl
     where
       rows : List (List ℕ)
       rows = readableRows im (sessionRights im s) w table
@@ -56,9 +56,9 @@ module _ (im : List ℕ) (s : SessionMarks) (table : List ℕ) (w : ℕ) where
       at Accepted d = room (leb (length (flatten rows)) (length buffer)) (atFront (flatten rows) buffer)
       at (Refused q) d = table-fits q d
 
-  pub update-fits : (n : ℕ) (payload : List ℕ) (r : Refusal) → updateRowOf im s table w n payload .0 ≡ Refused r → PlaceFits (refusalGiven r)
+  pub update-fits : (n : ℕ) (payload : List ℕ) → PlaceFits (checkedGiven (updateRowOf im s table w n payload .0))
   unfolding updateRowOf updateWith nthRowAnswer
-  update-fits n payload r e = subst (λ (c : Checked). PlaceFits (checkedGiven c)) e (at (tableAnswer im s w table) refl)
+  update-fits n payload = at (tableAnswer im s w table) refl
     where
       rules : (a b c : Bool) → PlaceFits (checkedGiven (orRefuse a PayloadLength (orRefuse b NoRow (orRefuse c RowNotWritable Accepted))))
       rules true true true = omega arith

@@ -1,8 +1,9 @@
-// The numbers that tell a refusal and a verdict.
+// The numbers that tell a refusal, an answer and a verdict.
 ghost use mathlib.Core.Path.{_≡_};
-ghost use Rattle.refusals.specs.Answers.{PlaceFits, refusalGiven, verdictGiven, answerOf};
+ghost use Rattle.refusals.specs.Answers.{PlaceFits, refusalGiven, checkedGiven, verdictGiven, codeOf, answerOf};
 ghost use Rattle.encoding.specs.Verdicts.{verdictCode};
 use refusals::Refusal;
+use refusals::answers::Checked;
 use refusals::answers::Verdict;
 
 // 2^63 + number × 2^32 + place.
@@ -13,6 +14,17 @@ pub fn refused(r: Refusal) -> u64
     let number = refusals::number(r) as u64;
     let place = refusals::place(r) as u64;
     9223372036854775808 + number * 4294967296 + place
+}
+
+// 0 done.
+pub fn checked_code(answer: Checked) -> u64
+    requires { ⌜ PlaceFits (checkedGiven answer) ⌝ }
+    ensures { λ n. ⌜ n ≡ codeOf (checkedGiven answer) ⌝ }
+{
+    match answer {
+        Checked::Accepted => 0,
+        Checked::Refused(r) => refused(r),
+    }
 }
 
 // 1 yes, 0 no.

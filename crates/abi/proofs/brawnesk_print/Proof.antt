@@ -1,3 +1,6 @@
+use Prim.Native.Nat.{ℕ}
+use mathlib.Core.List.{List}
+use Rattle.printing.specs.declared.printing.Printed.{Printed}
 use mathlib.Core.Path.{sym, ap, _∙_}
 use borrow.Author.Needs.{needs}
 use borrow.Author.Tests.{not-true, not-false, eqb-true, eqb-false}
@@ -23,32 +26,16 @@ label-in-requires c κs = (search needs, eqb-true _ _ (sym (c .before .before .o
 print-requires : tie.Need-print-requires
 print-requires c κs = search needs
 
-enum-known-answer : tie.Need-enum-known-answer
-enum-known-answer c = search needs
-
-enum-known-answer-2 : tie.Need-enum-known-answer-2
-enum-known-answer-2 c = search needs
-
-refused-requires : tie.Need-refused-requires
-refused-requires c κs = print-fits _ _ _ _ (sym (ap (λ p. p .0) (c .before .before .before .before .before .print .ensures)) ∙ c .before .answer2 .given .1)
+printed-code-requires : tie.Need-printed-code-requires
+printed-code-requires c κs = rw (ap (λ (p : Printed × List ℕ). p .0) (c .before .before .print .ensures)) (print-fits _ _ _)
 
 same-length : tie.Need-same-length
 same-length c = search needs
 
 returns-2 : tie.Need-returns-2
 returns-2 c =
-    let told = c .before in
-    let called = told .before .before .before .before in
-    rw (← called .before .before .label-in .ensures, ← called .print .ensures, told .answer .given .1)
-
-same-length-2 : tie.Need-same-length-2
-same-length-2 c = search needs
-
-returns-3 : tie.Need-returns-3
-returns-3 c =
-    let told = c .before .before in
-    let called = told .before .before .before .before in
-    rw (← called .before .before .label-in .ensures, ← called .print .ensures, told .answer2 .given .1, c .refused .ensures)
+    let called = c .before .before .before in
+    rw (← called .before .before .label-in .ensures, ← called .print .ensures, c .printed-code .ensures)
 
 pub brawnesk-print-spec : {M : Type 1} → statement M
 brawnesk-print-spec =
@@ -59,10 +46,6 @@ brawnesk-print-spec =
     returns
     label-in-requires
     print-requires
-    enum-known-answer
-    enum-known-answer-2
-    refused-requires
+    printed-code-requires
     same-length
-    returns-2
-    same-length-2
-    returns-3)
+    returns-2)

@@ -1,3 +1,6 @@
+use Prim.Native.Nat.{ℕ}
+use mathlib.Core.List.{List}
+use Rattle.rows.specs.declared.answers.RowsRead.{RowsRead}
 use mathlib.Core.Path.{sym, ap, _∙_}
 use borrow.Author.Tests.{not-true, not-false}
 use borrow.Author.Needs.{needs}
@@ -22,36 +25,18 @@ session-in-requires c κs = (search needs, sym (c .before .before .session-fits 
 read-requires : tie.Need-read-requires
 read-requires c κs = search needs
 
-enum-known-answer : tie.Need-enum-known-answer
-enum-known-answer c = search needs
-
-enum-known-answer-2 : tie.Need-enum-known-answer-2
-enum-known-answer-2 c = search needs
-
-refused-requires : tie.Need-refused-requires
-refused-requires c κs = read-fits _ _ _ _ _ _ (sym (ap (λ p. p .0) (c .before .before .before .before .before .read .ensures)) ∙ c .before .answer2 .given .1)
+rows-code-requires : tie.Need-rows-code-requires
+rows-code-requires c κs = rw (ap (λ (p : RowsRead × List ℕ). p .0) (c .before .before .read .ensures)) (read-fits _ _ _ _ _)
 
 same-length : tie.Need-same-length
 same-length c = search needs
 
 returns-2 : tie.Need-returns-2
 returns-2 c =
-    let told = c .before in
-    let called = told .before .before .before .before in
+    let called = c .before .before .before in
     let fit = called .before .before .before .before in
     let one = fits-means _ (sym (fit .before .session-fits .ensures) ∙ not-false _ (fit .if1 .left)) .one in
-    rw (one, ← called .before .before .session-in .ensures, ← called .read .ensures, told .answer .given .1)
-
-same-length-2 : tie.Need-same-length-2
-same-length-2 c = search needs
-
-returns-3 : tie.Need-returns-3
-returns-3 c =
-    let told = c .before .before in
-    let called = told .before .before .before .before in
-    let fit = called .before .before .before .before in
-    let one = fits-means _ (sym (fit .before .session-fits .ensures) ∙ not-false _ (fit .if1 .left)) .one in
-    rw (one, ← called .before .before .session-in .ensures, ← called .read .ensures, told .answer2 .given .1, c .refused .ensures)
+    rw (one, ← called .before .before .session-in .ensures, ← called .read .ensures, c .rows-code .ensures)
 
 pub brawnesk-read-spec : {M : Type 1} → statement M
 brawnesk-read-spec =
@@ -62,10 +47,6 @@ brawnesk-read-spec =
     returns
     session-in-requires
     read-requires
-    enum-known-answer
-    enum-known-answer-2
-    refused-requires
+    rows-code-requires
     same-length
-    returns-2
-    same-length-2
-    returns-3)
+    returns-2)

@@ -1,3 +1,6 @@
+use Prim.Native.Nat.{ℕ}
+use mathlib.Core.List.{List}
+use Rattle.refusals.specs.declared.answers.Checked.{Checked}
 use mathlib.Core.Path.{sym, ap, _∙_}
 use borrow.Author.Tests.{not-true, not-false}
 use borrow.Author.Needs.{needs}
@@ -22,37 +25,18 @@ session-in-requires c κs = (search needs, sym (c .before .before .session-fits 
 update-requires : tie.Need-update-requires
 update-requires c κs = search needs
 
-enum-told : tie.Need-enum-told
-enum-told c = search needs
-
-enum-known-answer : tie.Need-enum-known-answer
-enum-known-answer c = search needs
-
-refused-requires : tie.Need-refused-requires
-refused-requires c κs =
-    let told = c .before in
-    update-fits _ _ _ _ _ _ _ (sym (ap (λ p. p .0) (told .before .before .before .before .update .ensures)) ∙ told .answer .given .1)
+checked-code-requires : tie.Need-checked-code-requires
+checked-code-requires c κs = rw (ap (λ (p : Checked × List ℕ). p .0) (c .before .before .update .ensures)) (update-fits _ _ _ _ _ _)
 
 same-length : tie.Need-same-length
 same-length c = search needs
 
 returns-2 : tie.Need-returns-2
 returns-2 c =
-    let called = c .before .before .before .before in
+    let called = c .before .before .before in
     let fit = called .before .before .before .before in
     let one = fits-means _ (sym (fit .before .session-fits .ensures) ∙ not-false _ (fit .if1 .left)) .one in
-    rw (one, ← called .before .before .session-in .ensures, ← called .update .ensures, c .enum-told .given .1)
-
-same-length-2 : tie.Need-same-length-2
-same-length-2 c = search needs
-
-returns-3 : tie.Need-returns-3
-returns-3 c =
-    let told = c .before .before in
-    let called = told .before .before .before .before in
-    let fit = called .before .before .before .before in
-    let one = fits-means _ (sym (fit .before .session-fits .ensures) ∙ not-false _ (fit .if1 .left)) .one in
-    rw (one, ← called .before .before .session-in .ensures, ← called .update .ensures, told .answer .given .1, c .refused .ensures)
+    rw (one, ← called .before .before .session-in .ensures, ← called .update .ensures, c .checked-code .ensures)
 
 pub brawnesk-update-spec : {M : Type 1} → statement M
 brawnesk-update-spec =
@@ -63,10 +47,6 @@ brawnesk-update-spec =
     returns
     session-in-requires
     update-requires
-    enum-told
-    enum-known-answer
-    refused-requires
+    checked-code-requires
     same-length
-    returns-2
-    same-length-2
-    returns-3)
+    returns-2)
