@@ -1,21 +1,35 @@
--- One number for each answer: below 2 ^ 63 the value of a call that is done, else the refusal's number and place (`answerOf`).
+-- What the C functions answer: one number for what a call gives back (`codeOf`), and beside it the bytes that the call writes.
 use Prim.Native.Nat.{ℕ, _+_, _*_}
+use mathlib.Core.Bool.{cond}
 use mathlib.Core.List.{List}
 use Rattle.refusals.specs.declared.Refusal.{Refusal}
-use Rattle.refusals.specs.Refusals.{answerOf}
+use Rattle.refusals.specs.declared.Refusal.the-variants.{SessionRules}
+use Rattle.refusals.specs.Answers.{onChecked, Given, done, refusalGiven, checkedGiven, codeOf}
 use Rattle.image.specs.Check.{checkOf}
-use Rattle.refusals.specs.Answers.{onChecked}
 use Rattle.image.specs.Lookup.{nameAnswer, nameOffset, nameLength}
+use Rattle.sessions.specs.Session.{SessionMarks}
+use Rattle.encoding.specs.Sessions.{sessionIn, oneUser}
 
--- 1, 2, 3, and then that refusal
-abbrev pub afterCheck : List ℕ → Refusal → ℕ
-afterCheck im r = onChecked (checkOf im) answerOf (answerOf r)
+-- an answer beside the bytes after it, told in one number by what the answer gives back
+abbrev pub coded : {A : Type 0} → (A → Given) → A × List ℕ → ℕ × List ℕ
+coded given result = (codeOf (given (result .0)), result .1)
+
+-- the refusal of the image, 1, 2 or 3; of an accepted one that refusal
+abbrev pub afterCheck : List ℕ → Refusal → Refusal
+afterCheck im r = onChecked (checkOf im) (λ q. q) r
+
+-- what the session that the bytes hold is answered; 19 after 1, 2, 3 where they name two users
+abbrev pub withSession : {A : Type 0} → List ℕ → List ℕ → (Refusal → A) → (SessionMarks → A) → A
+withSession im bytes refuse answer = cond (oneUser bytes) (answer (sessionIn bytes)) (refuse (afterCheck im SessionRules))
 
 -- `brawnesk_check`: 0 for an accepted image
 abbrev pub checkAnswer : List ℕ → ℕ
-checkAnswer im = onChecked (checkOf im) answerOf 0
+checkAnswer im = codeOf (checkedGiven (checkOf im))
 
 -- `brawnesk_name`: the name's offset in the image + 65,536 × its length
+abbrev pub nameGiven : List ℕ → ℕ → ℕ → Given
+nameGiven im class place =
+    onChecked (nameAnswer im class place) refusalGiven (done (nameOffset im class place + 65536 * nameLength im class place))
+
 abbrev pub nameSpan : List ℕ → ℕ → ℕ → ℕ
-nameSpan im class place =
-    onChecked (nameAnswer im class place) answerOf (nameOffset im class place + 65536 * nameLength im class place)
+nameSpan im class place = codeOf (nameGiven im class place)

@@ -1,40 +1,47 @@
 -- The C functions on sessions.
 use Prim.Native.Nat.{ℕ}
-use mathlib.Core.Bool.{cond}
 use mathlib.Core.List.{List}
-use Rattle.refusals.specs.Refusals.{answerOf}
-use Rattle.refusals.specs.declared.Refusal.the-variants.{SessionRules}
 use Rattle.refusals.specs.declared.answers.Checked.{Checked}
+use Rattle.refusals.specs.declared.answers.Checked.the-variants.{Refused}
+use Rattle.refusals.specs.declared.answers.Verdict.the-variants as verdict
+use Rattle.refusals.specs.Answers.{Given, done, refusalGiven}
 use Rattle.sessions.specs.Session.{SessionMarks}
 use Rattle.sessions.specs.Opening.{Opening, session, refused, openOf}
 use Rattle.sessions.specs.Changes.{setLabelOf, setRowLabelOf}
 use Rattle.sessions.specs.Asking.{mayReadOf, mayWriteOf}
-use Rattle.encoding.specs.Sessions.{sessionBytes, sessionIn, oneUser, changedInto}
+use Rattle.encoding.specs.Sessions.{sessionBytes, sessionIn, changedInto}
 use Rattle.encoding.specs.Verdicts.{verdictCode}
-use Rattle.abi.specs.Answers.{afterCheck}
+use Rattle.abi.specs.Answers.{coded, withSession}
 
--- ---- `brawnesk_open`: the answer, and the session's bytes after it: 0 and the session, or the refusal and the bytes as they were
-abbrev pub openedInto : Opening → List ℕ → ℕ × List ℕ
-openedInto (session s) old = (0, sessionBytes s)
-openedInto (refused r) old = (answerOf r, old)
+-- ---- `brawnesk_open`: the answer, and the session's bytes after it
+-- what opening gives back: 0 where a session opens
+abbrev pub openedGiven : Opening → Given
+openedGiven (session s) = done 0
+openedGiven (refused r) = refusalGiven r
+
+-- and the bytes that it leaves: the session's, or as they were
+abbrev pub openedInto : Opening → List ℕ → List ℕ
+openedInto (session s) old = sessionBytes s
+openedInto (refused r) old = old
 
 abbrev pub openAnswer : List ℕ → List ℕ → List ℕ → ℕ × List ℕ
-openAnswer im name old = openedInto (openOf im name) old
+openAnswer im name old = coded openedGiven (openOf im name, openedInto (openOf im name) old)
 
 -- ---- `brawnesk_set_label`, `brawnesk_set_row_label`: the answer, and the session's bytes after it
--- a session of two users is 19, after 1, 2, 3
-abbrev pub changeAnswer : List ℕ → SessionMarks × Checked → List ℕ → ℕ × List ℕ
-changeAnswer im change old = cond (oneUser old) (changedInto (change .0) (change .1) old) (afterCheck im SessionRules, old)
+-- of the change that is made of the session that the bytes hold
+abbrev pub changeAnswer : List ℕ → List ℕ → (SessionMarks → SessionMarks × Checked) → ℕ × List ℕ
+changeAnswer im bytes change =
+    let changed = withSession im bytes (λ r. (sessionIn bytes, Refused r)) change in changedInto (changed .0) (changed .1) bytes
 
 abbrev pub setLabelAnswer : List ℕ → List ℕ → List ℕ → ℕ × List ℕ
-setLabelAnswer im bytes text = changeAnswer im (setLabelOf im (sessionIn bytes) text) bytes
+setLabelAnswer im bytes text = changeAnswer im bytes (λ s. setLabelOf im s text)
 
 abbrev pub setRowLabelAnswer : List ℕ → List ℕ → List ℕ → ℕ × List ℕ
-setRowLabelAnswer im bytes text = changeAnswer im (setRowLabelOf im (sessionIn bytes) text) bytes
+setRowLabelAnswer im bytes text = changeAnswer im bytes (λ s. setRowLabelOf im s text)
 
 -- ---- `brawnesk_may_read`, `brawnesk_may_write`: 1 yes, 0 no
 abbrev pub mayReadAnswer : List ℕ → List ℕ → ℕ → ℕ
-mayReadAnswer im bytes tag = cond (oneUser bytes) (verdictCode (mayReadOf im (sessionIn bytes) tag)) (afterCheck im SessionRules)
+mayReadAnswer im bytes tag = verdictCode (withSession im bytes verdict.Refused (λ s. mayReadOf im s tag))
 
 abbrev pub mayWriteAnswer : List ℕ → List ℕ → ℕ → ℕ
-mayWriteAnswer im bytes tag = cond (oneUser bytes) (verdictCode (mayWriteOf im (sessionIn bytes) tag)) (afterCheck im SessionRules)
+mayWriteAnswer im bytes tag = verdictCode (withSession im bytes verdict.Refused (λ s. mayWriteOf im s tag))

@@ -1,41 +1,33 @@
--- The C functions on tables. A session of two users is 19, after 1, 2, 3.
+-- The C functions on tables.
 use Prim.Native.Nat.{ℕ}
-use mathlib.Core.Bool.{cond}
 use mathlib.Core.List.{List}
-use Rattle.refusals.specs.Refusals.{answerOf}
-use Rattle.refusals.specs.declared.Refusal.the-variants.{SessionRules}
-use Rattle.refusals.specs.declared.answers.Checked.{Checked}
-use Rattle.refusals.specs.Answers.{onChecked}
+use Rattle.refusals.specs.declared.answers.Checked.the-variants.{Refused}
+use Rattle.refusals.specs.declared.answers.Verdict.the-variants as verdict
+use Rattle.refusals.specs.Answers.{Given, done, refusalGiven, checkedGiven}
 use Rattle.rows.specs.Reading.{readRowsOf}
 use Rattle.rows.specs.Updating.{updateRowOf}
 use Rattle.rows.specs.Masked.{maskedVerdictOf}
 use Rattle.rows.specs.declared.answers.RowsRead.{RowsRead}
 use Rattle.rows.specs.declared.answers.RowsRead.the-variants as read
-use Rattle.encoding.specs.Sessions.{sessionIn, oneUser}
 use Rattle.encoding.specs.Verdicts.{verdictCode}
-use Rattle.abi.specs.Answers.{afterCheck}
+use Rattle.abi.specs.Answers.{coded, withSession}
 
--- ---- `brawnesk_read`: the count of rows or the refusal, and the buffer after it
-abbrev pub readCode : RowsRead → ℕ
-readCode (read.Done count) = count
-readCode (read.Refused r) = answerOf r
-
-abbrev pub readInto : RowsRead × List ℕ → ℕ × List ℕ
-readInto result = (readCode (result .0), result .1)
+-- ---- `brawnesk_read`: the answer, and the buffer after it
+-- what reading rows gives back: how many
+abbrev pub rowsGiven : RowsRead → Given
+rowsGiven (read.Done count) = done count
+rowsGiven (read.Refused r) = refusalGiven r
 
 abbrev pub readAnswer : List ℕ → List ℕ → List ℕ → ℕ → List ℕ → ℕ × List ℕ
 readAnswer im bytes table width buffer =
-    cond (oneUser bytes) (readInto (readRowsOf im (sessionIn bytes) table width buffer)) (afterCheck im SessionRules, buffer)
+    coded rowsGiven (withSession im bytes (λ r. (read.Refused r, buffer)) (λ s. readRowsOf im s table width buffer))
 
 -- ---- `brawnesk_update`: 0 or the refusal, and the table after it
-abbrev pub updateInto : Checked × List ℕ → ℕ × List ℕ
-updateInto result = (onChecked (result .0) answerOf 0, result .1)
-
 abbrev pub updateAnswer : List ℕ → List ℕ → List ℕ → ℕ → ℕ → List ℕ → ℕ × List ℕ
 updateAnswer im bytes table width n payload =
-    cond (oneUser bytes) (updateInto (updateRowOf im (sessionIn bytes) table width n payload)) (afterCheck im SessionRules, table)
+    coded checkedGiven (withSession im bytes (λ r. (Refused r, table)) (λ s. updateRowOf im s table width n payload))
 
 -- ---- `brawnesk_masked`: 1 where the payload is handed out, which stands at `payloadOffset`; 0 where the mask is
 abbrev pub maskedAnswer : List ℕ → List ℕ → List ℕ → ℕ → ℕ → ℕ
 maskedAnswer im bytes table width place =
-    cond (oneUser bytes) (verdictCode (maskedVerdictOf im (sessionIn bytes) table width place)) (afterCheck im SessionRules)
+    verdictCode (withSession im bytes verdict.Refused (λ s. maskedVerdictOf im s table width place))

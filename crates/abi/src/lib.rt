@@ -1,13 +1,13 @@
 // The C functions. Each takes the bytes apart, makes the call and lays its answer down in one number.
-ghost use Prim.Native.Nat.{_^_, _<_};
 ghost use mathlib.Core.Path.{_≡_};
-ghost use Rattle.refusals.specs.Refusals.{placeOf};
+ghost use Rattle.refusals.specs.Answers.{PlaceFits, refusalGiven, codeOf, answerOf};
 ghost use Rattle.abi.specs.Answers.{afterCheck, checkAnswer, nameSpan};
-ghost use Rattle.abi.specs.Labels.{parseAnswer, printAnswer};
+ghost use Rattle.abi.specs.Labels.{parseAnswer, printedGiven, printAnswer};
 ghost use Rattle.abi.specs.Sessions.{openAnswer, setLabelAnswer, setRowLabelAnswer, mayReadAnswer, mayWriteAnswer};
-ghost use Rattle.abi.specs.Tables.{readAnswer, updateAnswer, maskedAnswer};
+ghost use Rattle.abi.specs.Tables.{rowsGiven, readAnswer, updateAnswer, maskedAnswer};
 ghost use Rattle.abi.specs.TwoLabels.{dominatesAnswer, strictlyDominatesAnswer, mergeAnswer};
 use dominance::merging::Merged;
+use encoding::answers::checked_code;
 use encoding::answers::refused;
 use encoding::answers::verdict_code;
 use encoding::bytes48;
@@ -25,11 +25,7 @@ use sessions::answers::Opened;
 pub extern "C" fn brawnesk_check(image: &[u8]) -> u64
     ensures { λ r. ⌜ r ≡ checkAnswer (now (image .entry)) ⌝ }
 {
-    let answer = image::check(image);
-    match answer {
-        Checked::Accepted => 0,
-        Checked::Refused(refusal) => refused(refusal),
-    }
+    checked_code(image::check(image))
 }
 
 // Where the name of the component of that class and place stands. Done: its offset in the image + 65,536 × its length.
@@ -50,8 +46,8 @@ pub extern "C" fn brawnesk_name(image: &[u8], class: u8, place: u8) -> u64
 
 // The refusal of the image, and of an accepted one that refusal.
 fn after_check(image: &[u8], refusal: Refusal) -> u64
-    requires { ⌜ placeOf refusal < 2 ^ 32 ⌝ }
-    ensures { λ r. ⌜ r ≡ afterCheck (now (image .entry)) refusal ⌝ }
+    requires { ⌜ PlaceFits (refusalGiven refusal) ⌝ }
+    ensures { λ r. ⌜ r ≡ answerOf (afterCheck (now (image .entry)) refusal) ⌝ }
 {
     let answer = image::check(image);
     match answer {
@@ -76,19 +72,26 @@ pub extern "C" fn brawnesk_parse(image: &[u8], text: &[u8], label: &mut [u8; 48]
     }
 }
 
+// The text's length, or the refusal.
+fn printed_code(answer: Printed) -> u64
+    requires { ⌜ PlaceFits (printedGiven answer) ⌝ }
+    ensures { λ r. ⌜ r ≡ codeOf (printedGiven answer) ⌝ }
+{
+    match answer {
+        Printed::Done(n) => n as u64,
+        Printed::Refused(r) => refused(r),
+    }
+}
+
 // The label's text at the front of the buffer. Done: its length.
 #[no_mangle]
 pub extern "C" fn brawnesk_print(image: &[u8], label: &[u8; 48], text: &mut [u8]) -> u64
     ensures { λ r. ⌜ (r, now (text .exit)) ≡ printAnswer (now (image .entry)) (now (label .entry)) (now (text .entry)) ⌝ }
 {
-    if !bytes48::few_groups(label) {
+    if !bytes48::only_low_groups(label) {
         return after_check(image, Refusal::NoComponent);
     }
-    let answer = printing::print(image, bytes48::label_in(label), text);
-    match answer {
-        Printed::Done(n) => n as u64,
-        Printed::Refused(r) => refused(r),
-    }
+    printed_code(printing::print(image, bytes48::label_in(label), text))
 }
 
 // Opens a session for the user of that name. Done: 0.
@@ -152,6 +155,17 @@ pub extern "C" fn brawnesk_may_write(image: &[u8], session: &[u8; 104], tag: u32
     verdict_code(bytes104::session_in(session).may_write(image, tag))
 }
 
+// How many rows, or the refusal.
+fn rows_code(answer: RowsRead) -> u64
+    requires { ⌜ PlaceFits (rowsGiven answer) ⌝ }
+    ensures { λ r. ⌜ r ≡ codeOf (rowsGiven answer) ⌝ }
+{
+    match answer {
+        RowsRead::Done(count) => count as u64,
+        RowsRead::Refused(r) => refused(r),
+    }
+}
+
 // Copies the rows that the session may read to the front of `out`. Done: how many.
 #[no_mangle]
 pub extern "C" fn brawnesk_read(
@@ -166,11 +180,7 @@ pub extern "C" fn brawnesk_read(
     if !bytes104::session_fits(session) {
         return after_check(image, Refusal::SessionRules);
     }
-    let answer = rows::read(image, bytes104::session_in(session), table, width, out);
-    match answer {
-        RowsRead::Done(count) => count as u64,
-        RowsRead::Refused(r) => refused(r),
-    }
+    rows_code(rows::read(image, bytes104::session_in(session), table, width, out))
 }
 
 // Replaces the payload of the n-th row, from 0, among those that the session may read. Done: 0.
@@ -188,18 +198,14 @@ pub extern "C" fn brawnesk_update(
     if !bytes104::session_fits(session) {
         return after_check(image, Refusal::SessionRules);
     }
-    let answer = rows::update(
+    checked_code(rows::update(
         image,
         bytes104::session_in(session),
         table,
         width,
         n,
         payload,
-    );
-    match answer {
-        Checked::Accepted => 0,
-        Checked::Refused(r) => refused(r),
-    }
+    ))
 }
 
 // Is the payload of the row at that place handed out? Places count from 0 among all rows. Done: 1, the payload, at place × width + 4; 0,

@@ -1,8 +1,9 @@
 -- A label in 48 bytes: byte 4 the level place, 8..15 compartments, 16..47 groups, little-endian sets. The other bytes are written as zero and not looked at.
-use Prim.Native.Nat.{ℕ, _+_, _*_, _/_, _%_, _^_}
+use Prim.Native.Nat.{ℕ, _+_, _*_, _/_, _%_, _^_, _<_}
 use mathlib.Core.List.{List, [], _∷_, _++_}
 use lib.ListN.{replicate}
 use Rattle.fields.specs.Bytes.{byteAt, number8}
+use Rattle.sets.specs.Groups.{width}
 use Rattle.labels.specs.Label.{Marks}
 
 -- the eight bytes of a word, the lowest first
@@ -15,18 +16,24 @@ unfoldable pub labelBytes : Marks → List ℕ
 labelBytes m =
     0 ∷ 0 ∷ 0 ∷ 0 ∷ m .level ∷ 0 ∷ 0 ∷ 0 ∷ bytes8 (m .compartments) ++ bytes8 (m .groups) ++ replicate 24 0
 
+-- each part of the label fits its bytes, as it does in every label of the code: a level of one byte, compartments of eight, and groups
+pub record LabelFits (m : Marks) : Type 0 where
+  pub level : m .level < 2 ^ 8
+  pub compartments : m .compartments < 2 ^ 64
+  pub groups : m .groups < 2 ^ width
+
 -- the places of a word, and those of a set past the 64th
-unfoldable pub above : ℕ → ℕ → ℕ
-above word rest = word + 2 ^ 64 * rest
+unfoldable pub wordThen : ℕ → ℕ → ℕ
+wordThen word rest = word + 2 ^ 64 * rest
 
 -- the groups past the 64th
-abbrev pub high : List ℕ → ℕ
-high bytes = above (number8 bytes 24) (above (number8 bytes 32) (number8 bytes 40))
+abbrev pub highGroups : List ℕ → ℕ
+highGroups bytes = wordThen (number8 bytes 24) (wordThen (number8 bytes 32) (number8 bytes 40))
 
 -- the label that 48 bytes hold; the bytes that no field has are not looked at
 unfoldable pub labelIn : List ℕ → Marks
 labelIn bytes =
-    record { level = byteAt bytes 4; compartments = number8 bytes 8; groups = above (number8 bytes 16) (high bytes) }
+    record { level = byteAt bytes 4; compartments = number8 bytes 8; groups = wordThen (number8 bytes 16) (highGroups bytes) }
 
 -- the label that 48 bytes hold, but for the groups past the 64th, for calls that are lent no image
 unfoldable pub lowLabelIn : List ℕ → Marks

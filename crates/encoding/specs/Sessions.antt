@@ -1,18 +1,24 @@
 -- A session in 104 bytes: byte 0 the user's place, byte 1 the signed-on user's place, which equals it; 2..7 are written as zero and
 -- not looked at; 8..55 session label; 56..103 row label.
-use Prim.Native.Nat.{ℕ}
-use mathlib.Core.Bool.{Bool, _&&_}
+use Prim.Native.Nat.{ℕ, _^_, _<_}
+use mathlib.Core.Path.{_≡_}
+use mathlib.Core.Bool.{Bool, true, _&&_}
 use mathlib.Core.List.{List, _∷_, _++_}
 use lib.Dec.{eqb}
 use Rattle.fields.specs.Bytes.{byteAt, part}
-use Rattle.refusals.specs.Refusals.{placeOf, answerOf}
 use Rattle.refusals.specs.declared.answers.Checked.{Checked}
-use Rattle.refusals.specs.declared.answers.Checked.the-variants.{Accepted, Refused}
+use Rattle.refusals.specs.Answers.{onChecked, checkedGiven, codeOf}
 use Rattle.sessions.specs.Session.{SessionMarks}
-use Rattle.encoding.specs.Labels.{labelBytes, labelIn, high}
+use Rattle.encoding.specs.Labels.{labelBytes, labelIn, highGroups, LabelFits}
 
 unfoldable pub sessionBytes : SessionMarks → List ℕ
 sessionBytes s = s .user ∷ s .user ∷ 0 ∷ 0 ∷ 0 ∷ 0 ∷ 0 ∷ 0 ∷ labelBytes (s .label) ++ labelBytes (s .row)
+
+-- each part of the session fits its bytes
+pub record SessionPartsFit (s : SessionMarks) : Type 0 where
+  pub user : s .user < 2 ^ 8
+  pub label : LabelFits (s .label)
+  pub row : LabelFits (s .row)
 
 -- the session that 104 bytes hold
 unfoldable pub sessionIn : List ℕ → SessionMarks
@@ -22,16 +28,15 @@ sessionIn bytes = record { user = byteAt bytes 0; label = labelIn (part bytes 8 
 abbrev pub oneUser : List ℕ → Bool
 oneUser bytes = eqb (byteAt bytes 1) (byteAt bytes 0)
 
+-- the bytes hold that session, and its one user is signed on
+pub record Holds (bytes : List ℕ) (s : SessionMarks) : Type 0 where
+  pub one : oneUser bytes ≡ true
+  pub session : sessionIn bytes ≡ s
+
 -- one user, and no group past the 64th in either label: such groups no image has
 unfoldable pub sessionFits : List ℕ → Bool
-sessionFits bytes = oneUser bytes && eqb (high (part bytes 8 48)) 0 && eqb (high (part bytes 56 48)) 0
+sessionFits bytes = oneUser bytes && eqb (highGroups (part bytes 8 48)) 0 && eqb (highGroups (part bytes 56 48)) 0
 
 -- what a label change leaves: 0 and the session, or the refusal and the bytes as they were
 abbrev pub changedInto : SessionMarks → Checked → List ℕ → ℕ × List ℕ
-changedInto s Accepted old = (0, sessionBytes s)
-changedInto s (Refused r) old = (answerOf r, old)
-
--- the place that an answer's refusal tells
-abbrev pub answerPlace : Checked → ℕ
-answerPlace Accepted = 0
-answerPlace (Refused r) = placeOf r
+changedInto s answer old = (codeOf (checkedGiven answer), onChecked answer (λ r. old) (sessionBytes s))

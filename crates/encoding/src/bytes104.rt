@@ -1,21 +1,21 @@
 // A session in 104 bytes.
-ghost use Prim.Native.Nat.{_^_, _<_};
 ghost use mathlib.Core.Path.{_≡_};
 ghost use mathlib.Core.Bool.{true};
 ghost use lib.ListN.{length};
+ghost use Rattle.refusals.specs.Answers.{PlaceFits, checkedGiven};
 ghost use Rattle.sessions.specs.Session.{sessionOf};
-ghost use Rattle.encoding.specs.Sessions.{sessionBytes, sessionIn, sessionFits, changedInto, answerPlace};
+ghost use Rattle.encoding.specs.Sessions.{sessionBytes, sessionIn, sessionFits, changedInto};
 use crate::answers::refused;
-use crate::bytes48::few_groups;
 use crate::bytes48::label_bytes;
 use crate::bytes48::label_in;
+use crate::bytes48::only_low_groups;
 use refusals::answers::Checked;
 use sessions::answers::Changed;
 use sessions::session::Session;
 
-// Each byte of the session; the unused ones are zero.
+// Each byte of the session; the unused ones are zero. They read back as the session.
 pub fn session_bytes(session: Session) -> [u8; 104]
-    ensures { λ r. ⌜ r ≡ sessionBytes (sessionOf session) ⌝ }
+    ensures { λ r. ⌜ (r ≡ sessionBytes (sessionOf session)) × (sessionIn r ≡ sessionOf session) ⌝ }
 {
     let mut b = [0u8; 104];
     b[0] = session.user;
@@ -32,7 +32,7 @@ pub fn session_fits(bytes: &[u8]) -> bool
     requires { ⌜ length (now bytes) ≡ 104 ⌝ }
     ensures { λ r. ⌜ r ≡ sessionFits (now (bytes .entry)) ⌝ }
 {
-    (bytes[1] == bytes[0]) & few_groups(&bytes[8..56]) & few_groups(&bytes[56..104])
+    (bytes[1] == bytes[0]) & only_low_groups(&bytes[8..56]) & only_low_groups(&bytes[56..104])
 }
 
 // The session that the bytes hold, where they name no other groups.
@@ -49,7 +49,7 @@ pub fn session_in(bytes: &[u8]) -> Session
 
 // Lays a changed session down; a refusal leaves the bytes as they were.
 pub fn store(session: &mut [u8; 104], change: Changed) -> u64
-    requires { ⌜ answerPlace (change .answer) < 2 ^ 32 ⌝ }
+    requires { ⌜ PlaceFits (checkedGiven (change .answer)) ⌝ }
     ensures { λ r. ⌜ (r, now (session .exit)) ≡ changedInto (sessionOf (change .session)) (change .answer) (now (session .entry)) ⌝ }
 {
     let answer = change.answer;

@@ -2,12 +2,11 @@
 use Prim.Native.Nat.{ℕ, zero-le, _+_, _-_, _≤_, _<_}
 use mathlib.Core.Path.{_≡_, refl, sym, ap, _∙_, subst}
 use mathlib.Core.Bool.{Bool, true, false, cond, _&&_, false≢true}
-use mathlib.Core.List.{List, [], _∷_}
+use mathlib.Core.List.{List}
 use native.Mathlib.Nat.{sub-zero}
 use native.Mathlib.Omega.{arith}
 use borrow.Author.Tests.{ltb-false, le-ltb}
 use lib.Dec.{ltb}
-use lib.ListN.{getD, drop}
 use Rattle.fields.specs.Scan.{firstBad}
 use Rattle.fields.proofs.Both.{both-left, both-right}
 use Rattle.fields.proofs.Scan.{good-before, all-good}
@@ -20,15 +19,12 @@ use Rattle.records.specs.Rules.{layoutRule, firstBadRecord, contentRule}
 use Rattle.header.specs.Limits.{Counted}
 use Rattle.records.proofs.MeaningHeader.{counted}
 use Rattle.refusals.specs.declared.Refusal.{Refusal}
-use Rattle.refusals.specs.Refusals.{numberOf, valuesOf}
-use Rattle.refusals.proofs.Laws.{number-tells}
 use Rattle.hierarchy.specs.Below.{endsRule, belowRule, firstRing, firstBadBelow}
 use Rattle.image.specs.declared.faults.Fault.{Fault}
 use Rattle.image.specs.declared.faults.Fault.the-variants.{Sound, Length, Block, Layout, Component, Label, User, Ring}
 use Rattle.refusals.specs.declared.answers.Checked.{Checked}
 use Rattle.refusals.specs.declared.answers.Checked.the-variants.{Accepted, Refused}
 use Rattle.image.specs.Check.{firstBadContent, recordFault, contentFault, userFault, countedFault, faultOf, shownAs, checkOf, IsAccepted}
-use Rattle.refusals.specs.Answers.{givenBack}
 
 -- ---- telling sound from faulty
 abbrev isSound : Fault → Bool
@@ -51,18 +47,8 @@ faulty f e s = false≢true (sym e ∙ ap isSound s)
 refused : (c : Checked) → isAccepted c ≡ false → c ≡ Accepted → ⊥
 refused c e s = false≢true (sym e ∙ ap isAccepted s)
 
-none-some : (x : ℕ) (xs : List ℕ) → _≡_ {A = List ℕ} [] (x ∷ xs) → ⊥
-none-some x xs e = let z : _≡_ {A = ℕ} 0 1 = cc in omega arith
-
 pub refused-not : (r : Refusal) → Refused r ≡ Accepted → ⊥
 refused-not r e = refused (Refused r) refl e
-
--- the numbers given back tell the answer
-pub given-tells : (c d : Checked) → givenBack c ≡ givenBack d → c ≡ d
-given-tells Accepted Accepted e = refl
-given-tells Accepted (Refused r) e = absurd (none-some (numberOf r) (valuesOf r) e)
-given-tells (Refused r) Accepted e = absurd (none-some (numberOf r) (valuesOf r) (sym e))
-given-tells (Refused r) (Refused s) e = ap Refused (number-tells r s (ap (λ (l : List ℕ). getD l 0 0) e) (ap (λ (l : List ℕ). drop 1 l) e))
 
 shown-sound : (f : Fault) → shownAs f ≡ Accepted → f ≡ Sound
 shown-sound Sound e = refl

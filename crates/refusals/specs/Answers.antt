@@ -1,12 +1,14 @@
 -- Answers: done or refused, and a verdict. What each gives back, and how an answer goes on after another.
-use Prim.Native.Nat.{ℕ}
+use Prim.Native.Nat.{ℕ, _+_, _*_, _^_, _<_}
 use mathlib.Core.Bool.{Bool, true, false, cond}
-use mathlib.Core.List.{List, [], _∷_}
+use mathlib.Core.List.{List}
+use lib.ListN.{getD}
 use Rattle.refusals.specs.declared.Refusal.{Refusal}
 use Rattle.refusals.specs.declared.answers.Checked.{Checked}
 use Rattle.refusals.specs.declared.answers.Checked.the-variants.{Accepted, Refused}
 use Rattle.refusals.specs.declared.answers.Verdict.{Verdict}
 use Rattle.refusals.specs.declared.answers.Verdict.the-variants.{Yes, No}
+use Rattle.refusals.specs.declared.answers.Verdict.the-variants as verdict
 use Rattle.refusals.specs.Refusals.{numberOf, valuesOf}
 
 -- what is given where an answer accepts; else what its refusal gives
@@ -23,10 +25,45 @@ abbrev pub allowed : Checked → Bool
 allowed Accepted = true
 allowed (Refused r) = false
 
--- the numbers that an answer gives back: none, or the refusal's number and its values
-abbrev pub givenBack : Checked → List ℕ
-givenBack Accepted = []
-givenBack (Refused r) = numberOf r ∷ valuesOf r
-
+-- yes where the rule grants it
 abbrev pub verdictOf : Bool → Verdict
 verdictOf granted = cond granted Yes No
+
+-- ---- what is given back
+-- the value of a call that is done; or a number of document 01's table "Numbers given back", with the values returned beside it
+pub data Given : Type 0 where
+  done : ℕ → Given
+  refused : ℕ → List ℕ → Given
+
+-- by a refusal
+abbrev pub refusalGiven : Refusal → Given
+refusalGiven r = refused (numberOf r) (valuesOf r)
+
+-- by an answer: 0 where it accepts
+abbrev pub checkedGiven : Checked → Given
+checkedGiven Accepted = done 0
+checkedGiven (Refused r) = refusalGiven r
+
+-- by a verdict: 1 yes, 0 no
+abbrev pub verdictGiven : Verdict → Given
+verdictGiven Yes = done 1
+verdictGiven No = done 0
+verdictGiven (verdict.Refused r) = refusalGiven r
+
+-- the block or the offset returned beside a number; 0 where there is none
+abbrev pub placeGiven : Given → ℕ
+placeGiven (done value) = 0
+placeGiven (refused number values) = getD values 0 0
+
+-- which has 32 bits in the C functions' number
+abbrev pub PlaceFits : Given → Type 0
+PlaceFits given = placeGiven given < 2 ^ 32
+
+-- the C functions' number: below 2 ^ 63 the value, else 2 ^ 63 + number × 2 ^ 32 + place
+abbrev pub codeOf : Given → ℕ
+codeOf (done value) = value
+codeOf (refused number values) = 2 ^ 63 + number * 2 ^ 32 + getD values 0 0
+
+-- that of a refusal
+abbrev pub answerOf : Refusal → ℕ
+answerOf r = codeOf (refusalGiven r)

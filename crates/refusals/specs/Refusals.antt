@@ -1,6 +1,6 @@
 -- The table "Numbers given back" of the scope document: each refusal's number, and the values that are returned with it.
 -- Assumes nothing.
-use Prim.Native.Nat.{ℕ, _+_, _*_, _^_}
+use Prim.Native.Nat.{ℕ}
 use mathlib.Core.List.{List, [], _∷_}
 use lib.ListN.{getD}
 use Rattle.refusals.specs.declared.Refusal.{Refusal}
@@ -55,7 +55,3 @@ valuesOf SessionRules = []
 -- the block or the offset, and 0 where the table names none
 abbrev pub placeOf : Refusal → ℕ
 placeOf r = getD (valuesOf r) 0 0
-
--- the C functions' answer
-abbrev pub answerOf : Refusal → ℕ
-answerOf r = 2 ^ 63 + numberOf r * 2 ^ 32 + placeOf r

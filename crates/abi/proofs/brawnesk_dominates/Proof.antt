@@ -1,6 +1,6 @@
 use Rattle.encoding.specs.Labels.{lowLabelIn}
 use Rattle.dominance.specs.TwoLabels as two
-use Rattle.abi.proofs.Lending.{byte-cond}
+use Rattle.abi.proofs.Places.{byte-verdict}
 use borrow.Author.Needs.{needs}
 use Rattle.abi.proofs.brawnesk_dominates.Statement.{statement}
 use Rattle.abi.proofs.brawnesk_dominates.Tie as tie
@@ -21,7 +21,7 @@ returns : tie.Need-returns
 returns c =
     let a = c .before .before .before .before .before .args in
     rw (c .dominates .ensures, c .before .low-label-in2 .ensures, c .before .before .before .low-label-in .ensures)
-    (byte-cond (two.dominates (lowLabelIn (a .label1 .now)) (lowLabelIn (a .label2 .now))))
+    (byte-verdict (two.dominates (lowLabelIn (a .label1 .now)) (lowLabelIn (a .label2 .now))))
 
 pub brawnesk-dominates-spec : {M : Type 1} → statement M
 brawnesk-dominates-spec =

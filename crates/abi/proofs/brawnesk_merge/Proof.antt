@@ -1,4 +1,4 @@
-use Rattle.abi.proofs.Told.{merge-told}
+use Rattle.abi.proofs.Places.{merge-fits}
 use Rattle.dominance.specs.TwoLabels.{mergingOf}
 use mathlib.Core.Path.{sym, ap, _∙_}
 use borrow.Author.Needs.{needs}
@@ -24,13 +24,23 @@ enum-known-answer-2 : tie.Need-enum-known-answer-2
 enum-known-answer-2 c = search needs
 
 refused-requires : tie.Need-refused-requires
-refused-requires c κs = merge-told _ _ _ _ (sym (c .before .before .before .merge .ensures) ∙ ap mergingOf (c .before .answer2 .given .1))
+refused-requires c κs = merge-fits _ _ _ _ (sym (c .before .before .before .merge .ensures) ∙ ap mergingOf (c .before .answer2 .given .1))
 
 returns : tie.Need-returns
-returns c = rw (← c .before .before .before .before .before .before .before .low-label-in .ensures, ← c .before .before .before .before .before .low-label-in2 .ensures, ← c .before .before .before .before .merge .ensures, c .before .before .answer .given .1, c .label-bytes .ensures)
+returns c =
+    let told = c .before .before in
+    let called = told .before .before in
+    let second = called .before in
+    let first = second .before .before in
+    rw (← first .low-label-in .ensures, ← second .low-label-in2 .ensures, ← called .merge .ensures, told .answer .given .1, c .label-bytes .ensures .0)
 
 returns-2 : tie.Need-returns-2
-returns-2 c = rw (← c .before .before .before .before .before .before .before .low-label-in .ensures, ← c .before .before .before .before .before .low-label-in2 .ensures, ← c .before .before .before .before .merge .ensures, c .before .before .answer2 .given .1, c .refused .ensures)
+returns-2 c =
+    let told = c .before .before in
+    let called = told .before .before in
+    let second = called .before in
+    let first = second .before .before in
+    rw (← first .low-label-in .ensures, ← second .low-label-in2 .ensures, ← called .merge .ensures, told .answer2 .given .1, c .refused .ensures)
 
 pub brawnesk-merge-spec : {M : Type 1} → statement M
 brawnesk-merge-spec =

@@ -40,7 +40,9 @@ refused-requires : tie.Need-refused-requires
 refused-requires c κs = omega (arith, name-place _ _ _ _ (sym (c .before .before .before .name-answer .ensures) ∙ c .before .answer .given .1))
 
 returns : tie.Need-returns
-returns c = rw (← c .before .before .before .before .name-answer .ensures, c .before .before .enum-told .given .1, c .before .name-offset .ensures, c .name-length .ensures)
+returns c =
+    let told = c .before .before in
+    rw (← told .before .before .name-answer .ensures, told .enum-told .given .1, c .before .name-offset .ensures, c .name-length .ensures)
 
 returns-2 : tie.Need-returns-2
 returns-2 c = rw (← c .before .before .before .before .name-answer .ensures, c .before .before .answer .given .1) (c .refused .ensures)

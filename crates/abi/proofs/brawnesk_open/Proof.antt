@@ -1,4 +1,4 @@
-use Rattle.abi.proofs.Told.{open-told}
+use Rattle.abi.proofs.Places.{open-fits}
 use Rattle.sessions.specs.Opening.{openingOf}
 use mathlib.Core.Path.{sym, ap, _∙_}
 use borrow.Author.Needs.{needs}
@@ -18,10 +18,10 @@ enum-known-answer-2 : tie.Need-enum-known-answer-2
 enum-known-answer-2 c = search needs
 
 refused-requires : tie.Need-refused-requires
-refused-requires c κs = open-told _ _ _ (sym (c .before .before .before .open .ensures) ∙ ap openingOf (c .before .answer2 .given .1))
+refused-requires c κs = open-fits _ _ _ (sym (c .before .before .before .open .ensures) ∙ ap openingOf (c .before .answer2 .given .1))
 
 returns : tie.Need-returns
-returns c = rw (← c .before .before .before .before .open .ensures, c .before .before .answer .given .1, c .session-bytes .ensures)
+returns c = rw (← c .before .before .before .before .open .ensures, c .before .before .answer .given .1, c .session-bytes .ensures .0)
 
 returns-2 : tie.Need-returns-2
 returns-2 c = rw (← c .before .before .before .before .open .ensures, c .before .before .answer2 .given .1, c .refused .ensures)

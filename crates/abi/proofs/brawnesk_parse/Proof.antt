@@ -30,10 +30,12 @@ refused-requires-2 : tie.Need-refused-requires-2
 refused-requires-2 c κs = image-told _ _ _ (sym (c .before .before .before .parse .ensures) ∙ ap parsingOf (c .before .answer3 .given .1))
 
 returns : tie.Need-returns
-returns c = rw (← c .before .before .before .before .parse .ensures, c .before .before .answer .given .1, c .label-bytes .ensures)
+returns c = rw (← c .before .before .before .before .parse .ensures, c .before .before .answer .given .1, c .label-bytes .ensures .0)
 
 returns-2 : tie.Need-returns-2
-returns-2 c = rw (← c .before .before .before .before .before .parse .ensures, c .before .before .before .answer2 .given .1, c .refused .ensures, c .before .refusal .ensures)
+returns-2 c =
+    let told = c .before .before .before in
+    rw (← told .before .before .parse .ensures, told .answer2 .given .1, c .refused .ensures, c .before .refusal .ensures)
 
 returns-3 : tie.Need-returns-3
 returns-3 c = rw (← c .before .before .before .before .parse .ensures, c .before .before .answer3 .given .1, c .refused2 .ensures)

@@ -1,8 +1,12 @@
+use Prim.Native.Nat.{ℕ}
+use mathlib.Core.List.{List}
+use Rattle.rows.specs.declared.answers.RowsRead.{RowsRead}
 use mathlib.Core.Path.{sym, ap, _∙_}
 use borrow.Author.Tests.{not-true, not-false}
 use borrow.Author.Needs.{needs}
 use Rattle.encoding.proofs.Wide.{fits-means}
-use Rattle.abi.proofs.Rows.{unfit-read, read-told}
+use Rattle.abi.proofs.RowPlaces.{read-fits}
+use Rattle.abi.proofs.Unfit.{unfit-read}
 use Rattle.abi.proofs.brawnesk_read.Statement.{statement}
 use Rattle.abi.proofs.brawnesk_read.Tie as tie
 
@@ -13,7 +17,7 @@ after-check-requires : tie.Need-after-check-requires
 after-check-requires c κs = search needs
 
 returns : tie.Need-returns
-returns c = rw (c .after-check .ensures) (sym (unfit-read _ _ _ _ (sym (c .before .before .session-fits .ensures) ∙ not-true _ (c .before .if1 .taken)) _))
+returns c = rw (c .after-check .ensures) (sym (unfit-read _ _ (sym (c .before .before .session-fits .ensures) ∙ not-true _ (c .before .if1 .taken)) _ _ _))
 
 session-in-requires : tie.Need-session-in-requires
 session-in-requires c κs = (search needs, sym (c .before .before .session-fits .ensures) ∙ not-false _ (c .before .if1 .left))
@@ -21,26 +25,18 @@ session-in-requires c κs = (search needs, sym (c .before .before .session-fits 
 read-requires : tie.Need-read-requires
 read-requires c κs = search needs
 
-enum-known-answer : tie.Need-enum-known-answer
-enum-known-answer c = search needs
-
-enum-known-answer-2 : tie.Need-enum-known-answer-2
-enum-known-answer-2 c = search needs
-
-refused-requires : tie.Need-refused-requires
-refused-requires c κs = read-told _ _ _ _ _ _ (sym (ap (λ p. p .0) (c .before .before .before .before .before .read .ensures)) ∙ c .before .answer2 .given .1)
+rows-code-requires : tie.Need-rows-code-requires
+rows-code-requires c κs = rw (ap (λ (p : RowsRead × List ℕ). p .0) (c .before .before .read .ensures)) (read-fits _ _ _ _ _)
 
 same-length : tie.Need-same-length
 same-length c = search needs
 
 returns-2 : tie.Need-returns-2
-returns-2 c = rw (fits-means _ (sym (c .before .before .before .before .before .before .before .before .before .before .session-fits .ensures) ∙ not-false _ (c .before .before .before .before .before .before .before .before .before .if1 .left)) .one, ← c .before .before .before .before .before .before .before .session-in .ensures, ← c .before .before .before .before .before .read .ensures, c .before .answer .given .1)
-
-same-length-2 : tie.Need-same-length-2
-same-length-2 c = search needs
-
-returns-3 : tie.Need-returns-3
-returns-3 c = rw (fits-means _ (sym (c .before .before .before .before .before .before .before .before .before .before .before .session-fits .ensures) ∙ not-false _ (c .before .before .before .before .before .before .before .before .before .before .if1 .left)) .one, ← c .before .before .before .before .before .before .before .before .session-in .ensures, ← c .before .before .before .before .before .before .read .ensures, c .before .before .answer2 .given .1, c .refused .ensures)
+returns-2 c =
+    let called = c .before .before .before in
+    let fit = called .before .before .before .before in
+    let one = fits-means _ (sym (fit .before .session-fits .ensures) ∙ not-false _ (fit .if1 .left)) .one in
+    rw (one, ← called .before .before .session-in .ensures, ← called .read .ensures, c .rows-code .ensures)
 
 pub brawnesk-read-spec : {M : Type 1} → statement M
 brawnesk-read-spec =
@@ -51,10 +47,6 @@ brawnesk-read-spec =
     returns
     session-in-requires
     read-requires
-    enum-known-answer
-    enum-known-answer-2
-    refused-requires
+    rows-code-requires
     same-length
-    returns-2
-    same-length-2
-    returns-3)
+    returns-2)

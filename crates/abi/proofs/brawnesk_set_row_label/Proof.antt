@@ -1,9 +1,8 @@
-use Rattle.abi.proofs.Told.{set-row-label-told}
-use Rattle.sessions.specs.Changes.{setRowLabelOf}
+use Rattle.abi.proofs.Places.{set-row-label-fits}
 use Rattle.refusals.specs.declared.answers.Checked.{Checked}
 use Rattle.sessions.specs.Session.{SessionMarks}
 use Rattle.encoding.proofs.Wide.{fits-means}
-use Rattle.abi.proofs.WideSessions.{unfit-change}
+use Rattle.abi.proofs.Unfit.{unfit-set-row-label}
 use borrow.Author.Tests.{not-true, not-false}
 use mathlib.Core.Path.{sym, ap, _∙_}
 use borrow.Author.Needs.{needs}
@@ -17,8 +16,7 @@ after-check-requires : tie.Need-after-check-requires
 after-check-requires c κs = search needs
 
 returns : tie.Need-returns
-unfolding setRowLabelOf
-returns c = rw (c .after-check .ensures) (sym (unfit-change _ _ _ (sym (c .before .before .session-fits .ensures) ∙ not-true _ (c .before .if1 .taken))))
+returns c = rw (c .after-check .ensures) (sym (unfit-set-row-label _ _ (sym (c .before .before .session-fits .ensures) ∙ not-true _ (c .before .if1 .taken)) _))
 
 session-in-requires : tie.Need-session-in-requires
 session-in-requires c κs = (search needs, sym (c .before .before .before .session-fits .ensures) ∙ not-false _ (c .before .before .if1 .left))
@@ -27,10 +25,14 @@ set-row-label-requires : tie.Need-set-row-label-requires
 set-row-label-requires c κs = search needs
 
 store-requires : tie.Need-store-requires
-store-requires c κs = rw (ap (λ (p : SessionMarks × Checked). p .1) (c .before .set-row-label .ensures)) (set-row-label-told _ _ _)
+store-requires c κs = rw (ap (λ (p : SessionMarks × Checked). p .1) (c .before .set-row-label .ensures)) (set-row-label-fits _ _ _)
 
 returns-2 : tie.Need-returns-2
-returns-2 c = rw (fits-means _ (sym (c .before .before .before .before .before .before .before .session-fits .ensures) ∙ not-false _ (c .before .before .before .before .before .before .if1 .left)) .one, ← c .before .before .before .session-in .ensures, ← c .before .before .set-row-label .ensures) (c .store .ensures)
+returns-2 c =
+    let called = c .before .before in
+    let fit = called .before .before .before .before in
+    let one = fits-means _ (sym (fit .before .session-fits .ensures) ∙ not-false _ (fit .if1 .left)) .one in
+    rw (one, ← called .before .session-in .ensures, ← called .set-row-label .ensures) (c .store .ensures)
 
 pub brawnesk-set-row-label-spec : {M : Type 1} → statement M
 brawnesk-set-row-label-spec =

@@ -1,8 +1,12 @@
+use Prim.Native.Nat.{ℕ}
+use mathlib.Core.List.{List}
+use Rattle.refusals.specs.declared.answers.Checked.{Checked}
 use mathlib.Core.Path.{sym, ap, _∙_}
 use borrow.Author.Tests.{not-true, not-false}
 use borrow.Author.Needs.{needs}
 use Rattle.encoding.proofs.Wide.{fits-means}
-use Rattle.abi.proofs.Rows.{unfit-update, update-told}
+use Rattle.abi.proofs.RowPlaces.{update-fits}
+use Rattle.abi.proofs.Unfit.{unfit-update}
 use Rattle.abi.proofs.brawnesk_update.Statement.{statement}
 use Rattle.abi.proofs.brawnesk_update.Tie as tie
 
@@ -13,7 +17,7 @@ after-check-requires : tie.Need-after-check-requires
 after-check-requires c κs = search needs
 
 returns : tie.Need-returns
-returns c = rw (c .after-check .ensures) (sym (unfit-update _ _ _ _ (sym (c .before .before .session-fits .ensures) ∙ not-true _ (c .before .if1 .taken)) _ _))
+returns c = rw (c .after-check .ensures) (sym (unfit-update _ _ (sym (c .before .before .session-fits .ensures) ∙ not-true _ (c .before .if1 .taken)) _ _ _ _))
 
 session-in-requires : tie.Need-session-in-requires
 session-in-requires c κs = (search needs, sym (c .before .before .session-fits .ensures) ∙ not-false _ (c .before .if1 .left))
@@ -21,26 +25,18 @@ session-in-requires c κs = (search needs, sym (c .before .before .session-fits 
 update-requires : tie.Need-update-requires
 update-requires c κs = search needs
 
-enum-told : tie.Need-enum-told
-enum-told c = search needs
-
-enum-known-answer : tie.Need-enum-known-answer
-enum-known-answer c = search needs
-
-refused-requires : tie.Need-refused-requires
-refused-requires c κs = update-told _ _ _ _ _ _ _ (sym (ap (λ p. p .0) (c .before .before .before .before .before .update .ensures)) ∙ c .before .answer .given .1)
+checked-code-requires : tie.Need-checked-code-requires
+checked-code-requires c κs = rw (ap (λ (p : Checked × List ℕ). p .0) (c .before .before .update .ensures)) (update-fits _ _ _ _ _ _)
 
 same-length : tie.Need-same-length
 same-length c = search needs
 
 returns-2 : tie.Need-returns-2
-returns-2 c = rw (fits-means _ (sym (c .before .before .before .before .before .before .before .before .before .session-fits .ensures) ∙ not-false _ (c .before .before .before .before .before .before .before .before .if1 .left)) .one, ← c .before .before .before .before .before .before .session-in .ensures, ← c .before .before .before .before .update .ensures, c .enum-told .given .1)
-
-same-length-2 : tie.Need-same-length-2
-same-length-2 c = search needs
-
-returns-3 : tie.Need-returns-3
-returns-3 c = rw (fits-means _ (sym (c .before .before .before .before .before .before .before .before .before .before .before .session-fits .ensures) ∙ not-false _ (c .before .before .before .before .before .before .before .before .before .before .if1 .left)) .one, ← c .before .before .before .before .before .before .before .before .session-in .ensures, ← c .before .before .before .before .before .before .update .ensures, c .before .before .answer .given .1, c .refused .ensures)
+returns-2 c =
+    let called = c .before .before .before in
+    let fit = called .before .before .before .before in
+    let one = fits-means _ (sym (fit .before .session-fits .ensures) ∙ not-false _ (fit .if1 .left)) .one in
+    rw (one, ← called .before .before .session-in .ensures, ← called .update .ensures, c .checked-code .ensures)
 
 pub brawnesk-update-spec : {M : Type 1} → statement M
 brawnesk-update-spec =
@@ -51,10 +47,6 @@ brawnesk-update-spec =
     returns
     session-in-requires
     update-requires
-    enum-told
-    enum-known-answer
-    refused-requires
+    checked-code-requires
     same-length
-    returns-2
-    same-length-2
-    returns-3)
+    returns-2)

@@ -1,7 +1,6 @@
-use Rattle.encoding.specs.Verdicts.{verdictPlace}
+use Rattle.refusals.specs.Answers.{PlaceFits, verdictGiven}
 use Rattle.refusals.specs.declared.answers.Verdict.{Verdict}
 use mathlib.Core.Path.{subst}
-use Prim.Native.Nat.{_^_, _<_}
 use borrow.Author.Needs.{needs}
 use Rattle.encoding.proofs.answers.verdict_code.Statement.{statement}
 use Rattle.encoding.proofs.answers.verdict_code.Tie as tie
@@ -16,7 +15,7 @@ enum-known-verdict : tie.Need-enum-known-verdict
 enum-known-verdict c = search needs
 
 refused-requires : tie.Need-refused-requires
-refused-requires c κs = subst (λ (v : Verdict). verdictPlace v < 2 ^ 32) (c .before .verdict .given .1) (c .before .before .before .pre)
+refused-requires c κs = subst (λ (v : Verdict). PlaceFits (verdictGiven v)) (c .before .verdict .given .1) (c .before .before .before .pre)
 
 returns : tie.Need-returns
 returns c = search needs

@@ -2,6 +2,7 @@ use native.Mathlib.Omega.{arith}
 use Rattle.encoding.specs.Labels.{labelBytes}
 use Rattle.encoding.specs.Sessions.{sessionBytes}
 use borrow.Author.Needs.{needs}
+use Rattle.encoding.proofs.ReadBack.{session-kept}
 use Rattle.encoding.proofs.bytes104.session_bytes.Statement.{statement}
 use Rattle.encoding.proofs.bytes104.session_bytes.Tie as tie
 
@@ -43,14 +44,22 @@ part-b-start-2 c = search needs
 
 part-b-end-2 : tie.Need-part-b-end-2
 unfolding labelBytes
-part-b-end-2 c = rw (c .before .before .copy .ensures .1, c .before .before .before .before .before .before .label-bytes .ensures) (omega arith)
+part-b-end-2 c =
+    let copied = c .before .before in
+    let labels = copied .before .before .before in
+    rw (copied .copy .ensures .1, labels .before .label-bytes .ensures .0) (omega arith)
 
 copy-requires-2 : tie.Need-copy-requires-2
 copy-requires-2 c κs = search needs
 
 returns : tie.Need-returns
 unfolding sessionBytes labelBytes
-returns c = rw (c .before .copy2 .ensures .1, c .before .before .before .before .before .before .before .before .label-bytes2 .ensures, c .before .before .before .before .before .copy .ensures .1, c .before .before .before .before .before .before .before .before .before .label-bytes .ensures)
+returns c =
+    let copied = c .before .before .before .before .before in
+    let labels = copied .before .before .before in
+    let label = labels .before .label-bytes .ensures in
+    let row = labels .label-bytes2 .ensures in
+    session-kept _ _ _ _ label row (rw (c .before .copy2 .ensures .1, row .0, copied .copy .ensures .1, label .0))
 
 pub session-bytes-spec : {M : Type 1} → statement M
 session-bytes-spec =

@@ -9,33 +9,33 @@ shared-slice-read-result c = search needs
 shared-slice-read-result-2 : tie.Need-shared-slice-read-result-2
 shared-slice-read-result-2 c = search needs
 
-sub-few-groups : tie.Need-sub-few-groups
-sub-few-groups c = search needs
+sub-only-low-groups : tie.Need-sub-only-low-groups
+sub-only-low-groups c = search needs
 
-part-few-groups-start : tie.Need-part-few-groups-start
-part-few-groups-start c = search needs
+part-only-low-groups-start : tie.Need-part-only-low-groups-start
+part-only-low-groups-start c = search needs
 
-part-few-groups-end : tie.Need-part-few-groups-end
-part-few-groups-end c = search needs
+part-only-low-groups-end : tie.Need-part-only-low-groups-end
+part-only-low-groups-end c = search needs
 
-few-groups-requires : tie.Need-few-groups-requires
-few-groups-requires c κs = search needs
+only-low-groups-requires : tie.Need-only-low-groups-requires
+only-low-groups-requires c κs = search needs
 
-sub-few-groups-2 : tie.Need-sub-few-groups-2
-sub-few-groups-2 c = search needs
+sub-only-low-groups-2 : tie.Need-sub-only-low-groups-2
+sub-only-low-groups-2 c = search needs
 
-part-few-groups-start-2 : tie.Need-part-few-groups-start-2
-part-few-groups-start-2 c = search needs
+part-only-low-groups-start-2 : tie.Need-part-only-low-groups-start-2
+part-only-low-groups-start-2 c = search needs
 
-part-few-groups-end-2 : tie.Need-part-few-groups-end-2
-part-few-groups-end-2 c = search needs
+part-only-low-groups-end-2 : tie.Need-part-only-low-groups-end-2
+part-only-low-groups-end-2 c = search needs
 
-few-groups-requires-2 : tie.Need-few-groups-requires-2
-few-groups-requires-2 c κs = search needs
+only-low-groups-requires-2 : tie.Need-only-low-groups-requires-2
+only-low-groups-requires-2 c κs = search needs
 
 returns : tie.Need-returns
 unfolding sessionFits
-returns c = rw (c .before .before .few-groups .ensures, c .few-groups2 .ensures)
+returns c = rw (c .before .before .only-low-groups .ensures, c .only-low-groups2 .ensures)
 
 pub session-fits-spec : {M : Type 1} → statement M
 session-fits-spec =
@@ -43,12 +43,12 @@ session-fits-spec =
     (tie.spec
     shared-slice-read-result
     shared-slice-read-result-2
-    sub-few-groups
-    part-few-groups-start
-    part-few-groups-end
-    few-groups-requires
-    sub-few-groups-2
-    part-few-groups-start-2
-    part-few-groups-end-2
-    few-groups-requires-2
+    sub-only-low-groups
+    part-only-low-groups-start
+    part-only-low-groups-end
+    only-low-groups-requires
+    sub-only-low-groups-2
+    part-only-low-groups-start-2
+    part-only-low-groups-end-2
+    only-low-groups-requires-2
     returns)

@@ -1,7 +1,6 @@
-use Rattle.encoding.specs.Sessions.{answerPlace}
+use Rattle.refusals.specs.Answers.{PlaceFits, checkedGiven}
 use Rattle.refusals.specs.declared.answers.Checked.{Checked}
 use mathlib.Core.Path.{subst}
-use Prim.Native.Nat.{_^_, _<_}
 use borrow.Author.Needs.{needs}
 use Rattle.encoding.proofs.bytes104.store.Statement.{statement}
 use Rattle.encoding.proofs.bytes104.store.Tie as tie
@@ -16,10 +15,10 @@ enum-known-answer : tie.Need-enum-known-answer
 enum-known-answer c = search needs
 
 refused-requires : tie.Need-refused-requires
-refused-requires c κs = subst (λ (a : Checked). answerPlace a < 2 ^ 32) (c .before .answer .given .1) (c .before .before .before .before .pre)
+refused-requires c κs = subst (λ (a : Checked). PlaceFits (checkedGiven a)) (c .before .answer .given .1) (c .before .before .before .before .pre)
 
 returns : tie.Need-returns
-returns c = rw (c .before .enum-told .given .1, c .session-bytes .ensures)
+returns c = rw (c .before .enum-told .given .1, c .session-bytes .ensures .0)
 
 returns-2 : tie.Need-returns-2
 returns-2 c = rw (c .before .before .answer .given .1, c .refused .ensures)

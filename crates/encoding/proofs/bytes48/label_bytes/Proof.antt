@@ -1,153 +1,82 @@
+use native.Mathlib.Omega.{arith}
 use borrow.Author.Needs.{needs}
+use Rattle.sets.proofs.Places.{places-below}
 use Rattle.hierarchy.proofs.Steps.{word-whole}
 use Rattle.encoding.specs.Labels.{labelBytes}
+use Rattle.encoding.proofs.ReadBack.{label-kept}
 use Rattle.encoding.proofs.bytes48.label_bytes.Statement.{statement}
 use Rattle.encoding.proofs.bytes48.label_bytes.Tie as tie
-
-word-requires : tie.Need-word-requires
-word-requires c κs = search needs
 
 array-write-b : tie.Need-array-write-b
 array-write-b c = search needs
 
-cast-b : tie.Need-cast-b
-cast-b c = search needs
+word-bytes-requires : tie.Need-word-bytes-requires
+word-bytes-requires c κs = search needs
 
-array-write-b-2 : tie.Need-array-write-b-2
-array-write-b-2 c = search needs
+word-requires : tie.Need-word-requires
+word-requires c κs = search needs
 
-cast-b-2 : tie.Need-cast-b-2
-cast-b-2 c = search needs
+word-bytes-requires-2 : tie.Need-word-bytes-requires-2
+word-bytes-requires-2 c κs = search needs
 
-array-write-b-3 : tie.Need-array-write-b-3
-array-write-b-3 c = search needs
+slice-aggregate-copy : tie.Need-slice-aggregate-copy
+slice-aggregate-copy c = search needs
 
-cast-b-3 : tie.Need-cast-b-3
-cast-b-3 c = search needs
+sub-copy : tie.Need-sub-copy
+sub-copy c = search needs
 
-array-write-b-4 : tie.Need-array-write-b-4
-array-write-b-4 c = search needs
+part-b-start : tie.Need-part-b-start
+part-b-start c = search needs
 
-cast-b-4 : tie.Need-cast-b-4
-cast-b-4 c = search needs
+part-b-end : tie.Need-part-b-end
+part-b-end c = search needs
 
-array-write-b-5 : tie.Need-array-write-b-5
-array-write-b-5 c = search needs
+copy-requires : tie.Need-copy-requires
+copy-requires c κs = search needs
 
-cast-b-5 : tie.Need-cast-b-5
-cast-b-5 c = search needs
+slice-aggregate-copy-2 : tie.Need-slice-aggregate-copy-2
+slice-aggregate-copy-2 c = search needs
 
-array-write-b-6 : tie.Need-array-write-b-6
-array-write-b-6 c = search needs
+sub-copy-2 : tie.Need-sub-copy-2
+sub-copy-2 c = search needs
 
-cast-b-6 : tie.Need-cast-b-6
-cast-b-6 c = search needs
+part-b-start-2 : tie.Need-part-b-start-2
+part-b-start-2 c = search needs
 
-array-write-b-7 : tie.Need-array-write-b-7
-array-write-b-7 c = search needs
+part-b-end-2 : tie.Need-part-b-end-2
+part-b-end-2 c =
+    let copied = c .before .before in
+    let words = copied .before .before .before in
+    rw (copied .copy .ensures .1, words .before .before .before .word-bytes .ensures) (omega arith)
 
-cast-b-7 : tie.Need-cast-b-7
-cast-b-7 c = search needs
-
-array-write-b-8 : tie.Need-array-write-b-8
-array-write-b-8 c = search needs
-
-cast-b-8 : tie.Need-cast-b-8
-cast-b-8 c = search needs
-
-array-write-b-9 : tie.Need-array-write-b-9
-array-write-b-9 c = search needs
-
-cast-b-9 : tie.Need-cast-b-9
-cast-b-9 c = search needs
-
-array-write-b-10 : tie.Need-array-write-b-10
-array-write-b-10 c = search needs
-
-cast-b-10 : tie.Need-cast-b-10
-cast-b-10 c = search needs
-
-array-write-b-11 : tie.Need-array-write-b-11
-array-write-b-11 c = search needs
-
-cast-b-11 : tie.Need-cast-b-11
-cast-b-11 c = search needs
-
-array-write-b-12 : tie.Need-array-write-b-12
-array-write-b-12 c = search needs
-
-cast-b-12 : tie.Need-cast-b-12
-cast-b-12 c = search needs
-
-array-write-b-13 : tie.Need-array-write-b-13
-array-write-b-13 c = search needs
-
-cast-b-13 : tie.Need-cast-b-13
-cast-b-13 c = search needs
-
-array-write-b-14 : tie.Need-array-write-b-14
-array-write-b-14 c = search needs
-
-cast-b-14 : tie.Need-cast-b-14
-cast-b-14 c = search needs
-
-array-write-b-15 : tie.Need-array-write-b-15
-array-write-b-15 c = search needs
-
-cast-b-15 : tie.Need-cast-b-15
-cast-b-15 c = search needs
-
-array-write-b-16 : tie.Need-array-write-b-16
-array-write-b-16 c = search needs
-
-cast-b-16 : tie.Need-cast-b-16
-cast-b-16 c = search needs
-
-array-write-b-17 : tie.Need-array-write-b-17
-array-write-b-17 c = search needs
+copy-requires-2 : tie.Need-copy-requires-2
+copy-requires-2 c κs = search needs
 
 returns : tie.Need-returns
 unfolding labelBytes
 returns c =
-    let w = word-whole _ _ (c .word .ensures) in
-    rw w
+    let copied = c .before .before .before .before .before in
+    let words = copied .before .before .before in
+    let w = word-whole _ _ (words .before .word .ensures) in
+    label-kept _ _ record { level = search needs; compartments = search needs; groups = places-below _ }
+    (rw (c .before .copy2 .ensures .1, words .word-bytes2 .ensures, copied .copy .ensures .1, words .before .before .before .word-bytes .ensures, w))
 
 pub label-bytes-spec : {M : Type 1} → statement M
 label-bytes-spec =
     tie.close
     (tie.spec
-    word-requires
     array-write-b
-    cast-b
-    array-write-b-2
-    cast-b-2
-    array-write-b-3
-    cast-b-3
-    array-write-b-4
-    cast-b-4
-    array-write-b-5
-    cast-b-5
-    array-write-b-6
-    cast-b-6
-    array-write-b-7
-    cast-b-7
-    array-write-b-8
-    cast-b-8
-    array-write-b-9
-    cast-b-9
-    array-write-b-10
-    cast-b-10
-    array-write-b-11
-    cast-b-11
-    array-write-b-12
-    cast-b-12
-    array-write-b-13
-    cast-b-13
-    array-write-b-14
-    cast-b-14
-    array-write-b-15
-    cast-b-15
-    array-write-b-16
-    cast-b-16
-    array-write-b-17
+    word-bytes-requires
+    word-requires
+    word-bytes-requires-2
+    slice-aggregate-copy
+    sub-copy
+    part-b-start
+    part-b-end
+    copy-requires
+    slice-aggregate-copy-2
+    sub-copy-2
+    part-b-start-2
+    part-b-end-2
+    copy-requires-2
     returns)
