@@ -8,6 +8,7 @@ use Rattle.header.specs.Layout.{labels, labelRecord}
 use Rattle.records.specs.Fields.{labelLevel, labelCompartments, labelGroups}
 use Rattle.image.specs.Lookup.{labelOfTag}
 use Rattle.labels.specs.Label.{Marks}
+use Rattle.labels.specs.GroupTest.{groupTest}
 use Rattle.access.specs.Rights.{Rights, between, rightsAt, maximumReadLabel}
 
 -- ---- privileges: bits 1, 2 and 4 of the record's byte are places 0, 1 and 2 of it as a set
@@ -38,7 +39,7 @@ readLevelRule rights row = leb (row .level) (rights .level)
 
 -- row groups empty, or one of them in below(session groups)
 unfoldable pub readGroupsRule : Rights → Marks → Bool
-readGroupsRule rights row = empty (row .groups) || meets (row .groups) (rights .belowGroups)
+readGroupsRule rights row = groupTest (rights .belowGroups) (row .groups)
 
 -- row compartments all in the session's
 unfoldable pub readCompartmentsRule : Rights → Marks → Bool
