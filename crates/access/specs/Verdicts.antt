@@ -7,7 +7,7 @@ use Rattle.sets.specs.Sets.{has, empty, within, meets}
 use Rattle.header.specs.Layout.{labels, labelRecord}
 use Rattle.records.specs.Fields.{labelLevel, labelCompartments, labelGroups}
 use Rattle.image.specs.Lookup.{labelOfTag}
-use Rattle.labels.specs.Label.{Marks}
+use Rattle.labels.specs.Label.{Marks, marks}
 use Rattle.labels.specs.GroupTest.{groupTest}
 use Rattle.access.specs.Rights.{Rights, between, rightsAt, maximumReadLabel}
 
@@ -96,7 +96,7 @@ writesLabel rights row = writesAll rights || writeTests rights row
 -- the label of the k-th label record
 unfoldable pub labelAt : List ℕ → ℕ → Marks
 labelAt im k =
-    let rec = labelRecord im k in record { level = labelLevel rec; compartments = labelCompartments rec; groups = labelGroups rec }
+    let rec = labelRecord im k in marks (labelLevel rec) (labelCompartments rec) (labelGroups rec)
 
 -- a label carries the tag
 unfoldable pub knownTag : List ℕ → ℕ → Bool

@@ -14,8 +14,11 @@ pub record Marks : Type 0 where
   pub compartments : ℕ
   pub groups : ℕ
 
+abbrev pub marks : ℕ → ℕ → ℕ → Marks
+marks level compartments groups = record { level = level; compartments = compartments; groups = groups }
+
 abbrev pub marksOf : Label → Marks
-marksOf l = record { level = l .level; compartments = l .compartments; groups = placesOf (l .groups) }
+marksOf l = marks (l .level) (l .compartments) (placesOf (l .groups))
 
 -- the policy has every component that the label names
 unfoldable pub labelExists : List ℕ → Marks → Bool
