@@ -14,7 +14,7 @@ use Rattle.sets.proofs.Meets.{meets-mono}
 use Rattle.image.specs.Lookup.{labelOfTag}
 use Rattle.labels.specs.Label.{Marks}
 use Rattle.labels.specs.GroupTest.{groupTest}
-use Rattle.access.specs.Rights.{Rights}
+use Rattle.access.specs.Rights.{Rights, withPrivileges}
 use Rattle.access.specs.Verdicts.{placeOfRead, placeOfFull, placeOfCompaccess, readsAll, writesAll, holdsCompaccess, readLevelRule, readGroupsRule, readCompartmentsRule, compaccessReads, readTests, writeLevelRule, writeGroupsRule, writeCompartmentsRule, writeSetsRule, compaccessWrites, writeTests, readsLabel, writesLabel, labelAt, knownTag, mayRead, mayWrite}
 use Rattle.access.proofs.Tests.{and-mono, or-mono, cond-mono}
 
@@ -116,16 +116,7 @@ module _ (a b : Rights) where
 
 -- ---- COMPACCESS never takes a row away
 abbrev pub withCompaccess : Rights → Rights
-withCompaccess a =
-    record {
-      level = a .level;
-      compartments = a .compartments;
-      belowGroups = a .belowGroups;
-      writeCompartments = a .writeCompartments;
-      writeGroups = a .writeGroups;
-      minimum = a .minimum;
-      privileges = union (a .privileges) (one placeOfCompaccess);
-    }
+withCompaccess a = withPrivileges (union (a .privileges) (one placeOfCompaccess)) a
 
 module _ (a : Rights) where
   compaccess-more : MoreWriting a (withCompaccess a)
