@@ -46,8 +46,10 @@ enum-told-2 c = search needs
 returns-2 : tie.Need-returns-2
 returns-2 c =
     let asked = c .before .before in
-    let tested = asked .before .before .before .before .before .before in
-    let start = tested .before .before .before .before .before .before in
+    let found = asked .before .before in
+    let tested = found .before .before .before .before in
+    let filled = tested .before .before .before in
+    let start = filled .before .before .before in
     let here : start .args .session .user < users (start .args .image .now) = omega arith in
     label-refused _ _ (start .pre) here _ (asked .session-label-answer .ensures) _ (c .enum-told2 .given .1)
 
@@ -67,7 +69,8 @@ returns-3 c =
     let asked = accepted .before .before in
     let found = asked .before .before in
     let tested = found .before .before .before .before in
-    let start = tested .before .before .before .before .before .before in
+    let filled = tested .before .before .before in
+    let start = filled .before .before .before in
     let here : start .args .session .user < users (start .args .image .now) = omega arith in
     row-refused _ _ (start .pre) here _ (asked .session-label-answer .ensures) (accepted .enum-told .given .1) _ (found .rights-at .ensures) _ (rowAsked .row-label-answer .ensures) _ (c .enum-told4 .given .1)
 
