@@ -13,7 +13,8 @@ use Rattle.sets.proofs.Within.{within-union-right, within-refl, within-trans, w
 use Rattle.sets.proofs.Meets.{meets-mono}
 use Rattle.image.specs.Lookup.{labelOfTag}
 use Rattle.labels.specs.Label.{Marks}
-use Rattle.access.specs.Rights.{Rights}
+use Rattle.labels.specs.GroupTest.{groupTest}
+use Rattle.access.specs.Rights.{Rights, withPrivileges}
 use Rattle.access.specs.Verdicts.{placeOfRead, placeOfFull, placeOfCompaccess, readsAll, writesAll, holdsCompaccess, readLevelRule, readGroupsRule, readCompartmentsRule, compaccessReads, readTests, writeLevelRule, writeGroupsRule, writeCompartmentsRule, writeSetsRule, compaccessWrites, writeTests, readsLabel, writesLabel, labelAt, knownTag, mayRead, mayWrite}
 use Rattle.access.proofs.Tests.{and-mono, or-mono, cond-mono}
 
@@ -44,7 +45,7 @@ module _ (a b : Rights) (more : MoreReading a b) (row : Marks) where
   compartment-more e = within-trans (row .compartments) (a .compartments) (b .compartments) e (more .compartments)
 
   group-more : readGroupsRule a row ≡ true → readGroupsRule b row ≡ true
-  unfolding readGroupsRule
+  unfolding readGroupsRule groupTest
   group-more =
       or-mono (empty (row .groups)) (meets (row .groups) (a .belowGroups)) (empty (row .groups)) (meets (row .groups) (b .belowGroups))
       (λ (e : empty (row .groups) ≡ true). e)
@@ -115,16 +116,7 @@ module _ (a b : Rights) where
 
 -- ---- COMPACCESS never takes a row away
 abbrev pub withCompaccess : Rights → Rights
-withCompaccess a =
-    record {
-      level = a .level;
-      compartments = a .compartments;
-      belowGroups = a .belowGroups;
-      writeCompartments = a .writeCompartments;
-      writeGroups = a .writeGroups;
-      minimum = a .minimum;
-      privileges = union (a .privileges) (one placeOfCompaccess);
-    }
+withCompaccess a = withPrivileges (union (a .privileges) (one placeOfCompaccess)) a
 
 module _ (a : Rights) where
   compaccess-more : MoreWriting a (withCompaccess a)

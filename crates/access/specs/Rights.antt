@@ -8,14 +8,14 @@ use Rattle.sets.specs.Groups.{placesOf}
 use Rattle.header.specs.Layout.{userRecord}
 use Rattle.records.specs.Fields.{privileges, maximumLevel, minimumLevel, readCompartments, writeCompartments, readGroups, writeGroups}
 use Rattle.hierarchy.specs.Below.{below}
-use Rattle.labels.specs.Label.{Marks}
+use Rattle.labels.specs.Label.{Marks, marks}
 use Rattle.access.specs.declared.rights.View.{View}
 
 -- lowest ≤ level ≤ highest
 abbrev pub between : ℕ → ℕ → ℕ → Bool
 between lowest highest level = leb lowest level && leb level highest
 
--- the session's level and compartments, what lies below its groups, its write sets; the user's minimum level and privileges
+-- the session's level and compartments, what lies below its groups, its write sets; the user's minimum and maximum level and privileges
 pub record Rights : Type 0 where
   pub level : ℕ
   pub compartments : ℕ
@@ -23,6 +23,7 @@ pub record Rights : Type 0 where
   pub writeCompartments : ℕ
   pub writeGroups : ℕ
   pub minimum : ℕ
+  pub maximum : ℕ
   pub privileges : ℕ
 
 -- the session's write compartments are its compartments that the user may write
@@ -44,13 +45,14 @@ rightsAt im u label =
       writeCompartments = writeCompartmentsOf rec label;
       writeGroups = writeGroupsOf im rec label;
       minimum = minimumLevel rec;
+      maximum = maximumLevel rec;
       privileges = privileges rec;
     }
 
 -- the maximum read label: the user's maximum level with the read compartments and read groups
 unfoldable pub maximumReadLabel : List ℕ → ℕ → Marks
 maximumReadLabel im u =
-    let rec = userRecord im u in record { level = maximumLevel rec; compartments = readCompartments rec; groups = readGroups rec }
+    let rec = userRecord im u in marks (maximumLevel rec) (readCompartments rec) (readGroups rec)
 
 -- what a view of the code stands for
 abbrev pub rightsOf : View → Rights
@@ -62,5 +64,20 @@ rightsOf v =
       writeCompartments = v .«write_compartments»;
       writeGroups = placesOf (v .«write_groups»);
       minimum = v .minimum;
+      maximum = v .maximum;
       privileges = v .privileges;
+    }
+
+-- the same rights with other privileges
+abbrev pub withPrivileges : ℕ → Rights → Rights
+withPrivileges held rights =
+    record {
+      level = rights .level;
+      compartments = rights .compartments;
+      belowGroups = rights .belowGroups;
+      writeCompartments = rights .writeCompartments;
+      writeGroups = rights .writeGroups;
+      minimum = rights .minimum;
+      maximum = rights .maximum;
+      privileges = held;
     }

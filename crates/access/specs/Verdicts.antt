@@ -7,7 +7,8 @@ use Rattle.sets.specs.Sets.{has, empty, within, meets}
 use Rattle.header.specs.Layout.{labels, labelRecord}
 use Rattle.records.specs.Fields.{labelLevel, labelCompartments, labelGroups}
 use Rattle.image.specs.Lookup.{labelOfTag}
-use Rattle.labels.specs.Label.{Marks}
+use Rattle.labels.specs.Label.{Marks, marks}
+use Rattle.labels.specs.GroupTest.{groupTest}
 use Rattle.access.specs.Rights.{Rights, between, rightsAt, maximumReadLabel}
 
 -- ---- privileges: bits 1, 2 and 4 of the record's byte are places 0, 1 and 2 of it as a set
@@ -38,7 +39,7 @@ readLevelRule rights row = leb (row .level) (rights .level)
 
 -- row groups empty, or one of them in below(session groups)
 unfoldable pub readGroupsRule : Rights → Marks → Bool
-readGroupsRule rights row = empty (row .groups) || meets (row .groups) (rights .belowGroups)
+readGroupsRule rights row = groupTest (rights .belowGroups) (row .groups)
 
 -- row compartments all in the session's
 unfoldable pub readCompartmentsRule : Rights → Marks → Bool
@@ -92,11 +93,6 @@ unfoldable pub writesLabel : Rights → Marks → Bool
 writesLabel rights row = writesAll rights || writeTests rights row
 
 -- ---- a verdict is asked of a tag
--- the label of the k-th label record
-unfoldable pub labelAt : List ℕ → ℕ → Marks
-labelAt im k =
-    let rec = labelRecord im k in record { level = labelLevel rec; compartments = labelCompartments rec; groups = labelGroups rec }
-
 -- a label carries the tag
 unfoldable pub knownTag : List ℕ → ℕ → Bool
 knownTag im tag = ltb (labelOfTag im tag) (labels im)

@@ -30,6 +30,7 @@ pub struct View {
     pub write_groups: Groups,
     // The user's.
     pub minimum: u8,
+    pub maximum: u8,
     pub privileges: u8,
 }
 
@@ -49,6 +50,7 @@ pub fn rights_at(image: &[u8], table: &Table, u: usize, label: Label) -> View
         write_compartments: word::intersection(label.compartments, compartments.write),
         write_groups: below.intersection(written),
         minimum: levels.minimum,
+        maximum: levels.maximum,
         privileges: users::privileges(image, u),
     }
 }

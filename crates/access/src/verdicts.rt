@@ -11,6 +11,7 @@ use crate::rights::View;
 use crate::rights::is_between;
 use header::layout;
 use image::given::label_of_tag;
+use labels::group_test;
 use labels::label::Label;
 use records::labels as label_records;
 use sets::word;
@@ -47,8 +48,7 @@ fn read_level(view: View, row: Label) -> bool
 fn read_groups(view: View, row: Label) -> bool
     ensures { λ r. ⌜ r ≡ readGroupsRule (rightsOf view) (marksOf row) ⌝ }
 {
-    let groups = row.groups;
-    groups.is_empty() | groups.meets(view.below_groups)
+    group_test::passes(view.below_groups, row.groups)
 }
 
 // Is a row of that label readable by level, groups and compartments, or by COMPACCESS?

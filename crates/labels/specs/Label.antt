@@ -15,8 +15,11 @@ pub record Marks : Type 0 where
   pub compartments : ℕ
   pub groups : ℕ
 
+abbrev pub marks : ℕ → ℕ → ℕ → Marks
+marks level compartments groups = record { level = level; compartments = compartments; groups = groups }
+
 abbrev pub marksOf : Label → Marks
-marksOf l = record { level = l .level; compartments = l .compartments; groups = placesOf (l .groups) }
+marksOf l = marks (l .level) (l .compartments) (placesOf (l .groups))
 
 -- the label of the k-th label record
 unfoldable pub labelAt : List ℕ → ℕ → Marks

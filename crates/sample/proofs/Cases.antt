@@ -16,6 +16,7 @@ use Rattle.labels.specs.Parse.{matches, placeOfName, readNames, readText, ofTex
 use Rattle.printing.specs.Print.{entryAt, listed, listText, section, textOf, acceptedAnswer, printOf}
 use Rattle.labels.specs.Label.{labelExists}
 use Rattle.dominance.specs.TwoLabels.{mergeLevels, mergeSets, lettersRule, mergedLabel, mergeOf}
+use Rattle.labels.specs.GroupTest.{groupTest}
 use Rattle.access.specs.Rights.{writeCompartmentsOf, writeGroupsOf, rightsAt}
 use Rattle.access.specs.NewLabels.{sessionGroupsRule, rowInside, sessionLabelAnswer}
 use Rattle.access.specs.Verdicts.{readsAll, writesAll, holdsCompaccess, readLevelRule, readGroupsRule, readCompartmentsRule, compaccessReads, readTests, readsLabel, writeLevelRule, writeGroupsRule, writeCompartmentsRule, writeSetsRule, compaccessWrites, writeTests, writesLabel, labelAt, knownTag, mayRead, mayWrite}
@@ -63,7 +64,7 @@ cases-shortly (c ∷ cases) = rw (answer-shortly casesImage cases-known (c .ques
 
 -- ---- the proof
 computed : map (λ (c : Case). shortly casesImage (c .question)) proved ≡ map (λ (c : Case). c .expected) proved
-unfolding proved mayRead mayWrite knownTag labelAt readsLabel readTests readLevelRule readGroupsRule readCompartmentsRule compaccessReads holdsCompaccess readsAll writesAll writesLabel writeTests writeLevelRule writeSetsRule writeGroupsRule writeCompartmentsRule compaccessWrites rightsAt writeCompartmentsOf writeGroupsOf casesImage number2 number4 number8 has difference empty within meets collect firstBad levels compartments groups labels components firstLabelBlock firstUserBlock componentOffset labelOffset userOffset componentRecord labelRecord userRecord parent hasParent lineageWithin lineage below labelOfTag labelChange sessionLabelAnswer rowInside sessionGroupsRule all textByte nameByte nameIn sameName componentIndex split isName isList shapeRule matches placeOfName readNames allBelow entryAt listed listText section textOf labelExists acceptedAnswer mergeLevels mergeSets lettersRule mergedLabel mergeOf
+unfolding proved mayRead mayWrite knownTag labelAt readsLabel readTests readLevelRule readGroupsRule groupTest readCompartmentsRule compaccessReads holdsCompaccess readsAll writesAll writesLabel writeTests writeLevelRule writeSetsRule writeGroupsRule writeCompartmentsRule compaccessWrites rightsAt writeCompartmentsOf writeGroupsOf casesImage number2 number4 number8 has difference empty within meets collect firstBad levels compartments groups labels components firstLabelBlock firstUserBlock componentOffset labelOffset userOffset componentRecord labelRecord userRecord parent hasParent lineageWithin lineage below labelOfTag labelChange sessionLabelAnswer rowInside sessionGroupsRule all textByte nameByte nameIn sameName componentIndex split isName isList shapeRule matches placeOfName readNames allBelow entryAt listed listText section textOf labelExists acceptedAnswer mergeLevels mergeSets lettersRule mergedLabel mergeOf
 computed = refl
 
 pub all-cases : map asked proved ≡ map (λ (c : Case). c .expected) proved

@@ -14,6 +14,7 @@ use Rattle.refusals.specs.declared.answers.Checked.the-variants.{Accepted, Refu
 use Rattle.image.specs.Lookup.{componentIndex, labelOfTag, userOfName}
 use Rattle.labels.specs.Text.{textByte, split, isName, isList, shapeRule}
 use Rattle.labels.specs.Parse.{matches, placeOfName, readNames}
+use Rattle.labels.specs.GroupTest.{groupTest}
 use Rattle.access.specs.Rights.{writeCompartmentsOf, writeGroupsOf, rightsAt, maximumReadLabel}
 use Rattle.access.specs.NewLabels.{sessionGroupsRule, rowInside, sessionLabelAnswer, rowLabelAnswer, sessionRule}
 use Rattle.access.specs.Verdicts.{readsAll, writesAll, holdsCompaccess, readLevelRule, readGroupsRule, readCompartmentsRule, compaccessReads, readTests, readsLabel, writeLevelRule, writeGroupsRule, writeCompartmentsRule, writeSetsRule, compaccessWrites, writeTests, writesLabel, labelAt, knownTag, mayRead, mayWrite, readableAtMaximum}
@@ -40,7 +41,7 @@ pub record Ever : Type 0 where
   pub never77 : readableAtMaximum cooperative 0 77 ≡ false
 
 pub ever : Ever
-unfolding readableAtMaximum maximumReadLabel mayRead knownTag labelAt readsLabel readTests readLevelRule readGroupsRule readCompartmentsRule compaccessReads holdsCompaccess readsAll rightsAt writeCompartmentsOf writeGroupsOf cooperative number2 number4 number8 has empty within meets collect firstBad levels compartments groups users labels components firstLabelBlock firstUserBlock componentOffset labelOffset userOffset componentRecord labelRecord userRecord parent hasParent lineageWithin lineage below labelOfTag
+unfolding readableAtMaximum maximumReadLabel mayRead knownTag labelAt readsLabel readTests readLevelRule readGroupsRule groupTest readCompartmentsRule compaccessReads holdsCompaccess readsAll rightsAt writeCompartmentsOf writeGroupsOf cooperative number2 number4 number8 has empty within meets collect firstBad levels compartments groups users labels components firstLabelBlock firstUserBlock componentOffset labelOffset userOffset componentRecord labelRecord userRecord parent hasParent lineageWithin lineage below labelOfTag
 ever = record { ever10 = refl; ever30 = refl; never20 = refl; never0 = refl; never77 = refl }
 
 -- ---- sessions that read all of that
@@ -53,7 +54,7 @@ pub record Verdicts (s : SessionMarks) : Type 0 where
   pub writes30 : mayWrite cooperative (sessionRights cooperative s) 30 ≡ false
 
 pub mara-verdicts : Verdicts mara
-unfolding mayRead knownTag labelAt readsLabel readTests readLevelRule readGroupsRule readCompartmentsRule compaccessReads holdsCompaccess readsAll mayWrite writesAll writesLabel writeTests writeLevelRule writeSetsRule writeGroupsRule writeCompartmentsRule compaccessWrites rightsAt writeCompartmentsOf writeGroupsOf cooperative number2 number4 number8 has empty within meets collect firstBad levels compartments groups users labels components firstLabelBlock firstUserBlock componentOffset labelOffset userOffset componentRecord labelRecord userRecord parent hasParent lineageWithin lineage below labelOfTag
+unfolding mayRead knownTag labelAt readsLabel readTests readLevelRule readGroupsRule groupTest readCompartmentsRule compaccessReads holdsCompaccess readsAll mayWrite writesAll writesLabel writeTests writeLevelRule writeSetsRule writeGroupsRule writeCompartmentsRule compaccessWrites rightsAt writeCompartmentsOf writeGroupsOf cooperative number2 number4 number8 has empty within meets collect firstBad levels compartments groups users labels components firstLabelBlock firstUserBlock componentOffset labelOffset userOffset componentRecord labelRecord userRecord parent hasParent lineageWithin lineage below labelOfTag
 mara-verdicts = record { reads10 = refl; reads30 = refl; hides20 = refl; hides0 = refl; writes10 = refl; writes30 = refl }
 
 pub vaulted-passes : lentAnswer cooperative vaulted ≡ Accepted
@@ -61,7 +62,7 @@ unfolding lentAnswer sessionRule sessionLabelAnswer rowLabelAnswer rowInside ses
 vaulted-passes = rw sample-accepted
 
 pub vaulted-verdicts : Verdicts vaulted
-unfolding mayRead knownTag labelAt readsLabel readTests readLevelRule readGroupsRule readCompartmentsRule compaccessReads holdsCompaccess readsAll mayWrite writesAll writesLabel writeTests writeLevelRule writeSetsRule writeGroupsRule writeCompartmentsRule compaccessWrites rightsAt writeCompartmentsOf writeGroupsOf cooperative number2 number4 number8 has empty within meets collect firstBad levels compartments groups users labels components firstLabelBlock firstUserBlock componentOffset labelOffset userOffset componentRecord labelRecord userRecord parent hasParent lineageWithin lineage below labelOfTag
+unfolding mayRead knownTag labelAt readsLabel readTests readLevelRule readGroupsRule groupTest readCompartmentsRule compaccessReads holdsCompaccess readsAll mayWrite writesAll writesLabel writeTests writeLevelRule writeSetsRule writeGroupsRule writeCompartmentsRule compaccessWrites rightsAt writeCompartmentsOf writeGroupsOf cooperative number2 number4 number8 has empty within meets collect firstBad levels compartments groups users labels components firstLabelBlock firstUserBlock componentOffset labelOffset userOffset componentRecord labelRecord userRecord parent hasParent lineageWithin lineage below labelOfTag
 vaulted-verdicts = record { reads10 = refl; reads30 = refl; hides20 = refl; hides0 = refl; writes10 = refl; writes30 = refl }
 
 -- ---- a session that reads less than she could ever read
@@ -80,7 +81,7 @@ pub record LessVerdicts (s : SessionMarks) : Type 0 where
   pub hides0 : mayRead cooperative (sessionRights cooperative s) 0 ≡ false
 
 pub glazed-verdicts : LessVerdicts glazed
-unfolding mayRead knownTag labelAt readsLabel readTests readLevelRule readGroupsRule readCompartmentsRule compaccessReads holdsCompaccess readsAll rightsAt writeCompartmentsOf writeGroupsOf cooperative number2 number4 number8 has empty within meets collect firstBad levels compartments groups users labels components firstLabelBlock firstUserBlock componentOffset labelOffset userOffset componentRecord labelRecord userRecord parent hasParent lineageWithin lineage below labelOfTag
+unfolding mayRead knownTag labelAt readsLabel readTests readLevelRule readGroupsRule groupTest readCompartmentsRule compaccessReads holdsCompaccess readsAll rightsAt writeCompartmentsOf writeGroupsOf cooperative number2 number4 number8 has empty within meets collect firstBad levels compartments groups users labels components firstLabelBlock firstUserBlock componentOffset labelOffset userOffset componentRecord labelRecord userRecord parent hasParent lineageWithin lineage below labelOfTag
 glazed-verdicts = record { hides10 = refl; reads30 = refl; hides20 = refl; hides0 = refl }
 
 -- ---- label changes

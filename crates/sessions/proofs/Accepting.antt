@@ -1,8 +1,9 @@
 -- A lent session is accepted exactly if the image is and the session keeps its rules. Assumes nothing.
-use Prim.Native.Nat.{ℕ, _<_}
+use Prim.Native.Nat.{ℕ, _≤_, _<_}
 use mathlib.Core.Path.{_≡_, refl, subst}
 use mathlib.Core.Bool.{Bool, true, false}
 use mathlib.Core.List.{List}
+use borrow.Author.Tests.{lt-ltb, le-ltb}
 use Rattle.refusals.specs.declared.Refusal.{Refusal}
 use Rattle.refusals.specs.declared.Refusal.the-variants.{SessionRules}
 use Rattle.header.specs.Layout.{users}
@@ -11,13 +12,14 @@ use Rattle.refusals.specs.declared.answers.Checked.the-variants.{Accepted, Refu
 use Rattle.image.specs.Check.{checkOf, IsAccepted}
 use Rattle.refusals.specs.Answers.{onChecked, orRefuse}
 use Rattle.image.proofs.Accepted.{refused-not}
-use Rattle.access.specs.NewLabels.{sessionRule}
+use Rattle.access.specs.Rights.{Rights}
+use Rattle.access.specs.NewLabels.{sessionLabelAnswer, rowLabelAnswer, sessionRule}
 use Rattle.access.proofs.Answers.{SessionKept, session-means, means-session}
 use Rattle.access.specs.declared.rights.View.{View}
 use Rattle.sessions.specs.declared.given.Lent.{Lent}
 use Rattle.sessions.specs.declared.given.Lent.the-variants as lent
 use Rattle.sessions.specs.declared.given.Lent.the-variants.{At}
-use Rattle.sessions.specs.Session.{SessionMarks, lentAnswer}
+use Rattle.sessions.specs.Session.{SessionMarks, lentAnswer, sessionRights}
 use Rattle.sessions.specs.Lent.{LentGives}
 
 module _ (im : List ℕ) (s : SessionMarks) where
@@ -53,6 +55,27 @@ module _ (im : List ℕ) (s : SessionMarks) where
 
   pub lent-user : lentAnswer im s ≡ Accepted → s .user < users im
   lent-user e = lent-means e .user
+
+-- 19 test by test, as `lent_accepted` asks: the user's place, the session label, the row label
+module _ (im : List ℕ) (s : SessionMarks) (acc : IsAccepted im) where
+  pub user-outside : users im ≤ s .user → lentAnswer im s ≡ Refused SessionRules
+  unfolding sessionRule
+  user-outside h = lent-broken im s acc (rw (le-ltb (s .user) (users im) h))
+
+  module _ (here : s .user < users im) (asked : Checked) (told : asked ≡ sessionLabelAnswer im (s .user) (s .label) (s .row)) where
+    pub label-refused : (r : Refusal) → asked ≡ Refused r → lentAnswer im s ≡ Refused SessionRules
+    unfolding sessionRule
+    label-refused r e = lent-broken im s acc (rw (lt-ltb (s .user) (users im) here, ← told, e))
+
+    module _ (accepted : asked ≡ Accepted) (rights : Rights) (found : rights ≡ sessionRights im s) (row : Checked)
+        (rowTold : row ≡ rowLabelAnswer rights (s .row)) where
+      pub row-refused : (r : Refusal) → row ≡ Refused r → lentAnswer im s ≡ Refused SessionRules
+      unfolding sessionRule
+      row-refused r e = lent-broken im s acc (rw (lt-ltb (s .user) (users im) here, ← told, accepted, ← found, ← rowTold, e))
+
+      pub row-accepted : row ≡ Accepted → lentAnswer im s ≡ Accepted
+      unfolding sessionRule
+      row-accepted e = lent-whole im s acc (rw (lt-ltb (s .user) (users im) here, ← told, accepted, ← found, ← rowTold, e))
 
 -- what `lent_rights` gives, case by case
 module _ (im table : List ℕ) (s : SessionMarks) (l : Lent) where

@@ -10,21 +10,21 @@ use Rattle.records.specs.Fields.{defaultLevel, defaultCompartments, defaultGrou
 use Rattle.image.specs.Check.{checkOf}
 use Rattle.refusals.specs.Answers.{onChecked}
 use Rattle.image.specs.Lookup.{userOfName}
-use Rattle.labels.specs.Label.{Marks}
-use Rattle.sessions.specs.Session.{SessionMarks, sessionOf}
+use Rattle.labels.specs.Label.{Marks, marks}
+use Rattle.sessions.specs.Session.{SessionMarks, sessionMarks, sessionOf}
 use Rattle.sessions.specs.declared.answers.Opened.{Opened}
 use Rattle.sessions.specs.declared.answers.Opened.the-variants as opened
 
 unfoldable pub defaultLabel : List ℕ → Marks
-defaultLabel rec = record { level = defaultLevel rec; compartments = defaultCompartments rec; groups = defaultGroups rec }
+defaultLabel rec = marks (defaultLevel rec) (defaultCompartments rec) (defaultGroups rec)
 
 unfoldable pub defaultRowLabel : List ℕ → Marks
-defaultRowLabel rec = record { level = rowLevel rec; compartments = rowCompartments rec; groups = rowGroups rec }
+defaultRowLabel rec = marks (rowLevel rec) (rowCompartments rec) (rowGroups rec)
 
 -- the session that opens for the user at place u
 unfoldable pub defaultSession : List ℕ → ℕ → SessionMarks
 defaultSession im u =
-    let rec = userRecord im u in record { user = u; label = defaultLabel rec; row = defaultRowLabel rec }
+    let rec = userRecord im u in sessionMarks u (defaultLabel rec) (defaultRowLabel rec)
 
 -- ---- the answer of `open`: a session, or a refusal
 pub data Opening : Type 0 where

@@ -17,8 +17,11 @@ pub record SessionMarks : Type 0 where
   pub label : Marks
   pub row : Marks
 
+abbrev pub sessionMarks : ℕ → Marks → Marks → SessionMarks
+sessionMarks user label row = record { user = user; label = label; row = row }
+
 abbrev pub sessionOf : Session → SessionMarks
-sessionOf s = record { user = s .user; label = marksOf (s .label); row = marksOf (s .row) }
+sessionOf s = sessionMarks (s .user) (marksOf (s .label)) (marksOf (s .row))
 
 -- ---- a lent session
 -- 1, 2, 3; then 19 unless the user's place exists and both labels meet their rules

@@ -10,7 +10,6 @@ ghost use Rattle.sessions.specs.Session.{sessionOf};
 ghost use Rattle.sessions.specs.Opening.{openOf, openingOf};
 ghost use Rattle.sessions.specs.Changes.{setLabelOf, setRowLabelOf, changeOf};
 ghost use Rattle.sessions.specs.Asking.{mayReadOf, mayWriteOf};
-ghost use Rattle.refusals.specs.Answers.{verdictOf};
 use access::verdicts;
 use answers::Changed;
 use answers::Opened;
@@ -22,6 +21,7 @@ use hierarchy::table;
 use image::check;
 use refusals::answers::Checked;
 use refusals::answers::Verdict;
+use refusals::answers::verdict_of;
 use session::Session;
 
 // The session of the user of that name, with the default label and the default row label. Refusals: 1, 2, 3, 4.
@@ -90,10 +90,4 @@ impl Session {
             Lent::Refused(r) => Verdict::Refused(r),
         }
     }
-}
-
-fn verdict_of(granted: bool) -> Verdict
-    ensures { λ r. ⌜ r ≡ verdictOf granted ⌝ }
-{
-    if granted { Verdict::Yes } else { Verdict::No }
 }

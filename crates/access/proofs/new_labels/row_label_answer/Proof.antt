@@ -17,18 +17,26 @@ within-requires c κs = search needs
 
 returns-2 : tie.Need-returns-2
 unfolding rowLabelAnswer
-returns-2 c = rw (sym (c .before .before .before .is-between .ensures) ∙ not-false _ (c .before .before .if1 .left), sym (c .before .within .ensures) ∙ not-true _ (c .if2 .taken))
+returns-2 c =
+    let level = c .before .before in
+    rw (sym (level .before .is-between .ensures) ∙ not-false _ (level .if1 .left), sym (c .before .within .ensures) ∙ not-true _ (c .if2 .taken))
 
 row-groups-ok-requires : tie.Need-row-groups-ok-requires
 row-groups-ok-requires c κs = search needs
 
 returns-3 : tie.Need-returns-3
 unfolding rowLabelAnswer
-returns-3 c = rw (sym (c .before .before .before .before .before .is-between .ensures) ∙ not-false _ (c .before .before .before .before .if1 .left), sym (c .before .before .before .within .ensures) ∙ not-false _ (c .before .before .if2 .left), sym (c .before .row-groups-ok .ensures) ∙ not-true _ (c .if3 .taken))
+returns-3 c =
+    let compartments = c .before .before in
+    let level = compartments .before .before in
+    rw (sym (level .before .is-between .ensures) ∙ not-false _ (level .if1 .left), sym (compartments .before .within .ensures) ∙ not-false _ (compartments .if2 .left), sym (c .before .row-groups-ok .ensures) ∙ not-true _ (c .if3 .taken))
 
 returns-4 : tie.Need-returns-4
 unfolding rowLabelAnswer
-returns-4 c = rw (sym (c .before .before .before .before .before .is-between .ensures) ∙ not-false _ (c .before .before .before .before .if1 .left), sym (c .before .before .before .within .ensures) ∙ not-false _ (c .before .before .if2 .left), sym (c .before .row-groups-ok .ensures) ∙ not-false _ (c .if3 .left))
+returns-4 c =
+    let compartments = c .before .before in
+    let level = compartments .before .before in
+    rw (sym (level .before .is-between .ensures) ∙ not-false _ (level .if1 .left), sym (compartments .before .within .ensures) ∙ not-false _ (compartments .if2 .left), sym (c .before .row-groups-ok .ensures) ∙ not-false _ (c .if3 .left))
 
 pub row-label-answer-spec : {M : Type 1} → statement M
 row-label-answer-spec =

@@ -29,7 +29,10 @@ privileges-requires c κs = search needs
 
 returns : tie.Need-returns
 unfolding rightsAt writeCompartmentsOf writeGroupsOf
-returns c = rw (c .privileges .ensures, c .before .intersection2 .ensures, c .before .before .intersection .ensures, c .before .before .before .below2 .ensures, c .before .before .before .before .below .ensures, c .before .before .before .before .before .group-sets .ensures .write, c .before .before .before .before .before .before .compartment-sets .ensures, c .before .before .before .before .before .before .before .user-levels .ensures)
+returns c =
+    let found = c .before .before .before in
+    let record-read = found .before .before in
+    rw (c .privileges .ensures, c .before .intersection2 .ensures, c .before .before .intersection .ensures, found .below2 .ensures, found .before .below .ensures, record-read .group-sets .ensures .write, record-read .before .compartment-sets .ensures, record-read .before .before .user-levels .ensures)
 
 pub rights-at-spec : {M : Type 1} → statement M
 rights-at-spec =

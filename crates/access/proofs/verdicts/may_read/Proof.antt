@@ -25,9 +25,10 @@ reads-label-requires c κs = search needs
 returns : tie.Need-returns
 unfolding mayRead knownTag
 returns c =
-    let a = c .before .before .before .before .before .before .args in
+    let looked = c .before .before .before .before in
+    let a = looked .before .before .args in
     let h : labelOfTag (a .image .now) (a .tag) < labels (a .image .now) = omega arith in
-    rw (lt-ltb _ _ h, c .reads-label .ensures, c .before .label-at .ensures, c .before .before .before .before .label-of-tag .ensures)
+    rw (lt-ltb _ _ h, c .reads-label .ensures, c .before .label-at .ensures, looked .label-of-tag .ensures)
 
 reads-all-requires : tie.Need-reads-all-requires
 reads-all-requires c κs = search needs

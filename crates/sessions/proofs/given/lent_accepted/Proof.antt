@@ -1,14 +1,9 @@
-use Rattle.refusals.specs.Answers.{allowed}
-use mathlib.Core.Path.{ap}
-use Rattle.sessions.proofs.Accepting.{lent-broken, lent-whole}
-use Rattle.access.specs.NewLabels.{sessionRule}
-use Rattle.header.specs.Layout.{users}
 use Prim.Native.Nat.{_≤_, _<_}
-use borrow.Author.Tests.{lt-ltb, le-ltb}
 use native.Mathlib.Omega.{arith}
+use Rattle.header.specs.Layout.{users}
 use Rattle.header.proofs.Inside.{header-inside}
 use Rattle.image.proofs.Accepted.{accepted-counted}
-use mathlib.Core.Path.{sym, _∙_}
+use Rattle.sessions.proofs.Accepting.{user-outside, label-refused, row-refused, row-accepted}
 use borrow.Author.Needs.{needs}
 use Rattle.sessions.proofs.given.lent_accepted.Statement.{statement}
 use Rattle.sessions.proofs.given.lent_accepted.Tie as tie
@@ -23,17 +18,24 @@ users-requires : tie.Need-users-requires
 users-requires c κs = header-inside _ (accepted-counted _ (c .before .before .before .before .pre) .fitted)
 
 returns : tie.Need-returns
-unfolding sessionRule
 returns c =
-    let a = c .before .before .before .before .before .before .args in
-    let h : users (a .image .now) ≤ a .session .user = omega arith in
-    lent-broken _ _ (c .before .before .before .before .before .before .pre) (rw (le-ltb _ _ h))
+    let filled = c .before .before .before in
+    let start = filled .before .before .before in
+    let outside : users (start .args .image .now) ≤ start .args .session .user = omega arith in
+    user-outside _ _ (start .pre) outside
 
 rights-at-requires : tie.Need-rights-at-requires
-rights-at-requires c κs = (accepted-counted _ (c .before .before .before .before .before .before .before .before .before .pre), (c .before .before .before .before .before .before .fill .ensures, omega arith))
+rights-at-requires c κs =
+    let tested = c .before .before .before in
+    let filled = tested .before .before .before in
+    (accepted-counted _ (filled .before .before .before .pre), (filled .fill .ensures, omega arith))
 
 session-label-answer-requires : tie.Need-session-label-answer-requires
-session-label-answer-requires c κs = ((accepted-counted _ (c .before .before .before .before .before .before .before .before .before .before .before .pre), (c .before .before .before .before .before .before .before .before .fill .ensures, omega arith)), c .before .rights-at .ensures)
+session-label-answer-requires c κs =
+    let found = c .before in
+    let tested = found .before .before .before .before in
+    let filled = tested .before .before .before in
+    ((accepted-counted _ (filled .before .before .before .pre), (filled .fill .ensures, omega arith)), found .rights-at .ensures)
 
 enum-told : tie.Need-enum-told
 enum-told c = search needs
@@ -42,11 +44,14 @@ enum-told-2 : tie.Need-enum-told-2
 enum-told-2 c = search needs
 
 returns-2 : tie.Need-returns-2
-unfolding sessionRule
 returns-2 c =
-    let a = c .before .before .before .before .before .before .before .before .before .before .before .before .before .before .args in
-    let h : a .session .user < users (a .image .now) = omega arith in
-    lent-broken _ _ (c .before .before .before .before .before .before .before .before .before .before .before .before .before .before .pre) (rw (lt-ltb _ _ h, ap allowed (sym (c .before .before .session-label-answer .ensures) ∙ c .enum-told2 .given .1)))
+    let asked = c .before .before in
+    let found = asked .before .before in
+    let tested = found .before .before .before .before in
+    let filled = tested .before .before .before in
+    let start = filled .before .before .before in
+    let here : start .args .session .user < users (start .args .image .now) = omega arith in
+    label-refused _ _ (start .pre) here _ (asked .session-label-answer .ensures) _ (c .enum-told2 .given .1)
 
 row-label-answer-requires : tie.Need-row-label-answer-requires
 row-label-answer-requires c κs = search needs
@@ -58,21 +63,29 @@ enum-told-4 : tie.Need-enum-told-4
 enum-told-4 c = search needs
 
 returns-3 : tie.Need-returns-3
-unfolding sessionRule
 returns-3 c =
-    let a = c .before .before .before .before .before .before .before .before .before .before .before .before .before .before .before .before .before .args in
-    let h : a .session .user < users (a .image .now) = omega arith in
-    lent-broken _ _ (c .before .before .before .before .before .before .before .before .before .before .before .before .before .before .before .before .before .pre)
-    (rw (lt-ltb _ _ h, ap allowed (sym (c .before .before .before .before .before .session-label-answer .ensures) ∙ c .before .before .before .enum-told .given .1), ← c .before .before .before .before .before .before .before .rights-at .ensures, ap allowed (sym (c .before .before .row-label-answer .ensures) ∙ c .enum-told4 .given .1)))
+    let rowAsked = c .before .before in
+    let accepted = rowAsked .before in
+    let asked = accepted .before .before in
+    let found = asked .before .before in
+    let tested = found .before .before .before .before in
+    let filled = tested .before .before .before in
+    let start = filled .before .before .before in
+    let here : start .args .session .user < users (start .args .image .now) = omega arith in
+    row-refused _ _ (start .pre) here _ (asked .session-label-answer .ensures) (accepted .enum-told .given .1) _ (found .rights-at .ensures) _ (rowAsked .row-label-answer .ensures) _ (c .enum-told4 .given .1)
 
 returns-4 : tie.Need-returns-4
-unfolding sessionRule
 returns-4 c =
-    let a = c .before .before .before .before .before .before .before .before .before .before .before .before .before .before .before .before .before .args in
-    let h : a .session .user < users (a .image .now) = omega arith in (
-      lent-whole _ _ (c .before .before .before .before .before .before .before .before .before .before .before .before .before .before .before .before .before .pre)
-          (rw (lt-ltb _ _ h, ap allowed (sym (c .before .before .before .before .before .session-label-answer .ensures) ∙ c .before .before .before .enum-told .given .1), ← c .before .before .before .before .before .before .before .rights-at .ensures, ap allowed (sym (c .before .before .row-label-answer .ensures) ∙ c .enum-told3 .given .1))),
-      (c .before .before .before .before .before .before .before .before .before .before .before .before .before .before .fill .ensures, c .before .before .before .before .before .before .before .rights-at .ensures),
+    let rowAsked = c .before .before in
+    let accepted = rowAsked .before in
+    let asked = accepted .before .before in
+    let found = asked .before .before in
+    let tested = found .before .before .before .before in
+    let filled = tested .before .before .before in
+    let start = filled .before .before .before in
+    let here : start .args .session .user < users (start .args .image .now) = omega arith in (
+      row-accepted _ _ (start .pre) here _ (asked .session-label-answer .ensures) (accepted .enum-told .given .1) _ (found .rights-at .ensures) _ (rowAsked .row-label-answer .ensures) (c .enum-told3 .given .1),
+      (filled .fill .ensures, found .rights-at .ensures),
     )
 
 pub lent-accepted-spec : {M : Type 1} → statement M

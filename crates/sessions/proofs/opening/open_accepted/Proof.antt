@@ -28,9 +28,10 @@ default-session-requires c κs = search needs
 returns-2 : tie.Need-returns-2
 unfolding openAccepted
 returns-2 c =
-    let a = c .before .before .before .before .before .before .args in
+    let looked = c .before .before .before in
+    let a = looked .before .before .before .args in
     let h : userOfName (a .image .now) (a .name .now) < users (a .image .now) = omega arith in
-    rw (lt-ltb _ _ h, c .default-session .ensures, c .before .before .before .user-of-name .ensures)
+    rw (lt-ltb _ _ h, c .default-session .ensures, looked .user-of-name .ensures)
 
 pub open-accepted-spec : {M : Type 1} → statement M
 open-accepted-spec =

@@ -1,0 +1,76 @@
+-- Both labels of an accepted session name only components that the policy has. Assumes nothing.
+use Prim.Native.Nat.{ℕ, _^_, _<_}
+use mathlib.Core.Path.{_≡_}
+use mathlib.Core.Bool.{true}
+use mathlib.Core.List.{List}
+use native.Mathlib.Omega.{arith}
+use borrow.Author.Tests.{lt-ltb}
+use Rattle.sets.specs.Sets.{intersection}
+use Rattle.sets.proofs.Bounds.{below-within, has-below, part-below, intersection-below}
+use Rattle.header.specs.Layout.{levels, compartments, groups, userRecord}
+use Rattle.records.specs.Fields.{readCompartments, writeCompartments, readGroups, writeGroups}
+use Rattle.records.proofs.MeaningUsers.{UserKept}
+use Rattle.hierarchy.specs.Below.{below}
+use Rattle.hierarchy.proofs.Under.{below-limit}
+use Rattle.refusals.specs.declared.answers.Checked.the-variants.{Accepted}
+use Rattle.image.proofs.Policy.{user-kept}
+use Rattle.labels.specs.Label.{Marks, labelExists}
+use Rattle.access.specs.Rights.{rightsAt, writeCompartmentsOf, writeGroupsOf}
+use Rattle.access.proofs.Answers.{SessionLabelKept}
+use Rattle.sessions.specs.Session.{SessionMarks, lentAnswer}
+use Rattle.sessions.proofs.Accepting.{lent-accepted, lent-means, lent-user}
+
+exists-by : (im : List ℕ) (m : Marks) → m .level < levels im → m .compartments < 2 ^ compartments im → m .groups < 2 ^ groups im
+    → labelExists im m ≡ true
+unfolding labelExists
+exists-by im m l c g =
+    rw (lt-ltb (m .level) (levels im) l, below-within (m .compartments) (compartments im) c, below-within (m .groups) (groups im) g)
+
+module _ (im : List ℕ) (s : SessionMarks) (lent : lentAnswer im s ≡ Accepted) where
+  -- the user's record names only what exists, and the session keeps its rules
+  user : UserKept im (userRecord im (s .user))
+  user = user-kept im (lent-accepted im s lent) (s .user) (lent-user im s lent) .kept
+
+  kept : SessionLabelKept im (s .user) (s .label) (s .row)
+  kept = lent-means im s lent .sessionLabel
+
+  -- the level is at most the user's maximum; compartments lie in those that the user reads, groups below the read groups
+  level-exists : s .label .level < levels im
+  level-exists = omega (arith, kept .maximum, user .levelsKept .maximumExists)
+
+  compartments-exist : s .label .compartments < 2 ^ compartments im
+  compartments-exist =
+      let read = readCompartments (userRecord im (s .user)) in
+      part-below (s .label .compartments) read (compartments im) (kept .compartments)
+      (has-below read (compartments im) (user .compartmentsKept .readExist))
+
+  groups-exist : s .label .groups < 2 ^ groups im
+  groups-exist =
+      let read = below im (readGroups (userRecord im (s .user))) in
+      part-below (s .label .groups) read (groups im) (kept .groups) (below-limit im (readGroups (userRecord im (s .user))))
+
+  -- the row label's lie in the session's
+  row-level-exists : s .row .level < levels im
+  unfolding rightsAt
+  row-level-exists = omega (arith, kept .inside .level, level-exists)
+
+  row-compartments-exist : s .row .compartments < 2 ^ compartments im
+  unfolding rightsAt writeCompartmentsOf
+  row-compartments-exist =
+      let written = writeCompartments (userRecord im (s .user)) in
+      part-below (s .row .compartments) (intersection (s .label .compartments) written) (compartments im) (kept .inside .compartments)
+      (intersection-below (s .label .compartments) written (compartments im) compartments-exist)
+
+  row-groups-exist : s .row .groups < 2 ^ groups im
+  unfolding rightsAt writeGroupsOf
+  row-groups-exist =
+      let held = below im (s .label .groups) in
+      let written = below im (writeGroups (userRecord im (s .user))) in
+      part-below (s .row .groups) (intersection held written) (groups im) (kept .inside .groups)
+      (intersection-below held written (groups im) (below-limit im (s .label .groups)))
+
+  pub session-labels-exist : (labelExists im (s .label) ≡ true) × (labelExists im (s .row) ≡ true)
+  session-labels-exist = (
+    exists-by im (s .label) level-exists compartments-exist groups-exist,
+    exists-by im (s .row) row-level-exists row-compartments-exist row-groups-exist,
+  )
