@@ -12,10 +12,10 @@ use Rattle.sets.proofs.Has.{one-has}
 use Rattle.sets.proofs.Within.{within-union-right, within-refl, within-trans, within-union-left, within-has}
 use Rattle.sets.proofs.Meets.{meets-mono}
 use Rattle.image.specs.Lookup.{labelOfTag}
-use Rattle.labels.specs.Label.{Marks}
+use Rattle.labels.specs.Label.{Marks, labelAt}
 use Rattle.labels.specs.GroupTest.{groupTest}
 use Rattle.access.specs.Rights.{Rights, withPrivileges}
-use Rattle.access.specs.Verdicts.{placeOfRead, placeOfFull, placeOfCompaccess, readsAll, writesAll, holdsCompaccess, readLevelRule, readGroupsRule, readCompartmentsRule, compaccessReads, readTests, writeLevelRule, writeGroupsRule, writeCompartmentsRule, writeSetsRule, compaccessWrites, writeTests, readsLabel, writesLabel, labelAt, knownTag, mayRead, mayWrite}
+use Rattle.access.specs.Verdicts.{placeOfRead, placeOfFull, placeOfCompaccess, readsAll, writesAll, holdsCompaccess, readLevelRule, readGroupsRule, readCompartmentsRule, compaccessReads, readTests, writeLevelRule, writeGroupsRule, writeCompartmentsRule, writeSetsRule, compaccessWrites, writeTests, readsLabel, writesLabel, knownTag, mayRead, mayWrite}
 use Rattle.access.proofs.Tests.{and-mono, or-mono, cond-mono}
 
 -- the second has all that the first has, for reading

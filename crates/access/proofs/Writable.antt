@@ -13,10 +13,10 @@ use Rattle.header.specs.Layout.{userRecord}
 use Rattle.records.specs.Fields.{writeCompartments, writeGroups}
 use Rattle.hierarchy.specs.Below.{below}
 use Rattle.image.specs.Lookup.{labelOfTag}
-use Rattle.labels.specs.Label.{Marks}
+use Rattle.labels.specs.Label.{Marks, labelAt}
 use Rattle.labels.specs.GroupTest.{groupTest}
 use Rattle.access.specs.Rights.{Rights, rightsAt, writeCompartmentsOf, writeGroupsOf}
-use Rattle.access.specs.Verdicts.{placeOfRead, placeOfFull, readsAll, writesAll, holdsCompaccess, readLevelRule, readGroupsRule, readCompartmentsRule, compaccessReads, readTests, writeLevelRule, writeGroupsRule, writeCompartmentsRule, writeSetsRule, compaccessWrites, writeTests, readsLabel, writesLabel, labelAt, knownTag, mayRead, mayWrite}
+use Rattle.access.specs.Verdicts.{placeOfRead, placeOfFull, readsAll, writesAll, holdsCompaccess, readLevelRule, readGroupsRule, readCompartmentsRule, compaccessReads, readTests, writeLevelRule, writeGroupsRule, writeCompartmentsRule, writeSetsRule, compaccessWrites, writeTests, readsLabel, writesLabel, knownTag, mayRead, mayWrite}
 use Rattle.access.proofs.Tests.{and-mono, or-mono, cond-mono}
 
 -- the write sets lie inside the sets of reading

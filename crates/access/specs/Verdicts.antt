@@ -4,10 +4,9 @@ use mathlib.Core.Bool.{Bool, cond, not, _&&_, _||_}
 use mathlib.Core.List.{List}
 use lib.Dec.{leb, ltb}
 use Rattle.sets.specs.Sets.{has, empty, within, meets}
-use Rattle.header.specs.Layout.{labels, labelRecord}
-use Rattle.records.specs.Fields.{labelLevel, labelCompartments, labelGroups}
+use Rattle.header.specs.Layout.{labels}
 use Rattle.image.specs.Lookup.{labelOfTag}
-use Rattle.labels.specs.Label.{Marks, marks}
+use Rattle.labels.specs.Label.{Marks, labelAt}
 use Rattle.labels.specs.GroupTest.{groupTest}
 use Rattle.access.specs.Rights.{Rights, between, rightsAt, maximumReadLabel}
 

@@ -7,6 +7,7 @@ use native.Mathlib.Numerals.{add-one}
 use native.Mathlib.Omega.{arith}
 use lib.ListN.{length, take, drop, set, length-append, length-drop, take-append-drop, drop-of-length-le}
 use lib.Seq.{take-all, take-length, length-take-le, drop-drop, take-at, drop-at, set-split, append-snoc}
+use lib.Seq.{take-append-le, drop-append-le, take-append-add, drop-append-add}
 use Rattle.buffers.specs.Pasting.{pasted}
 
 -- nothing is written
@@ -77,3 +78,22 @@ put-part xs text ys a fits e =
 pub front : (b text : List ℕ) → pasted b 0 text ≡ text ++ drop (length text) b
 unfolding pasted
 front b text = rw zero-add
+
+-- a text written inside the middle one of three
+pub pasted-inside : (x middle y : List ℕ) (k : ℕ) (text : List ℕ) → k + length text ≤ length middle
+    → pasted (x ++ middle ++ y) (length x + k) text ≡ x ++ pasted middle k text ++ y
+unfolding pasted
+pasted-inside x middle y k text fits =
+    let whole = append-assoc x middle y in
+    let a = take k middle in
+    let d = drop (k + length text) middle in
+    let first : take (length x + k) (x ++ middle ++ y) ≡ x ++ a =
+    ap (take (length x + k)) whole ∙ take-append-add x (middle ++ y) k
+    ∙ ap (λ (t : List ℕ). x ++ t) (take-append-le k middle y (omega arith)) in
+    let last : drop (length x + k + length text) (x ++ middle ++ y) ≡ d ++ y =
+    ap₂ drop (add-assoc (length x) k (length text)) whole
+    ∙ drop-append-add x (middle ++ y) (k + length text) ∙ drop-append-le (k + length text) middle y fits in
+    ap₂ (λ (s t : List ℕ). s ++ text ++ t) first last
+    ∙ ap (λ (t : List ℕ). t ++ (d ++ y)) (append-assoc x a text)
+    ∙ sym (append-assoc (x ++ (a ++ text)) d y)
+    ∙ ap (λ (t : List ℕ). t ++ y) (append-assoc x (a ++ text) d)

@@ -7,9 +7,7 @@ use lib.Dec.{leb}
 use lib.ListN.{length, drop, replicate, length-replicate}
 use lib.Seq.{take-at}
 use Rattle.refusals.specs.declared.Refusal.the-variants.{Room}
-use Rattle.refusals.specs.declared.answers.Checked.{Checked}
-use Rattle.refusals.specs.declared.answers.Checked.the-variants as checked
-use Rattle.refusals.specs.Answers.{onChecked}
+use Rattle.refusals.specs.declared.answers.Checked.the-variants.{Accepted}
 use Rattle.sessions.specs.Session.{SessionMarks, sessionRights}
 use Rattle.rows.specs.Table.{readableRows, tableAnswer}
 use Rattle.rows.specs.Reading.{handedOut, readRowsOf}
@@ -20,8 +18,8 @@ use Rattle.isolation.specs.Calls.{Call, opening, settingLabel, settingRo
 use Rattle.isolation.specs.Calls.{Answer, rowsHanded, State, lentSession, bytesRead, rowStep, step, run}
 use Rattle.isolation.specs.Claim.{bufferZeroed, Alike}
 use Rattle.rows.proofs.Wide.{flatten-length}
-use Rattle.rows.proofs.Adding.{readable-wide}
-use Rattle.rows.proofs.Giving.{table-accepted}
+use Rattle.rows.proofs.Held.{readable-wide}
+use Rattle.rows.proofs.Giving.{table-accepted, seen-of, answers-agree}
 
 -- ---- one read
 -- what a caller sees of a read
@@ -46,27 +44,29 @@ rows-shown w rows a buffer = at (leb (length (flatten rows)) (length buffer))
 pub buffers-alike : (im : List ℕ) (s : SessionMarks) (table : List ℕ) (w : ℕ) (buffer1 buffer2 : List ℕ) → length buffer1 ≡ length buffer2
     → shown w (readRowsOf im s table w buffer1) ≡ shown w (readRowsOf im s table w buffer2)
 unfolding readRowsOf
-buffers-alike im s table w buffer1 buffer2 same = at (tableAnswer im s w table) refl
+buffers-alike im s table w buffer1 buffer2 same =
+    seen-of (shown w) (tableAnswer im s table w) (λ r. (Refused r, buffer1)) (handedOut rows buffer1)
+    ∙ answers-agree (λ r. rowsHanded (Refused r) []) _ _ (tableAnswer im s table w) _ refl alike
+    ∙ sym (seen-of (shown w) (tableAnswer im s table w) (λ r. (Refused r, buffer2)) (handedOut rows buffer2))
   where
-    at : (c : Checked) → tableAnswer im s w table ≡ c
-        → shown w (onChecked c (λ r. (Refused r, buffer1)) (handedOut (readableRows im (sessionRights im s) w table) buffer1))
-        ≡ shown w (onChecked c (λ r. (Refused r, buffer2)) (handedOut (readableRows im (sessionRights im s) w table) buffer2))
-    at checked.Accepted e =
-        let rows = readableRows im (sessionRights im s) w table in
-        let wide = readable-wide im (sessionRights im s) w table (table-accepted im s w table e .1) in
+    rows : List (List ℕ)
+    rows = readableRows im (sessionRights im s) table w
+
+    alike : tableAnswer im s table w ≡ Accepted → shown w (handedOut rows buffer1) ≡ shown w (handedOut rows buffer2)
+    alike e =
+        let wide = readable-wide table w (table-accepted im s table w e .1) im (sessionRights im s) in
         rows-shown w rows wide buffer1 ∙ (rw same) ∙ sym (rows-shown w rows wide buffer2)
-    at (checked.Refused r) e = refl
 
 -- ---- a sequence
 step-alike : (im : List ℕ) (state : State) (call : Call) → step im state call ≡ step im state (bufferZeroed call)
 unfolding step rowStep
 step-alike im state (opening name) = refl
-step-alike im state (settingLabel lending text) = refl
-step-alike im state (settingRowLabel lending text) = refl
-step-alike im state (onRows lending w (reading buffer)) =
+step-alike im state (settingLabel lent text) = refl
+step-alike im state (settingRowLabel lent text) = refl
+step-alike im state (onRows lent w (reading buffer)) =
     ap (λ (a : Answer). (state, a))
-    (buffers-alike im (lentSession state lending) (state .table) w buffer (replicate (length buffer) 0) (sym (length-replicate (length buffer) 0)))
-step-alike im state (onRows lending w (updating n payload)) = refl
+    (buffers-alike im (lentSession state lent) (state .table) w buffer (replicate (length buffer) 0) (sym (length-replicate (length buffer) 0)))
+step-alike im state (onRows lent w (updating n payload)) = refl
 
 run-alike : (im : List ℕ) (calls : List Call) (state : State) → run im state calls ≡ run im state (map bufferZeroed calls)
 unfolding run

@@ -25,8 +25,8 @@ run-step im state call calls after answer e = rw e
 
 module _ (im : List ℕ) (u width : ℕ) where
   -- one sequence on two tables
-  same-calls : (calls : List Call) (table1 table2 : List ℕ) → Paired im u width table1 table2 → (s : SessionMarks)
-      → ownCalls im u width (started table1 s) calls ≡ true → Claim im u width table1 table2 s calls calls
+  same-calls : (calls : List Call) (table1 table2 : List ℕ) → Paired im u table1 table2 width → (s : SessionMarks)
+      → ownCalls im u (started table1 s) width calls ≡ true → Claim im u table1 table2 width s calls calls
   unfolding ownCalls
   same-calls [] table1 table2 pair s e =
       unfold run in
@@ -38,40 +38,41 @@ module _ (im : List ℕ) (u width : ℕ) where
       }
   same-calls (call ∷ calls) table1 table2 pair s e =
       let before = started table1 s in
-      let here = both-left (ownCall u width before call) (ownCalls im u width (step im before call .0) calls) e in
-      let rest = both-right (ownCall u width before call) (ownCalls im u width (step im before call .0) calls) e in
-      let n = next im u width table1 table2 pair s call here in
-      let own = subst (λ (x : State × Answer). ownCalls im u width (x .0) calls ≡ true) (n .step1) rest in
+      let here = both-left (ownCall u before width call) (ownCalls im u (step im before call .0) width calls) e in
+      let rest = both-right (ownCall u before width call) (ownCalls im u (step im before call .0) width calls) e in
+      let n = next im u table1 table2 width pair s call here in
+      let own = subst (λ (x : State × Answer). ownCalls im u (x .0) width calls ≡ true) (n .step1) rest in
       let later = same-calls calls (n .after1) (n .after2) (n .pair) (n .session) own in
       let run1 = run-step im (started table1 s) call calls (started (n .after1) (n .session)) (n .answer) (n .step1) in
       let run2 = run-step im (started table2 s) call calls (started (n .after2) (n .session)) (n .answer) (n .step2) in
       let end1 : tableAfter im table1 s (call ∷ calls) ≡ tableAfter im (n .after1) (n .session) calls = ap tableIn run1 in
       let end2 : tableAfter im table2 s (call ∷ calls) ≡ tableAfter im (n .after2) (n .session) calls = ap tableIn run2 in
+      let list : List ℕ → List (List ℕ) = λ (table : List ℕ). listAtMaximum im u table width in
       record {
         answers-equal = rw (run1, run2, later .answers-equal);
-        final-lists-equal = ap (listAtMaximum im u width) end1 ∙ later .final-lists-equal ∙ sym (ap (listAtMaximum im u width) end2);
+        final-lists-equal = ap list end1 ∙ later .final-lists-equal ∙ sym (ap list end2);
         hidden-kept1 =
-            subst (HiddenKept im u width table1) (sym end1) (kept-trans im u width _ _ _ (n .kept1) (later .hidden-kept1));
+            subst (λ (t : List ℕ). HiddenKept im u table1 t width) (sym end1) (kept-trans im u width _ _ _ (n .kept1) (later .hidden-kept1));
         hidden-kept2 =
-            subst (HiddenKept im u width table2) (sym end2) (kept-trans im u width _ _ _ (n .kept2) (later .hidden-kept2));
+            subst (λ (t : List ℕ). HiddenKept im u table2 t width) (sym end2) (kept-trans im u width _ _ _ (n .kept2) (later .hidden-kept2));
       }
 
 -- the two sequences differ in what the reads' buffers held before, and so give equal runs
 pub hidden-rows : HiddenRows
-hidden-rows im u width table1 table2 start calls1 calls2 p =
+hidden-rows im u table1 table2 width start calls1 calls2 p =
     let same = same-calls im u width calls1 table1 table2 pair start (p .calls-own) in
     let equal = runs-equal im calls1 calls2 (p .calls-alike) (started table2 start) in
     record {
       answers-equal = rw (← equal) (same .answers-equal);
-      final-lists-equal = same .final-lists-equal ∙ ap (λ (r : State × List Answer). listAtMaximum im u width (tableIn r)) equal;
+      final-lists-equal = same .final-lists-equal ∙ ap (λ (r : State × List Answer). listAtMaximum im u (tableIn r) width) equal;
       hidden-kept1 = same .hidden-kept1;
-      hidden-kept2 = subst (λ (r : State × List Answer). HiddenKept im u width table2 (tableIn r)) equal (same .hidden-kept2);
+      hidden-kept2 = subst (λ (r : State × List Answer). HiddenKept im u table2 (tableIn r) width) equal (same .hidden-kept2);
     }
   where
-    pair : Paired im u width table1 table2
+    pair : Paired im u table1 table2 width
     pair =
         record {
-          first = shape-accepted width table1 (p .table1-accepted);
-          second = shape-accepted width table2 (p .table2-accepted);
+          first = shape-accepted table1 width (p .table1-accepted);
+          second = shape-accepted table2 width (p .table2-accepted);
           lists = p .lists-equal;
         }

@@ -3,8 +3,7 @@ use Prim.Native.Nat.{ℕ, zero, suc}
 use mathlib.Core.Path.{_≡_, refl, sym, ap, _∙_}
 use mathlib.Core.Bool.{Bool, true, false, true≢false}
 use mathlib.Core.List.{List, [], _∷_}
-use Rattle.rows.specs.Table.{kept}
-use Rattle.rows.specs.Updating.{changedNth}
+use Rattle.rows.specs.Run.{kept, changedNth}
 
 -- ---- a narrow test: every row that passes it passes a wide one too
 abbrev pub Inside : (List ℕ → Bool) → (List ℕ → Bool) → Type 0

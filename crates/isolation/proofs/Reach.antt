@@ -9,7 +9,8 @@ use Rattle.access.specs.Verdicts.{readableAtMaximum}
 use Rattle.access.proofs.Maximum.{maximum-reads}
 use Rattle.sessions.specs.Session.{SessionMarks, lentAnswer, sessionRights}
 use Rattle.sessions.proofs.Accepting.{lent-accepted, lent-rule}
-use Rattle.rows.specs.Table.{rowsOf, rowTag, rowReadable, readableRows, kept}
+use Rattle.rows.specs.Run.{kept}
+use Rattle.rows.specs.Table.{rowsOf, rowTag, rowReadable, readableRows}
 use Rattle.isolation.specs.Claim.{everReadable, listAtMaximum}
 use Rattle.isolation.proofs.Keeping.{kept-inside}
 
@@ -20,12 +21,12 @@ module _ (im : List ℕ) (u : ℕ) (s : SessionMarks) (own : s .user ≡ u) (len
       (maximum-reads im (lent-accepted im s lent) (s .user) (s .label) (s .row) (lent-rule im s lent) (rowTag row) e)
 
   pub readable-from-list : (w : ℕ) (table : List ℕ)
-      → readableRows im (sessionRights im s) w table ≡ kept (rowReadable im (sessionRights im s)) (listAtMaximum im u w table)
+      → readableRows im (sessionRights im s) table w ≡ kept (rowReadable im (sessionRights im s)) (listAtMaximum im u table w)
   unfolding readableRows listAtMaximum
-  readable-from-list w table = kept-inside (rowReadable im (sessionRights im s)) (everReadable im u) reads-ever (rowsOf w table)
+  readable-from-list w table = kept-inside (rowReadable im (sessionRights im s)) (everReadable im u) reads-ever (rowsOf table w)
 
   -- equal lists, equal readable rows
-  pub readable-equal : (w : ℕ) (table1 table2 : List ℕ) → listAtMaximum im u w table1 ≡ listAtMaximum im u w table2
-      → readableRows im (sessionRights im s) w table1 ≡ readableRows im (sessionRights im s) w table2
+  pub readable-equal : (w : ℕ) (table1 table2 : List ℕ) → listAtMaximum im u table1 w ≡ listAtMaximum im u table2 w
+      → readableRows im (sessionRights im s) table1 w ≡ readableRows im (sessionRights im s) table2 w
   readable-equal w table1 table2 e =
       readable-from-list w table1 ∙ ap (kept (rowReadable im (sessionRights im s))) e ∙ sym (readable-from-list w table2)

@@ -14,9 +14,9 @@ use Rattle.rows.specs.declared.answers.RowsRead.the-variants.{Done, Refused}
 
 -- ---- what is called
 -- the session that a call works on: the one returned last, or any other
-pub data Lending : Type 0 where
-  last : Lending
-  other : SessionMarks → Lending
+pub data LentAs : Type 0 where
+  last : LentAs
+  other : SessionMarks → LentAs
 
 -- a read with its buffer as it was before; an update with n and a payload
 pub data RowCall : Type 0 where
@@ -26,9 +26,9 @@ pub data RowCall : Type 0 where
 -- an opening with a user name; a change of either label with a text; a row call with a width
 pub data Call : Type 0 where
   opening : List ℕ → Call
-  settingLabel : Lending → List ℕ → Call
-  settingRowLabel : Lending → List ℕ → Call
-  onRows : Lending → ℕ → RowCall → Call
+  settingLabel : LentAs → List ℕ → Call
+  settingRowLabel : LentAs → List ℕ → Call
+  onRows : LentAs → ℕ → RowCall → Call
 
 -- ---- what a caller sees of it
 -- an opening's or a label change's session; a read's count with the first count times width bytes of its buffer; whether another row
@@ -46,7 +46,7 @@ pub record State : Type 0 where
 
 -- ---- one call
 -- the session that is lent to it
-abbrev pub lentSession : State → Lending → SessionMarks
+abbrev pub lentSession : State → LentAs → SessionMarks
 lentSession state last = state .session
 lentSession state (other s) = s
 
@@ -72,14 +72,14 @@ unfoldable pub step : List ℕ → State → Call → State × Answer
 step im state (opening name) =
     let answer = openOf im name in
     (record { table = state .table; session = sessionAfter answer (state .session) }, opened answer)
-step im state (settingLabel lending text) =
-    let result = setLabelOf im (lentSession state lending) text in
+step im state (settingLabel lent text) =
+    let result = setLabelOf im (lentSession state lent) text in
     (record { table = state .table; session = result .0 }, labelSet (result .0) (result .1))
-step im state (settingRowLabel lending text) =
-    let result = setRowLabelOf im (lentSession state lending) text in
+step im state (settingRowLabel lent text) =
+    let result = setRowLabelOf im (lentSession state lent) text in
     (record { table = state .table; session = result .0 }, labelSet (result .0) (result .1))
-step im state (onRows lending width call) =
-    let result = rowStep im (lentSession state lending) (state .table) width call in
+step im state (onRows lent width call) =
+    let result = rowStep im (lentSession state lent) (state .table) width call in
     (record { table = result .0; session = state .session }, result .1)
 
 -- ---- the whole sequence: what stands after it, and all answers in order

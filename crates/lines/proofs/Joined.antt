@@ -14,9 +14,8 @@ use Rattle.header.specs.Layout.{users, labels, userRecord, labelRecord}
 use Rattle.records.specs.Fields.{tagOf, userName, userNameField}
 use Rattle.image.specs.Check.{IsAccepted}
 use Rattle.image.proofs.Policy.{user-kept, label-kept}
-use Rattle.labels.specs.Label.{Marks}
+use Rattle.labels.specs.Label.{Marks, labelAt}
 use Rattle.access.specs.Rights.{Rights}
-use Rattle.access.specs.Verdicts.{labelAt}
 use Rattle.sessions.specs.Session.{sessionRights}
 use Rattle.sessions.specs.Opening.{defaultSession}
 use Rattle.lines.specs.Lines.{space, decimal, ending, lineAt}

@@ -12,7 +12,8 @@ use Rattle.header.specs.Layout.{users, labels, userRecord, labelRecord}
 use Rattle.records.specs.Fields.{tagOf, userName}
 use Rattle.image.specs.Check.{faultOf, checkOf, IsAccepted}
 use Rattle.image.proofs.Policy.{label-found, user-found}
-use Rattle.access.specs.Verdicts.{labelAt, knownTag, readsLabel, writesLabel, mayRead, mayWrite}
+use Rattle.access.specs.Verdicts.{knownTag, readsLabel, writesLabel, mayRead, mayWrite}
+use Rattle.labels.specs.Label.{labelAt}
 use Rattle.sessions.specs.Session.{sessionRights}
 use Rattle.sessions.specs.Opening.{session, defaultSession, openAccepted, openOf}
 use Rattle.sessions.specs.Asking.{mayReadOf, mayWriteOf}

@@ -12,9 +12,9 @@ use Rattle.header.specs.Layout.{users, labels, userRecord, labelRecord}
 use Rattle.records.specs.Fields.{tagOf, userName}
 use Rattle.image.specs.Check.{checkOf}
 use Rattle.refusals.specs.Answers.{onChecked}
-use Rattle.labels.specs.Label.{Marks}
+use Rattle.labels.specs.Label.{Marks, labelAt}
 use Rattle.access.specs.Rights.{Rights}
-use Rattle.access.specs.Verdicts.{labelAt, readsLabel, writesLabel}
+use Rattle.access.specs.Verdicts.{readsLabel, writesLabel}
 use Rattle.sessions.specs.Session.{sessionRights}
 use Rattle.sessions.specs.Opening.{defaultSession}
 

@@ -6,8 +6,7 @@ use mathlib.Core.Logic.{_⊎_, inl, inr, ⊎-elim}
 use mathlib.Core.List.{List, [], _∷_, _++_, flatten}
 use native.Mathlib.Omega.{arith}
 use lib.ListN.{length, getD, length-append}
-use Rattle.rows.specs.Table.{offsetOf, kept}
-use Rattle.rows.specs.Updating.{changedNth}
+use Rattle.rows.specs.Run.{kept, offsetOf, changedNth}
 
 module _ (f : List ℕ → Bool) where
   -- there is one: the rows before it make its offset, and a change leaves them and those after it

@@ -1,8 +1,9 @@
 -- Laws that several proofs use, and what the crates above may cite.
 pub mod Standing
+pub mod Wide
+pub mod Held
 pub mod Scanning
 pub mod Adding
-pub mod Wide
 pub mod Finding
 pub mod Replacing
 pub mod Answered

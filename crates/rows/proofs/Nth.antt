@@ -12,9 +12,9 @@ use Rattle.refusals.specs.declared.answers.Checked.{Checked}
 use Rattle.refusals.specs.declared.answers.Checked.the-variants as checked
 use Rattle.refusals.specs.Answers.{onChecked}
 use Rattle.sessions.specs.Session.{SessionMarks, sessionRights}
-use Rattle.rows.specs.Table.{kept, readableRows, tableAnswer}
+use Rattle.rows.specs.Run.{kept, changedNth}
+use Rattle.rows.specs.Table.{readableRows, tableAnswer}
 use Rattle.rows.specs.Reading.{handedOut, readRowsOf}
-use Rattle.rows.specs.Updating.{changedNth}
 use Rattle.rows.specs.declared.answers.RowsRead.{RowsRead}
 use Rattle.rows.specs.declared.answers.RowsRead.the-variants.{Done, Refused}
 use Rattle.rows.proofs.Standing.{AllWide}
@@ -150,11 +150,11 @@ countIn (Refused r) = zero
 
 -- a done read's count is how many rows that session may read then
 pub read-count : (im : List ℕ) (s : SessionMarks) (table : List ℕ) (w : ℕ) (buffer : List ℕ) (count : ℕ) (after : List ℕ)
-    → readRowsOf im s table w buffer ≡ (Done count, after) → count ≡ length (readableRows im (sessionRights im s) w table)
+    → readRowsOf im s table w buffer ≡ (Done count, after) → count ≡ length (readableRows im (sessionRights im s) table w)
 unfolding readRowsOf handedOut
 read-count im s table w buffer count after =
-    at (tableAnswer im s w table) (readableRows im (sessionRights im s) w table)
-    (leb (length (flatten (readableRows im (sessionRights im s) w table))) (length buffer))
+    at (tableAnswer im s table w) (readableRows im (sessionRights im s) table w)
+    (leb (length (flatten (readableRows im (sessionRights im s) table w))) (length buffer))
   where
     at : (c : Checked) (rows : List (List ℕ)) (t : Bool)
         → _≡_ {A = RowsRead × List ℕ}

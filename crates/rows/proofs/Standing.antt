@@ -1,46 +1,31 @@
--- Where rows stand. Assumes nothing.
+-- Where rows stand in a run. Assumes nothing.
 use Prim.Native.Nat.{ℕ, zero, suc, _+_, _-_, _*_, _/_, _%_, _≤_, _<_}
 use mathlib.Core.Path.{_≡_, refl, _∙_}
-use mathlib.Core.Bool.{true}
 use mathlib.Core.List.{List, [], _∷_, _++_, flatten}
 use native.Mathlib.Nat.{suc-mul, div-eq-of-lt, div-eq-sub-div, div-add-mod', le-add-right}
 use native.Mathlib.Numerals.{add-one}
 use native.Mathlib.Omega.{arith}
-use borrow.Author.Tests.{leb-true, eqb-true}
 use lib.ListN.{length, take, drop, length-append, length-drop, take-append-drop}
 use lib.Seq.{length-take-le, take-at, drop-at}
-use Rattle.fields.proofs.Both.{parts}
-use Rattle.rows.specs.Table.{firstRows, rowsOf, withRows, tableRule}
+use Rattle.rows.specs.Run.{IsRun, firstRows, runRows}
 
 -- every row is that long
 abbrev pub AllWide : ℕ → List (List ℕ) → Type 0
 AllWide w [] = Unit {0}
 AllWide w (row ∷ rows) = (length row ≡ w) × AllWide w rows
 
--- ---- what 12 lets through
-pub record Whole (w : ℕ) (table : List ℕ) : Type 0 where
-  pub wide : 5 ≤ w
-  pub narrow : w ≤ 512
-  pub multiple : length table % w ≡ 0
-
-pub table-means : (w : ℕ) (table : List ℕ) → tableRule w table ≡ true → Whole w table
-unfolding tableRule
-table-means w table e =
-    let p = parts _ _ e in
-    let q = parts _ _ (p .0) in
-    record { wide = leb-true _ _ (q .0); narrow = leb-true _ _ (q .1); multiple = eqb-true _ _ (p .1) }
-
 -- ---- one row after the other
 module _ (w : ℕ) (positive : 0 < w) where
-  pub rows-end : (bytes : List ℕ) → length bytes < w → rowsOf w bytes ≡ []
-  unfolding rowsOf firstRows
-  rows-end bytes h = rw (div-eq-of-lt h)
+  pub rows-end : (run : List ℕ) → length run < w → runRows run w ≡ []
+  unfolding runRows firstRows
+  rows-end run h = rw (div-eq-of-lt h)
 
-  pub rows-step : (bytes : List ℕ) → w ≤ length bytes → rowsOf w bytes ≡ take w bytes ∷ rowsOf w (drop w bytes)
-  unfolding rowsOf firstRows
-  rows-step bytes h = rw (div-eq-sub-div positive h, add-one, length-drop)
+  pub rows-step : (run : List ℕ) → w ≤ length run → runRows run w ≡ take w run ∷ runRows (drop w run) w
+  unfolding runRows firstRows
+  rows-step run h = rw (div-eq-sub-div positive h, add-one, length-drop)
 
-  flat-again : (rows : List (List ℕ)) → AllWide w rows → rowsOf w (flatten rows) ≡ rows
+  -- rows made a run are its rows
+  pub flat-again : (rows : List (List ℕ)) → AllWide w rows → runRows (flatten rows) w ≡ rows
   unfolding flatten
   flat-again [] wide = rows-end [] positive
   flat-again (row ∷ rows) wide =
@@ -48,46 +33,38 @@ module _ (w : ℕ) (positive : 0 < w) where
       rows-step (row ++ flatten rows) long
       ∙ rw (take-at row (flatten rows) w (wide .0), drop-at row (flatten rows) w (wide .0), flat-again rows (wide .1))
 
-  -- a table given other rows has these
-  pub rows-again : (table : List ℕ) (rows : List (List ℕ)) → AllWide w rows → rowsOf w (withRows w table rows) ≡ rows
-  unfolding withRows
-  rows-again table rows wide = flat-again rows wide
-
--- ---- the rows of a run of whole rows
-first-whole : (w n : ℕ) (bytes : List ℕ) → length bytes ≡ n * w → flatten (firstRows w n bytes) ≡ bytes
+-- ---- all rows of a run
+first-whole : (w n : ℕ) (run : List ℕ) → length run ≡ n * w → flatten (firstRows run w n) ≡ run
 unfolding firstRows flatten
 first-whole w zero [] e = refl
-first-whole w zero (x ∷ bytes) e = absurd (omega arith)
-first-whole w (suc n) bytes e =
-    let s : length bytes ≡ n * w + w = e ∙ suc-mul n w in
-    let l : length (drop w bytes) ≡ n * w = length-drop w bytes ∙ omega arith in
-    rw (first-whole w n (drop w bytes) l) (take-append-drop w bytes)
+first-whole w zero (x ∷ run) e = absurd (omega arith)
+first-whole w (suc n) run e =
+    let s : length run ≡ n * w + w = e ∙ suc-mul n w in
+    let l : length (drop w run) ≡ n * w = length-drop w run ∙ omega arith in
+    rw (first-whole w n (drop w run) l) (take-append-drop w run)
 
-first-wide : (w n : ℕ) (bytes : List ℕ) → length bytes ≡ n * w → AllWide w (firstRows w n bytes)
+first-wide : (w n : ℕ) (run : List ℕ) → length run ≡ n * w → AllWide w (firstRows run w n)
 unfolding firstRows
-first-wide w zero bytes e = record {}
-first-wide w (suc n) bytes e =
-    let s : length bytes ≡ n * w + w = e ∙ suc-mul n w in
-    let l : length (drop w bytes) ≡ n * w = length-drop w bytes ∙ omega arith in
-    let h : w ≤ length bytes = omega arith in
-    (length-take-le w bytes h, first-wide w n (drop w bytes) l)
+first-wide w zero run e = record {}
+first-wide w (suc n) run e =
+    let s : length run ≡ n * w + w = e ∙ suc-mul n w in
+    let l : length (drop w run) ≡ n * w = length-drop w run ∙ omega arith in
+    let h : w ≤ length run = omega arith in
+    (length-take-le w run h, first-wide w n (drop w run) l)
 
-module _ (w : ℕ) (table : List ℕ) (e : tableRule w table ≡ true) where
-  whole-length : length table ≡ length table / w * w
+module _ (run : List ℕ) (w : ℕ) (whole : IsRun run w) where
+  whole-length : length run ≡ length run / w * w
   whole-length =
-      let m = table-means w table e .multiple in
-      let d : length table / w * w + length table % w ≡ length table = div-add-mod' (length table) w in
+      let m = whole .multiple in
+      let d : length run / w * w + length run % w ≡ length run = div-add-mod' (length run) w in
       omega arith
 
-  pub flat-whole : flatten (rowsOf w table) ≡ table
-  unfolding rowsOf
-  flat-whole = first-whole w (length table / w) table whole-length
+  -- a run is its rows, one after the other
+  pub flat-whole : flatten (runRows run w) ≡ run
+  unfolding runRows
+  flat-whole = first-whole w (length run / w) run whole-length
 
-  -- a table given its own rows is as it was
-  pub rows-whole : withRows w table (rowsOf w table) ≡ table
-  unfolding withRows
-  rows-whole = flat-whole
-
-  pub rows-wide : AllWide w (rowsOf w table)
-  unfolding rowsOf
-  rows-wide = first-wide w (length table / w) table whole-length
+  -- each of that width
+  pub rows-wide : AllWide w (runRows run w)
+  unfolding runRows
+  rows-wide = first-wide w (length run / w) run whole-length

@@ -6,7 +6,7 @@ use mathlib.Core.List.{List, [], _∷_, _++_, flatten, append-assoc}
 use native.Mathlib.Nat.{zero-mul, suc-mul}
 use native.Mathlib.Omega.{arith}
 use lib.ListN.{length, drop, length-append}
-use Rattle.rows.specs.Table.{firstRows, rowsOf, kept}
+use Rattle.rows.specs.Run.{firstRows, runRows, kept}
 use Rattle.rows.proofs.Standing.{AllWide}
 
 -- the rows that are kept are as wide
@@ -37,12 +37,12 @@ pub wide-middle : (w : ℕ) (a : List (List ℕ)) (row : List ℕ) (b : List (Li
 wide-middle w [] row b wide = wide .0
 wide-middle w (x ∷ a) row b wide = wide-middle w a row b (wide .1)
 
-first-count : (w n : ℕ) (bytes : List ℕ) → length (firstRows w n bytes) ≡ n
+first-count : (run : List ℕ) (w n : ℕ) → length (firstRows run w n) ≡ n
 unfolding firstRows
-first-count w zero bytes = refl
-first-count w (suc n) bytes = ap suc (first-count w n (drop w bytes))
+first-count run w zero = refl
+first-count run w (suc n) = ap suc (first-count (drop w run) w n)
 
--- how many rows a table has
-pub rows-count : (w : ℕ) (table : List ℕ) → length (rowsOf w table) ≡ length table / w
-unfolding rowsOf
-rows-count w table = first-count w (length table / w) table
+-- how many rows a run has
+pub rows-count : (run : List ℕ) (w : ℕ) → length (runRows run w) ≡ length run / w
+unfolding runRows
+rows-count run w = first-count run w (length run / w)

@@ -1,4 +1,5 @@
 -- Tables: row reads, row updates, masked reads.
+pub mod Run
 pub mod Table
 pub mod Reading
 pub mod Updating

@@ -15,16 +15,14 @@ use Rattle.refusals.specs.declared.answers.Verdict.{Verdict}
 use Rattle.refusals.specs.declared.answers.Verdict.the-variants.{Yes, No, Refused}
 use Rattle.rows.specs.Table.{rowsOf, payloadLength, payloadOffset, rowReadable, tableAnswer}
 
--- ---- with those rights, once image, session and table are accepted: may the row at that place be read? 14 where there is no such row
-unfoldable pub placeVerdict : List ℕ → Rights → List ℕ → ℕ → ℕ → Verdict
-placeVerdict im rights table width place =
-    let rows = rowsOf width table in
-    cond (ltb place (length rows)) (verdictOf (rowReadable im rights (getD rows place []))) (Refused NoRow)
+-- ---- with those rights, of those rows: may the one at that place be read? 14 where there is none
+unfoldable pub placeVerdict : List ℕ → Rights → List (List ℕ) → ℕ → Verdict
+placeVerdict im rights rows place = cond (ltb place (length rows)) (verdictOf (rowReadable im rights (getD rows place []))) (Refused NoRow)
 
 -- ---- the answer of `masked_verdict`: 1, 2, 3, 19, 12 before all others
 unfoldable pub maskedVerdictOf : List ℕ → SessionMarks → List ℕ → ℕ → ℕ → Verdict
 maskedVerdictOf im s table width place =
-    onChecked (tableAnswer im s width table) Refused (placeVerdict im (sessionRights im s) table width place)
+    onChecked (tableAnswer im s table width) Refused (placeVerdict im (sessionRights im s) (rowsOf table width) place)
 
 -- ---- the answer of `masked_read`
 -- what a verdict hands back: the row's payload, where it stands in the table; the mask text; an empty part. A mask without bytes looks

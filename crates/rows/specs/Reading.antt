@@ -21,5 +21,5 @@ handedOut rows buffer =
 -- the answer of `read`, and the buffer after it: 1, 2, 3, 19, 12 before all others
 unfoldable pub readRowsOf : List ℕ → SessionMarks → List ℕ → ℕ → List ℕ → RowsRead × List ℕ
 readRowsOf im s table width buffer =
-    onChecked (tableAnswer im s width table) (λ r. (Refused r, buffer))
-    (handedOut (readableRows im (sessionRights im s) width table) buffer)
+    onChecked (tableAnswer im s table width) (λ r. (Refused r, buffer))
+    (handedOut (readableRows im (sessionRights im s) table width) buffer)

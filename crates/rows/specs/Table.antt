@@ -1,7 +1,7 @@
--- A table: a lent run of rows of one width, 5 to 512; the tag is the first 4 bytes.
-use Prim.Native.Nat.{ℕ, zero, suc, _+_, _-_, _*_, _/_, _%_}
-use mathlib.Core.Bool.{Bool, cond, _&&_}
-use mathlib.Core.List.{List, [], _∷_, _++_, flatten}
+-- A table: lent bytes that hold a run of rows of one width, 5 to 512; a row's tag is its first 4 bytes.
+use Prim.Native.Nat.{ℕ, _+_, _-_, _%_}
+use mathlib.Core.Bool.{Bool, _&&_}
+use mathlib.Core.List.{List, _++_, flatten}
 use lib.Dec.{eqb}
 use lib.ListN.{length, take, drop}
 use Rattle.fields.specs.Bytes.{number4}
@@ -12,30 +12,32 @@ use Rattle.refusals.specs.Answers.{onChecked, orRefuse}
 use Rattle.access.specs.Rights.{Rights, between}
 use Rattle.access.specs.Verdicts.{mayRead, mayWrite}
 use Rattle.sessions.specs.Session.{SessionMarks, lentAnswer}
+use Rattle.rows.specs.Run.{runRows, rowOffset, kept, changedNth}
 
--- ---- where rows stand: these definitions say it, and no other does
--- the first n rows of a run of bytes
-unfoldable pub firstRows : ℕ → ℕ → List ℕ → List (List ℕ)
-firstRows width zero bytes = []
-firstRows width (suc n) bytes = take width bytes ∷ firstRows width n (drop width bytes)
+-- ---- where a table holds its run: these definitions say it, and no other does
+-- the run is the whole table
+unfoldable pub tableRun : List ℕ → ℕ → List ℕ
+tableRun table width = table
 
--- the rows of a table, in table order; a row is its bytes, the tag too
-unfoldable pub rowsOf : ℕ → List ℕ → List (List ℕ)
-rowsOf width table = firstRows width (length table / width) table
+-- its offset in the table
+abbrev pub runStart : ℕ
+runStart = 0
 
--- the table with those rows in place of its own: one after the other
-unfoldable pub withRows : ℕ → List ℕ → List (List ℕ) → List ℕ
-withRows width table rows = flatten rows
+-- the table with another run, as long, in place of its own
+unfoldable pub withRun : List ℕ → ℕ → List ℕ → List ℕ
+withRun table width run = run
 
--- the offset of the row at a place, from 0, among all rows
-abbrev pub rowOffset : ℕ → ℕ → ℕ
-rowOffset width place = place * width
+-- ---- the rows of a table, in table order
+unfoldable pub rowsOf : List ℕ → ℕ → List (List ℕ)
+rowsOf table width = runRows (tableRun table width) width
 
--- the offset of the n-th row that passes the test; the length of all rows where there is none
-unfoldable pub offsetOf : (List ℕ → Bool) → ℕ → List (List ℕ) → ℕ
-offsetOf test n [] = 0
-offsetOf test zero (row ∷ rows) = cond (test row) 0 (length row + offsetOf test zero rows)
-offsetOf test (suc n) (row ∷ rows) = length row + cond (test row) (offsetOf test n rows) (offsetOf test (suc n) rows)
+-- the table with those rows in place of its own
+unfoldable pub withRows : List ℕ → ℕ → List (List ℕ) → List ℕ
+withRows table width rows = withRun table width (flatten rows)
+
+-- the table with the n-th of the rows that pass the test changed
+unfoldable pub tableChanged : (List ℕ → Bool) → (List ℕ → List ℕ) → List ℕ → ℕ → ℕ → List ℕ
+tableChanged test change table width n = withRows table width (changedNth test change n (rowsOf table width))
 
 -- ---- a row
 -- the tag is the first 4 bytes
@@ -49,9 +51,9 @@ rowPayload row = drop 4 row
 abbrev pub payloadLength : ℕ → ℕ
 payloadLength width = width - 4
 
--- the offset of the payload of the row at a place
+-- the offset in the table of the payload of the row at a place, from 0, among all rows
 abbrev pub payloadOffset : ℕ → ℕ → ℕ
-payloadOffset width place = rowOffset width place + 4
+payloadOffset width place = runStart + rowOffset width place + 4
 
 -- the row with another payload and nothing else replaced
 abbrev pub withPayload : List ℕ → List ℕ → List ℕ
@@ -64,14 +66,9 @@ rowReadable im rights row = mayRead im rights (rowTag row)
 abbrev pub rowWritable : List ℕ → Rights → List ℕ → Bool
 rowWritable im rights row = mayWrite im rights (rowTag row)
 
--- ---- the rows that pass a test, in table order
-abbrev pub kept : (List ℕ → Bool) → List (List ℕ) → List (List ℕ)
-kept test [] = []
-kept test (row ∷ rows) = cond (test row) (row ∷ kept test rows) (kept test rows)
-
--- the rows that are readable with those rights
-unfoldable pub readableRows : List ℕ → Rights → ℕ → List ℕ → List (List ℕ)
-readableRows im rights width table = kept (rowReadable im rights) (rowsOf width table)
+-- the rows that are readable with those rights, in table order
+unfoldable pub readableRows : List ℕ → Rights → List ℕ → ℕ → List (List ℕ)
+readableRows im rights table width = kept (rowReadable im rights) (rowsOf table width)
 
 -- ---- 12
 -- a width is 5 to 512
@@ -79,12 +76,12 @@ abbrev pub widthRule : ℕ → Bool
 widthRule width = between 5 512 width
 
 -- and the table's length is a multiple of it
-unfoldable pub tableRule : ℕ → List ℕ → Bool
-tableRule width table = widthRule width && eqb (length table % width) 0
+unfoldable pub tableRule : List ℕ → ℕ → Bool
+tableRule table width = widthRule width && eqb (length table % width) 0
 
-abbrev pub tableShape : ℕ → List ℕ → Checked
-tableShape width table = orRefuse (tableRule width table) TableShape Accepted
+abbrev pub tableShape : List ℕ → ℕ → Checked
+tableShape table width = orRefuse (tableRule table width) TableShape Accepted
 
 -- what every row call asks first: 1, 2, 3, 19, then 12
-unfoldable pub tableAnswer : List ℕ → SessionMarks → ℕ → List ℕ → Checked
-tableAnswer im s width table = onChecked (lentAnswer im s) Refused (tableShape width table)
+unfoldable pub tableAnswer : List ℕ → SessionMarks → List ℕ → ℕ → Checked
+tableAnswer im s table width = onChecked (lentAnswer im s) Refused (tableShape table width)

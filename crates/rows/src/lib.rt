@@ -2,6 +2,7 @@
 pub mod answers;
 mod masking;
 mod reading;
+mod run;
 mod scan;
 mod updating;
 
@@ -17,13 +18,15 @@ use hierarchy::table;
 use refusals::Refusal;
 use refusals::answers::Checked;
 use refusals::answers::Verdict;
+use run::row_offset;
+use run::run_of;
 use sessions::given::Lent;
 use sessions::given::lent_rights;
 use sessions::session::Session;
 
 // A width is 5 to 512, and the table's length a multiple of it.
 fn table_ok(table: &[u8], width: usize) -> bool
-    ensures { λ r. ⌜ r ≡ tableRule width (now (table .entry)) ⌝ }
+    ensures { λ r. ⌜ r ≡ tableRule (now (table .entry)) width ⌝ }
 {
     if !((5 <= width) & (width <= 512)) {
         return false;
@@ -33,7 +36,7 @@ fn table_ok(table: &[u8], width: usize) -> bool
 
 // What the session gives its user; or 1, 2, 3, 19, 12.
 fn table_rights(image: &[u8], session: Session, table: &[u8], width: usize) -> Lent
-    ensures { λ r. ⌜ TableGives (now (image .entry)) (sessionOf session) width (now (table .entry)) r ⌝ }
+    ensures { λ r. ⌜ TableGives (now (image .entry)) (sessionOf session) (now (table .entry)) width r ⌝ }
 {
     let mut ancestors = table::EMPTY;
     let found = lent_rights(image, &mut ancestors, session);
@@ -61,7 +64,7 @@ pub fn read(
 {
     let found = table_rights(image, session, table, width);
     match found {
-        Lent::At(view) => reading::read_accepted(image, view, table, width, buffer),
+        Lent::At(view) => reading::read_accepted(image, view, run_of(table, width), width, buffer),
         Lent::Refused(refusal) => RowsRead::Refused(refusal),
     }
 }
@@ -97,7 +100,7 @@ pub fn masked_verdict(
 {
     let found = table_rights(image, session, table, width);
     match found {
-        Lent::At(view) => masking::place_verdict(image, view, table, width, place),
+        Lent::At(view) => masking::place_verdict(image, view, run_of(table, width), width, place),
         Lent::Refused(refusal) => Verdict::Refused(refusal),
     }
 }
@@ -116,7 +119,7 @@ pub fn masked_read<'a>(
     let verdict = masked_verdict(image, session, table, width, place);
     match verdict {
         Verdict::Yes => {
-            let at = place * width;
+            let at = row_offset(width, place);
             &table[at + 4..at + width]
         }
         Verdict::No => mask,

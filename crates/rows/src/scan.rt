@@ -1,14 +1,14 @@
-// Rows of a table that is accepted, one after the other.
+// Rows of a run, one after the other.
 ghost use Prim.Native.Nat.{_+_, _-_, _≤_};
 ghost use mathlib.Core.Path.{_≡_};
 ghost use mathlib.Core.Bool.{cond};
-ghost use mathlib.Core.List.{flatten};
 ghost use lib.ListN.{length};
 ghost use Rattle.image.specs.Check.{IsAccepted};
 ghost use Rattle.access.specs.Rights.{rightsOf};
 ghost use Rattle.buffers.specs.Pasting.{Written};
-ghost use Rattle.rows.specs.Table.{offsetOf, rowsOf, rowReadable, rowWritable, readableRows};
-ghost use Rattle.rows.specs.Scan.{rowBytes, Usable};
+ghost use Rattle.rows.specs.Run.{offsetOf, runRows};
+ghost use Rattle.rows.specs.Table.{rowReadable, rowWritable};
+ghost use Rattle.rows.specs.Scan.{rowBytes, keptBytes, Usable};
 use access::rights::View;
 use access::verdicts;
 use buffers::given::put;
@@ -32,7 +32,7 @@ pub fn is_writable(image: &[u8], view: View, row: &[u8]) -> bool
 // How many bytes a row adds to a read.
 fn row_length(image: &[u8], view: View, row: &[u8]) -> usize
     requires { ⌜ IsAccepted (now image) × (4 ≤ length (now row)) ⌝ }
-    ensures { λ r. ⌜ r ≡ length (rowBytes (now (image .entry)) (rightsOf view) (now (row .entry))) ⌝ }
+    ensures { λ r. ⌜ r ≡ length (rowBytes (rowReadable (now (image .entry)) (rightsOf view)) (now (row .entry))) ⌝ }
 {
     if is_readable(image, view, row) {
         return row.len();
@@ -41,15 +41,15 @@ fn row_length(image: &[u8], view: View, row: &[u8]) -> usize
 }
 
 // How many bytes the readable rows have.
-pub fn readable_length(image: &[u8], view: View, table: &[u8], width: usize) -> usize
-    requires { ⌜ Usable (now image) width (now table) ⌝ }
-    ensures { λ r. ⌜ r ≡ length (flatten (readableRows (now (image .entry)) (rightsOf view) width (now (table .entry)))) ⌝ }
+pub fn readable_length(image: &[u8], view: View, run: &[u8], width: usize) -> usize
+    requires { ⌜ Usable (now image) (now run) width ⌝ }
+    ensures { λ r. ⌜ r ≡ length (keptBytes (rowReadable (now (image .entry)) (rightsOf view)) (now (run .entry)) width) ⌝ }
 {
     let mut n = 0;
     let mut at = 0;
-    while at < table.len() {
+    while at < run.len() {
         let end = at + width;
-        n += row_length(image, view, &table[at..end]);
+        n += row_length(image, view, &run[at..end]);
         at = end;
     }
     n
@@ -58,8 +58,8 @@ pub fn readable_length(image: &[u8], view: View, table: &[u8], width: usize) -> 
 // Writes what a row adds to a read over the buffer's bytes from `at` on, and tells where it ends.
 fn copy_row(image: &[u8], view: View, row: &[u8], buffer: &mut [u8], at: usize) -> usize
     requires { ⌜ IsAccepted (now image) × (4 ≤ length (now row)) ⌝ }
-    requires { ⌜ at + length (rowBytes (now image) (rightsOf view) (now row)) ≤ length (now buffer) ⌝ }
-    ensures { λ r. ⌜ Written (now (buffer .entry)) at (rowBytes (now (image .entry)) (rightsOf view) (now (row .entry))) (now (buffer .exit)) r ⌝ }
+    requires { ⌜ at + length (rowBytes (rowReadable (now image) (rightsOf view)) (now row)) ≤ length (now buffer) ⌝ }
+    ensures { λ r. ⌜ Written (now (buffer .entry)) at (rowBytes (rowReadable (now (image .entry)) (rightsOf view)) (now (row .entry))) (now (buffer .exit)) r ⌝ }
 {
     if is_readable(image, view, row) {
         return put(row, buffer, at);
@@ -68,22 +68,16 @@ fn copy_row(image: &[u8], view: View, row: &[u8], buffer: &mut [u8], at: usize) 
 }
 
 // Writes the readable rows to the front of the buffer, and tells where they end.
-pub fn copy_readable(
-    image: &[u8],
-    view: View,
-    table: &[u8],
-    width: usize,
-    buffer: &mut [u8],
-) -> usize
-    requires { ⌜ Usable (now image) width (now table) ⌝ }
-    requires { ⌜ length (flatten (readableRows (now image) (rightsOf view) width (now table))) ≤ length (now buffer) ⌝ }
-    ensures { λ r. ⌜ Written (now (buffer .entry)) 0 (flatten (readableRows (now (image .entry)) (rightsOf view) width (now (table .entry)))) (now (buffer .exit)) r ⌝ }
+pub fn copy_readable(image: &[u8], view: View, run: &[u8], width: usize, buffer: &mut [u8]) -> usize
+    requires { ⌜ Usable (now image) (now run) width ⌝ }
+    requires { ⌜ length (keptBytes (rowReadable (now image) (rightsOf view)) (now run) width) ≤ length (now buffer) ⌝ }
+    ensures { λ r. ⌜ Written (now (buffer .entry)) 0 (keptBytes (rowReadable (now (image .entry)) (rightsOf view)) (now (run .entry)) width) (now (buffer .exit)) r ⌝ }
 {
     let mut to = 0;
     let mut at = 0;
-    while at < table.len() {
+    while at < run.len() {
         let end = at + width;
-        to = copy_row(image, view, &table[at..end], buffer, to);
+        to = copy_row(image, view, &run[at..end], buffer, to);
         at = end;
     }
     to
@@ -102,16 +96,16 @@ fn left_after(left: usize, readable: bool) -> usize
     left - 1
 }
 
-// The offset of the n-th readable row; the table's length where there is none.
-pub fn nth_readable(image: &[u8], view: View, table: &[u8], width: usize, n: usize) -> usize
-    requires { ⌜ Usable (now image) width (now table) ⌝ }
-    ensures { λ r. ⌜ r ≡ offsetOf (rowReadable (now (image .entry)) (rightsOf view)) n (rowsOf width (now (table .entry))) ⌝ }
+// The offset of the n-th readable row; the run's length where there is none.
+pub fn nth_readable(image: &[u8], view: View, run: &[u8], width: usize, n: usize) -> usize
+    requires { ⌜ Usable (now image) (now run) width ⌝ }
+    ensures { λ r. ⌜ r ≡ offsetOf (rowReadable (now (image .entry)) (rightsOf view)) n (runRows (now (run .entry)) width) ⌝ }
 {
     let mut left = n;
     let mut at = 0;
-    while at < table.len() {
+    while at < run.len() {
         let end = at + width;
-        let readable = is_readable(image, view, &table[at..end]);
+        let readable = is_readable(image, view, &run[at..end]);
         if readable & (left == 0) {
             return at;
         }

@@ -2,7 +2,8 @@
 ghost use mathlib.Core.Path.{_≡_};
 ghost use Rattle.access.specs.Rights.{rightsOf};
 ghost use Rattle.rows.specs.Updating.{updateWith};
-ghost use Rattle.rows.specs.Scan.{Usable};
+ghost use Rattle.rows.specs.Scan.{UsableTable};
+use crate::run::run_of;
 use crate::scan::is_writable;
 use crate::scan::nth_readable;
 use access::rights::View;
@@ -19,17 +20,18 @@ pub fn update_accepted(
     n: usize,
     payload: &[u8],
 ) -> Checked
-    requires { ⌜ Usable (now image) width (now table) ⌝ }
+    requires { ⌜ UsableTable (now image) (now table) width ⌝ }
     ensures { λ r. ⌜ (r, now (table .exit)) ≡ updateWith (now (image .entry)) (rightsOf view) (now (table .entry)) width n (now (payload .entry)) ⌝ }
 {
     if payload.len() != width - 4 {
         return Checked::Refused(Refusal::PayloadLength);
     }
-    let at = nth_readable(image, view, table, width, n);
-    if table.len() <= at {
+    let run = run_of(table, width);
+    let at = nth_readable(image, view, run, width, n);
+    if run.len() <= at {
         return Checked::Refused(Refusal::NoRow);
     }
-    if !is_writable(image, view, &table[at..at + width]) {
+    if !is_writable(image, view, &run[at..at + width]) {
         return Checked::Refused(Refusal::RowNotWritable);
     }
     put(payload, table, at + 4);

@@ -14,12 +14,12 @@ use Rattle.image.specs.Lookup.{componentIndex, labelOfTag}
 use Rattle.labels.specs.Text.{textByte, split, isName, isList, shapeRule}
 use Rattle.labels.specs.Parse.{matches, placeOfName, readNames, readText, ofText, parseOf}
 use Rattle.printing.specs.Print.{entryAt, listed, listText, section, textOf, acceptedAnswer, printOf}
-use Rattle.labels.specs.Label.{labelExists}
+use Rattle.labels.specs.Label.{labelExists, labelAt}
 use Rattle.dominance.specs.TwoLabels.{mergeLevels, mergeSets, lettersRule, mergedLabel, mergeOf}
 use Rattle.labels.specs.GroupTest.{groupTest}
 use Rattle.access.specs.Rights.{writeCompartmentsOf, writeGroupsOf, rightsAt}
 use Rattle.access.specs.NewLabels.{sessionGroupsRule, rowInside, sessionLabelAnswer}
-use Rattle.access.specs.Verdicts.{readsAll, writesAll, holdsCompaccess, readLevelRule, readGroupsRule, readCompartmentsRule, compaccessReads, readTests, readsLabel, writeLevelRule, writeGroupsRule, writeCompartmentsRule, writeSetsRule, compaccessWrites, writeTests, writesLabel, labelAt, knownTag, mayRead, mayWrite}
+use Rattle.access.specs.Verdicts.{readsAll, writesAll, holdsCompaccess, readLevelRule, readGroupsRule, readCompartmentsRule, compaccessReads, readTests, readsLabel, writeLevelRule, writeGroupsRule, writeCompartmentsRule, writeSetsRule, compaccessWrites, writeTests, writesLabel, knownTag, mayRead, mayWrite}
 use Rattle.sessions.specs.Session.{lentAnswer, sessionRights}
 use Rattle.sessions.specs.Opening.{session, openOf}
 use Rattle.sessions.specs.Changes.{labelChange, setLabelOf}

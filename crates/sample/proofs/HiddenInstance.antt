@@ -9,26 +9,28 @@ use Rattle.refusals.specs.declared.Refusal.the-variants.{NoUser, RowLabelOutsid
 use Rattle.refusals.specs.declared.answers.Checked.the-variants.{Accepted, Refused}
 use Rattle.sessions.specs.Session.{sessionRights}
 use Rattle.sessions.specs.Opening.{session, refused}
-use Rattle.rows.specs.Table.{firstRows, rowsOf, withRows, kept, readableRows, tableRule, tableAnswer}
+use Rattle.rows.specs.Run.{firstRows, runRows, kept}
+use Rattle.rows.specs.Table.{tableRun, withRun, rowsOf, withRows, tableChanged, readableRows, tableRule, tableAnswer}
 use Rattle.rows.specs.Reading.{handedOut, readRowsOf}
 use Rattle.rows.specs.Updating.{nthRowAnswer, tableUpdated, updateWith, updateRowOf}
 use Rattle.rows.specs.declared.answers.RowsRead.the-variants as rowsRead
 use Rattle.isolation.specs.Calls.{last, other, reading, updating, Call, opening, settingLabel, settingRowLabel, onRows, Answer, opened, labelSet, rowsHanded, rowDone, State, rowStep, step, run}
 use Rattle.isolation.specs.Claim.{everReadable, listAtMaximum, ownCall, ownCalls, started, tableAfter, Premises, Claim}
 use Rattle.isolation.proofs.HiddenRows.{run-step, hidden-rows}
+use Rattle.sample.specs.Pieces.{mara as name}
 use Rattle.sample.specs.Cooperative.{cooperative}
-use Rattle.sample.specs.TwoTables.{row, seen, rows1, rows2, table1, table2, vaulted, bare, glazed, tooLow, noSession, nameMara, nameMark, textVault, textGlaze, textCrew, calls}
+use Rattle.sample.specs.TwoTables.{rowOf, seen, rows1, rows2, table1, table2, vaulted, bare, glazed, tooLow, noSession, nameMark, textVault, textGlaze, textCrew, calls}
 use Rattle.sample.proofs.Mara.{mara, mara-opens, mara-passes, p10}
 use Rattle.sample.proofs.MaraReads.{ever, mara-verdicts, vaulted-passes, vaulted-verdicts, glazed-passes, glazed-verdicts, mark-refused, glaze-refused, crew-accepted, glaze-accepted, too-low-refused}
 
 -- ---- the tables' rows
 -- the first table after her update
 abbrev rowsAfter1 : List (List ℕ)
-rowsAfter1 = row 10 65 66 ∷ row 20 1 2 ∷ row 30 67 68 ∷ row 10 88 89 ∷ row 0 3 4 ∷ []
+rowsAfter1 = rowOf 10 65 66 ∷ rowOf 20 1 2 ∷ rowOf 30 67 68 ∷ rowOf 10 88 89 ∷ rowOf 0 3 4 ∷ []
 
 -- and what she could ever read of it
 abbrev pub seenAfter : List (List ℕ)
-seenAfter = row 10 65 66 ∷ row 30 67 68 ∷ row 10 88 89 ∷ []
+seenAfter = rowOf 10 65 66 ∷ rowOf 30 67 68 ∷ rowOf 10 88 89 ∷ []
 
 -- what she reads before and after it
 abbrev pub bytesBefore : List ℕ
@@ -44,50 +46,50 @@ bytesNow = 30 ∷ 0 ∷ 0 ∷ 0 ∷ 67 ∷ 68 ∷ []
 unfoldable tableAfter1 : List ℕ
 tableAfter1 = flatten rowsAfter1
 
-rows-before : rowsOf 6 table1 ≡ rows1
-unfolding rowsOf firstRows table1 flatten
+rows-before : rowsOf table1 6 ≡ rows1
+unfolding rowsOf runRows tableRun firstRows table1 flatten
 rows-before = refl
 
-rows-after : rowsOf 6 tableAfter1 ≡ rowsAfter1
-unfolding rowsOf firstRows tableAfter1 flatten
+rows-after : rowsOf tableAfter1 6 ≡ rowsAfter1
+unfolding rowsOf runRows tableRun firstRows tableAfter1 flatten
 rows-after = refl
 
-rows-second : rowsOf 6 table2 ≡ rows2
-unfolding rowsOf firstRows table2 flatten
+rows-second : rowsOf table2 6 ≡ rows2
+unfolding rowsOf runRows tableRun firstRows table2 flatten
 rows-second = refl
 
-list1 : listAtMaximum cooperative 0 6 table1 ≡ seen
+list1 : listAtMaximum cooperative 0 table1 6 ≡ seen
 unfolding listAtMaximum number4 number2
 list1 = rw (rows-before, ever .ever10, ever .never20, ever .ever30, ever .never0)
 
-list-after : listAtMaximum cooperative 0 6 tableAfter1 ≡ seenAfter
+list-after : listAtMaximum cooperative 0 tableAfter1 6 ≡ seenAfter
 unfolding listAtMaximum number4 number2
 list-after = rw (rows-after, ever .ever10, ever .never20, ever .ever30, ever .never0)
 
-list2 : listAtMaximum cooperative 0 6 table2 ≡ seen
+list2 : listAtMaximum cooperative 0 table2 6 ≡ seen
 unfolding listAtMaximum number4 number2
 list2 = rw (rows-second, ever .ever10, ever .never20, ever .ever30, ever .never0, ever .never77)
 
-readable-before : readableRows cooperative (sessionRights cooperative mara) 6 table1 ≡ seen
+readable-before : readableRows cooperative (sessionRights cooperative mara) table1 6 ≡ seen
 unfolding readableRows number4 number2
 readable-before =
     let v = mara-verdicts in
     rw (rows-before, v .reads10, v .hides20, v .reads30, v .hides0)
 
-readable-between : readableRows cooperative (sessionRights cooperative mara) 6 tableAfter1 ≡ seenAfter
+readable-between : readableRows cooperative (sessionRights cooperative mara) tableAfter1 6 ≡ seenAfter
 unfolding readableRows number4 number2
 readable-between =
     let v = mara-verdicts in
     rw (rows-after, v .reads10, v .hides20, v .reads30, v .hides0)
 
-readable-after : readableRows cooperative (sessionRights cooperative vaulted) 6 tableAfter1 ≡ seenAfter
+readable-after : readableRows cooperative (sessionRights cooperative vaulted) tableAfter1 6 ≡ seenAfter
 unfolding readableRows number4 number2
 readable-after =
     let v = vaulted-verdicts in
     rw (rows-after, v .reads10, v .hides20, v .reads30, v .hides0)
 
 -- with CREW:GLAZE:NORTH the two rows of CREW:KILN:DOCK are not readable now, though they are in the list
-readable-now : readableRows cooperative (sessionRights cooperative glazed) 6 tableAfter1 ≡ row 30 67 68 ∷ []
+readable-now : readableRows cooperative (sessionRights cooperative glazed) tableAfter1 6 ≡ rowOf 30 67 68 ∷ []
 unfolding readableRows number4 number2
 readable-now =
     let v = glazed-verdicts in
@@ -97,14 +99,14 @@ readable-now =
 -- a part of it: where it ends, its answers, and that its calls are hers
 record Ran (before : State) (todo : List Call) (after : State) (answers : List Answer) : Type 0 where
   ran : run cooperative before todo ≡ (after, answers)
-  own : ownCalls cooperative 0 6 before todo ≡ true
+  own : ownCalls cooperative 0 before 6 todo ≡ true
 
 done : (state : State) → Ran state [] state []
 unfolding run ownCalls
 done state = record { ran = refl; own = refl }
 
 first-call : (before middle after : State) (call : Call) (todo : List Call) (answer : Answer) (answers : List Answer)
-    → ownCall 0 6 before call ≡ true → step cooperative before call ≡ (middle, answer) → Ran middle todo after answers
+    → ownCall 0 before 6 call ≡ true → step cooperative before call ≡ (middle, answer) → Ran middle todo after answers
     → Ran before (call ∷ todo) after (answer ∷ answers)
 unfolding ownCalls
 first-call before middle after call todo answer answers own here later =
@@ -113,7 +115,7 @@ first-call before middle after call todo answer answers own here later =
       own = rw (own, here, later .own);
     }
 
-opens : step cooperative (started table1 noSession) (opening nameMara) ≡ (started table1 mara, opened (session mara))
+opens : step cooperative (started table1 noSession) (opening name) ≡ (started table1 mara, opened (session mara))
 unfolding step
 opens = rw mara-opens
 
@@ -126,7 +128,7 @@ unfolding step rowStep readRowsOf handedOut tableAnswer tableRule table1 flatten
 reads = rw (mara-passes, readable-before)
 
 updates : step cooperative (started table1 mara) (onRows last 6 (updating 2 (88 ∷ 89 ∷ []))) ≡ (started tableAfter1 mara, rowDone Accepted)
-unfolding step rowStep updateRowOf updateWith nthRowAnswer tableUpdated withRows tableAnswer tableRule table1 tableAfter1 flatten number4 number2
+unfolding step rowStep updateRowOf updateWith nthRowAnswer tableUpdated tableChanged withRows withRun tableAnswer tableRule table1 tableAfter1 flatten number4 number2
 updates =
     let v = mara-verdicts in
     rw (mara-passes, readable-before, rows-before, v .reads10, v .hides20, v .reads30, v .writes10)
@@ -212,19 +214,19 @@ first-run =
 -- ---- what is hidden
 -- the rows of a table that she could never read
 abbrev pub hiddenIn : List ℕ → List (List ℕ)
-hiddenIn table = kept (λ r. not (everReadable cooperative 0 r)) (rowsOf 6 table)
+hiddenIn table = kept (λ r. not (everReadable cooperative 0 r)) (rowsOf table 6)
 
-pub hidden1 : hiddenIn table1 ≡ row 20 1 2 ∷ row 0 3 4 ∷ []
+pub hidden1 : hiddenIn table1 ≡ rowOf 20 1 2 ∷ rowOf 0 3 4 ∷ []
 unfolding number4 number2
 hidden1 = rw (rows-before, ever .ever10, ever .never20, ever .ever30, ever .never0)
 
-pub hidden2 : hiddenIn table2 ≡ row 77 9 9 ∷ row 20 7 8 ∷ row 0 5 6 ∷ row 20 5 6 ∷ []
+pub hidden2 : hiddenIn table2 ≡ rowOf 77 9 9 ∷ rowOf 20 7 8 ∷ rowOf 0 5 6 ∷ rowOf 20 5 6 ∷ []
 unfolding number4 number2
 hidden2 = rw (rows-second, ever .ever10, ever .never20, ever .ever30, ever .never0, ever .never77)
 
 -- ---- the instance
 -- the image is well-formed (Sample: sample-accepted); MARA is user 0 (Mara: mara-opens) and has neither READ nor FULL (MaraReads: no-privileges)
-pub premises : Premises cooperative 0 6 table1 table2 noSession (calls 1) (calls 255)
+pub premises : Premises cooperative 0 table1 table2 6 noSession (calls 1) (calls 255)
 premises =
     record {
       table1-accepted = unfold tableRule table1 flatten in refl;
@@ -235,8 +237,8 @@ premises =
     }
 
 -- what the theorem gives
-pub instance : Claim cooperative 0 6 table1 table2 noSession (calls 1) (calls 255)
-instance = hidden-rows cooperative 0 6 table1 table2 noSession (calls 1) (calls 255) premises
+pub instance : Claim cooperative 0 table1 table2 6 noSession (calls 1) (calls 255)
+instance = hidden-rows cooperative 0 table1 table2 6 noSession (calls 1) (calls 255) premises
 
 -- the first run's answers are computed ..
 pub first-answers : run cooperative (started table1 noSession) (calls 1) .1 ≡ answers
@@ -250,5 +252,5 @@ second-answers = sym (instance .answers-equal) ∙ first-answers
 first-table : tableAfter cooperative table1 noSession (calls 1) ≡ tableAfter1
 first-table = ap (λ (r : State × List Answer). r .0 .table) (first-run .ran)
 
-pub second-list : listAtMaximum cooperative 0 6 (tableAfter cooperative table2 noSession (calls 255)) ≡ seenAfter
-second-list = sym (instance .final-lists-equal) ∙ ap (listAtMaximum cooperative 0 6) first-table ∙ list-after
+pub second-list : listAtMaximum cooperative 0 (tableAfter cooperative table2 noSession (calls 255)) 6 ≡ seenAfter
+second-list = sym (instance .final-lists-equal) ∙ ap (λ (table : List ℕ). listAtMaximum cooperative 0 table 6) first-table ∙ list-after

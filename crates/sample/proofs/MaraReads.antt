@@ -17,7 +17,8 @@ use Rattle.labels.specs.Parse.{matches, placeOfName, readNames}
 use Rattle.labels.specs.GroupTest.{groupTest}
 use Rattle.access.specs.Rights.{writeCompartmentsOf, writeGroupsOf, rightsAt, maximumReadLabel}
 use Rattle.access.specs.NewLabels.{sessionGroupsRule, rowInside, sessionLabelAnswer, rowLabelAnswer, sessionRule}
-use Rattle.access.specs.Verdicts.{readsAll, writesAll, holdsCompaccess, readLevelRule, readGroupsRule, readCompartmentsRule, compaccessReads, readTests, readsLabel, writeLevelRule, writeGroupsRule, writeCompartmentsRule, writeSetsRule, compaccessWrites, writeTests, writesLabel, labelAt, knownTag, mayRead, mayWrite, readableAtMaximum}
+use Rattle.access.specs.Verdicts.{readsAll, writesAll, holdsCompaccess, readLevelRule, readGroupsRule, readCompartmentsRule, compaccessReads, readTests, readsLabel, writeLevelRule, writeGroupsRule, writeCompartmentsRule, writeSetsRule, compaccessWrites, writeTests, writesLabel, knownTag, mayRead, mayWrite, readableAtMaximum}
+use Rattle.labels.specs.Label.{labelAt}
 use Rattle.sessions.specs.Session.{SessionMarks, lentAnswer, sessionRights}
 use Rattle.sessions.specs.Opening.{refused, openAccepted, openOf}
 use Rattle.sessions.specs.Changes.{labelChange, rowLabelChange, setLabelOf, setRowLabelOf}

@@ -9,7 +9,8 @@ use Rattle.header.specs.Layout.{levels, compartments, groups, users, labels, co
 use Rattle.hierarchy.specs.Below.{parent, hasParent, lineageWithin, lineage, below}
 use Rattle.labels.specs.GroupTest.{groupTest}
 use Rattle.access.specs.Rights.{writeCompartmentsOf, writeGroupsOf, rightsAt}
-use Rattle.access.specs.Verdicts.{readsAll, writesAll, holdsCompaccess, readLevelRule, readGroupsRule, readCompartmentsRule, compaccessReads, readTests, readsLabel, writeLevelRule, writeGroupsRule, writeCompartmentsRule, writeSetsRule, compaccessWrites, writeTests, writesLabel, labelAt}
+use Rattle.access.specs.Verdicts.{readsAll, writesAll, holdsCompaccess, readLevelRule, readGroupsRule, readCompartmentsRule, compaccessReads, readTests, readsLabel, writeLevelRule, writeGroupsRule, writeCompartmentsRule, writeSetsRule, compaccessWrites, writeTests, writesLabel}
+use Rattle.labels.specs.Label.{labelAt}
 use Rattle.sessions.specs.Opening.{defaultLabel, defaultRowLabel, defaultSession}
 use Rattle.lines.specs.Lines.{digitCount, decimal, ending, lineAt, linesFrom, usersFrom, reportOf, outputOf}
 use Rattle.sample.specs.Cooperative.{cooperative}

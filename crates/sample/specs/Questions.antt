@@ -9,13 +9,13 @@ use Rattle.refusals.specs.declared.Refusal.{Refusal}
 use Rattle.refusals.specs.declared.answers.Checked.{Checked}
 use Rattle.image.specs.Lookup.{labelOfTag}
 use Rattle.refusals.specs.Answers.{onChecked}
-use Rattle.labels.specs.Label.{Marks}
+use Rattle.labels.specs.Label.{Marks, labelAt}
 use Rattle.labels.specs.Parse as parse
 use Rattle.printing.specs.Print.{textOf, printOf}
 use Rattle.printing.specs.declared.answers.Printed.{Printed}
 use Rattle.printing.specs.declared.answers.Printed.the-variants as print
 use Rattle.dominance.specs.TwoLabels as merging
-use Rattle.access.specs.Verdicts.{labelAt, knownTag}
+use Rattle.access.specs.Verdicts.{knownTag}
 use Rattle.sessions.specs.Session.{SessionMarks}
 use Rattle.sessions.specs.Opening as opening
 use Rattle.sessions.specs.Changes.{setLabelOf}

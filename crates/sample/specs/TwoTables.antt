@@ -3,26 +3,27 @@
 use Prim.Native.Nat.{ℕ}
 use mathlib.Core.List.{List, [], _∷_, flatten}
 use lib.ListN.{replicate}
-use Rattle.labels.specs.Label.{Marks}
 use Rattle.sessions.specs.Session.{SessionMarks}
 use Rattle.isolation.specs.Calls.{last, other, reading, updating, Call, opening, settingLabel, settingRowLabel, onRows}
+use Rattle.sample.specs.Pieces.{mara}
+use Rattle.sample.specs.Cooperative.{marks}
 
 -- ---- two tables of width 6
 -- a row: a tag below 256, and two bytes of payload
-abbrev pub row : ℕ → ℕ → ℕ → List ℕ
-row tag a b = tag ∷ 0 ∷ 0 ∷ 0 ∷ a ∷ b ∷ []
+abbrev pub rowOf : ℕ → ℕ → ℕ → List ℕ
+rowOf tag a b = tag ∷ 0 ∷ 0 ∷ 0 ∷ a ∷ b ∷ []
 
 -- what MARA could ever read of either: two rows of CREW:KILN:DOCK and one of OPEN
 abbrev pub seen : List (List ℕ)
-seen = row 10 65 66 ∷ row 30 67 68 ∷ row 10 69 70 ∷ []
+seen = rowOf 10 65 66 ∷ rowOf 30 67 68 ∷ rowOf 10 69 70 ∷ []
 
 -- with one row of CREW::WORKS and one of tag 0, at places 1 and 4
 abbrev pub rows1 : List (List ℕ)
-rows1 = row 10 65 66 ∷ row 20 1 2 ∷ row 30 67 68 ∷ row 10 69 70 ∷ row 0 3 4 ∷ []
+rows1 = rowOf 10 65 66 ∷ rowOf 20 1 2 ∷ rowOf 30 67 68 ∷ rowOf 10 69 70 ∷ rowOf 0 3 4 ∷ []
 
 -- with two rows of CREW::WORKS, one of tag 0 and one of tag 77, which no label has, at places 0, 2, 3 and 5
 abbrev pub rows2 : List (List ℕ)
-rows2 = row 77 9 9 ∷ row 10 65 66 ∷ row 20 7 8 ∷ row 0 5 6 ∷ row 30 67 68 ∷ row 20 5 6 ∷ row 10 69 70 ∷ []
+rows2 = rowOf 77 9 9 ∷ rowOf 10 65 66 ∷ rowOf 20 7 8 ∷ rowOf 0 5 6 ∷ rowOf 30 67 68 ∷ rowOf 20 5 6 ∷ rowOf 10 69 70 ∷ []
 
 unfoldable pub table1 : List ℕ
 table1 = flatten rows1
@@ -31,9 +32,6 @@ unfoldable pub table2 : List ℕ
 table2 = flatten rows2
 
 -- ---- MARA's sessions
-abbrev marks : ℕ → ℕ → ℕ → Marks
-marks l c g = record { level = l; compartments = c; groups = g }
-
 -- VAULT:KILN:DOCK with row label CREW:KILN:DOCK
 abbrev pub vaulted : SessionMarks
 vaulted = record { user = 0; label = marks 2 1 4; row = marks 1 1 4 }
@@ -55,10 +53,6 @@ abbrev pub noSession : SessionMarks
 noSession = record { user = 9; label = marks 0 0 0; row = marks 0 0 0 }
 
 -- ---- her calls
--- MARA
-abbrev pub nameMara : List ℕ
-nameMara = 77 ∷ 65 ∷ 82 ∷ 65 ∷ []
-
 -- MARK: no user has that name
 abbrev pub nameMark : List ℕ
 nameMark = 77 ∷ 65 ∷ 82 ∷ 75 ∷ []
@@ -78,7 +72,7 @@ textCrew = 67 ∷ 82 ∷ 69 ∷ 87 ∷ []
 -- the bytes that the reads' buffers held before, 20 each, are all that differs between two such sequences
 abbrev pub calls : ℕ → List Call
 calls byte =
-    opening nameMara
+    opening mara
     ∷ opening nameMark
     ∷ onRows last 6 (reading (replicate 20 byte))
     ∷ onRows last 6 (updating 2 (88 ∷ 89 ∷ []))

@@ -1,5 +1,6 @@
 use Prim.Native.Nat.{_+_, _-_, _*_}
 use mathlib.Core.Path.{_≡_, sym, _∙_}
+use native.Mathlib.Nat.{zero-add}
 use native.Mathlib.Omega.{arith}
 use borrow.Author.Needs.{needs}
 use Rattle.rows.specs.Masked.{maskedPart}
@@ -13,35 +14,40 @@ masked-verdict-requires c κs = search needs
 enum-told : tie.Need-enum-told
 enum-told c = search needs
 
-mul-at : tie.Need-mul-at
-mul-at c =
+row-offset-requires : tie.Need-row-offset-requires
+row-offset-requires c κs =
     let readable = masked-readable _ _ _ _ _ (sym (c .before .before .masked-verdict .ensures) ∙ c .enum-told .given .1) in
     omega (arith, readable .low, readable .inside)
 
 add-result : tie.Need-add-result
 add-result c =
-    let readable = masked-readable _ _ _ _ _ (sym (c .before .before .masked-verdict .ensures) ∙ c .enum-told .given .1) in
-    omega (arith, readable .low, readable .inside)
+    let asked = c .before in
+    let readable = masked-readable _ _ _ _ _ (sym (asked .before .before .masked-verdict .ensures) ∙ asked .enum-told .given .1) in
+    omega (arith, c .row-offset .ensures, readable .low, readable .inside)
 
 add-result-2 : tie.Need-add-result-2
 add-result-2 c =
-    let readable = masked-readable _ _ _ _ _ (sym (c .before .before .masked-verdict .ensures) ∙ c .enum-told .given .1) in
-    omega (arith, readable .low, readable .inside)
+    let asked = c .before in
+    let readable = masked-readable _ _ _ _ _ (sym (asked .before .before .masked-verdict .ensures) ∙ asked .enum-told .given .1) in
+    omega (arith, c .row-offset .ensures, readable .low, readable .inside)
 
 sub-result : tie.Need-sub-result
 sub-result c =
-    let readable = masked-readable _ _ _ _ _ (sym (c .before .before .masked-verdict .ensures) ∙ c .enum-told .given .1) in
-    omega (arith, readable .low, readable .inside)
+    let asked = c .before in
+    let readable = masked-readable _ _ _ _ _ (sym (asked .before .before .masked-verdict .ensures) ∙ asked .enum-told .given .1) in
+    omega (arith, c .row-offset .ensures, readable .low, readable .inside)
 
 part-result-start : tie.Need-part-result-start
 part-result-start c =
-    let readable = masked-readable _ _ _ _ _ (sym (c .before .before .masked-verdict .ensures) ∙ c .enum-told .given .1) in
-    omega (arith, readable .low, readable .inside)
+    let asked = c .before in
+    let readable = masked-readable _ _ _ _ _ (sym (asked .before .before .masked-verdict .ensures) ∙ asked .enum-told .given .1) in
+    omega (arith, c .row-offset .ensures, readable .low, readable .inside)
 
 part-result-end : tie.Need-part-result-end
 part-result-end c =
-    let readable = masked-readable _ _ _ _ _ (sym (c .before .before .masked-verdict .ensures) ∙ c .enum-told .given .1) in
-    omega (arith, readable .low, readable .inside)
+    let asked = c .before in
+    let readable = masked-readable _ _ _ _ _ (sym (asked .before .before .masked-verdict .ensures) ∙ asked .enum-told .given .1) in
+    omega (arith, c .row-offset .ensures, readable .low, readable .inside)
 
 enum-told-2 : tie.Need-enum-told-2
 enum-told-2 c = search needs
@@ -61,11 +67,13 @@ part-result-end-2 c = search needs
 returns : tie.Need-returns
 unfolding maskedPart
 returns c =
-    let told = sym (c .before .before .before .masked-verdict .ensures) ∙ c .before .enum-told .given .1 in
-    let a = c .before .before .before .before .before .before .before .args in
-    let readable = masked-readable _ _ _ _ _ told in
+    let asked = c .before .before in
+    let answered = asked .before .before in
+    let verdict = sym (answered .masked-verdict .ensures) ∙ asked .enum-told .given .1 in
+    let a = answered .before .before .before .before .args in
+    let readable = masked-readable _ _ _ _ _ verdict in
     let long : a .place * a .width + a .width - (a .place * a .width + 4) ≡ a .width - 4 = omega (arith, readable .low) in
-    rw (told, long)
+    rw (verdict, c .before .row-offset .ensures, long, zero-add)
 
 returns-2 : tie.Need-returns-2
 unfolding maskedPart
@@ -81,7 +89,7 @@ masked-read-spec =
     (tie.spec
     masked-verdict-requires
     enum-told
-    mul-at
+    row-offset-requires
     add-result
     add-result-2
     sub-result

@@ -1,6 +1,8 @@
 use borrow.Author.Needs.{needs}
+use Rattle.rows.specs.Table.{rowsOf}
 use Rattle.rows.specs.Masked.{maskedVerdictOf}
-use Rattle.rows.proofs.Giving.{table-at, table-refused}
+use Rattle.rows.proofs.Held.{held-means}
+use Rattle.rows.proofs.Giving.{table-at, call-refused}
 use Rattle.rows.proofs.masked_verdict.Statement.{statement}
 use Rattle.rows.proofs.masked_verdict.Tie as tie
 
@@ -10,21 +12,28 @@ table-rights-requires c κs = search needs
 enum-known-found : tie.Need-enum-known-found
 enum-known-found c = search needs
 
+run-of-requires : tie.Need-run-of-requires
+run-of-requires c κs = search needs
+
 place-verdict-requires : tie.Need-place-verdict-requires
-place-verdict-requires c κs = table-at _ _ _ _ _ _ (c .before .found .given .1) (c .before .before .before .table-rights .ensures) .1 .0
+place-verdict-requires c κs =
+    let found = c .before .before in
+    let usable = table-at _ _ _ _ _ _ (found .found .given .1) (found .before .before .table-rights .ensures) .1 .0 in
+    record { accepted = usable .accepted; whole = held-means _ _ (usable .rule) _ (c .run-of .ensures) }
 
 enum-known-found-2 : tie.Need-enum-known-found-2
 enum-known-found-2 c = search needs
 
 returns : tie.Need-returns
-unfolding maskedVerdictOf
+unfolding maskedVerdictOf rowsOf
 returns c =
-    let g = table-at _ _ _ _ _ _ (c .before .before .found .given .1) (c .before .before .before .before .table-rights .ensures) in
-    rw (g .0, ← g .1 .1) (c .place-verdict .ensures)
+    let found = c .before .before .before in
+    let g = table-at _ _ _ _ _ _ (found .found .given .1) (found .before .before .table-rights .ensures) in
+    rw (g .0, ← g .1 .1, ← c .before .run-of .ensures) (c .place-verdict .ensures)
 
 returns-2 : tie.Need-returns-2
 unfolding maskedVerdictOf
-returns-2 c = rw (table-refused _ _ _ _ _ _ (c .before .found2 .given .1) (c .before .before .before .table-rights .ensures))
+returns-2 c = call-refused _ _ _ _ _ _ _ _ (c .before .found2 .given .1) (c .before .before .before .table-rights .ensures)
 
 pub masked-verdict-spec : {M : Type 1} → statement M
 masked-verdict-spec =
@@ -32,6 +41,7 @@ masked-verdict-spec =
     (tie.spec
     table-rights-requires
     enum-known-found
+    run-of-requires
     place-verdict-requires
     enum-known-found-2
     returns

@@ -1,6 +1,6 @@
 use borrow.Author.Needs.{needs}
 use Rattle.rows.specs.Updating.{updateRowOf}
-use Rattle.rows.proofs.Giving.{table-at, table-refused}
+use Rattle.rows.proofs.Giving.{table-at, call-refused}
 use Rattle.rows.proofs.update.Statement.{statement}
 use Rattle.rows.proofs.update.Tie as tie
 
@@ -22,7 +22,8 @@ same-length c = search needs
 returns : tie.Need-returns
 unfolding updateRowOf
 returns c =
-    let g = table-at _ _ _ _ _ _ (c .before .before .before .before .before .found .given .1) (c .before .before .before .before .before .before .before .table-rights .ensures) in
+    let found = c .before .before .before .before .before in
+    let g = table-at _ _ _ _ _ _ (found .found .given .1) (found .before .before .table-rights .ensures) in
     rw (g .0, ← g .1 .1) (c .before .before .update-accepted .ensures)
 
 same-length-2 : tie.Need-same-length-2
@@ -30,7 +31,7 @@ same-length-2 c = search needs
 
 returns-2 : tie.Need-returns-2
 unfolding updateRowOf
-returns-2 c = rw (table-refused _ _ _ _ _ _ (c .before .found2 .given .1) (c .before .before .before .table-rights .ensures))
+returns-2 c = call-refused _ _ _ _ _ _ _ _ (c .before .found2 .given .1) (c .before .before .before .table-rights .ensures)
 
 pub update-spec : {M : Type 1} → statement M
 update-spec =

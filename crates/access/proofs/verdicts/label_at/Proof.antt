@@ -1,4 +1,4 @@
-use Rattle.access.specs.Verdicts.{labelAt}
+use Rattle.labels.specs.Label.{labelAt}
 use borrow.Author.Needs.{needs}
 use Rattle.access.proofs.verdicts.label_at.Statement.{statement}
 use Rattle.access.proofs.verdicts.label_at.Tie as tie

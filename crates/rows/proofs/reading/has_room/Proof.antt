@@ -4,7 +4,8 @@ use native.Mathlib.Omega.{arith}
 use borrow.Author.Tests.{le-leb}
 use borrow.Author.Needs.{needs}
 use Rattle.access.specs.Rights.{rightsOf}
-use Rattle.rows.proofs.Adding.{read-short}
+use Rattle.rows.specs.Table.{rowReadable}
+use Rattle.rows.proofs.Adding.{kept-bytes-short}
 use Rattle.rows.proofs.reading.has_room.Statement.{statement}
 use Rattle.rows.proofs.reading.has_room.Tie as tie
 
@@ -12,7 +13,7 @@ returns : tie.Need-returns
 returns c =
     let pre = c .before .before .before .pre in
     let a = c .before .before .before .args in
-    let short = read-short (a .image .now) (rightsOf (a .view)) _ _ (pre .whole) in
+    let short = kept-bytes-short (rowReadable (a .image .now) (rightsOf (a .view))) _ _ (pre .whole) in
     sym (le-leb _ _ (le-trans short (omega arith)))
 
 readable-length-requires : tie.Need-readable-length-requires

@@ -5,16 +5,16 @@ use borrow.Author.Needs.{needs}
 use lib.ListN.{length}
 use Rattle.access.specs.Rights.{rightsOf}
 use Rattle.rows.specs.Table.{rowReadable}
-use Rattle.rows.proofs.Scanning.{width-low, rest-start, rest-room, row-tagged}
+use Rattle.rows.proofs.Scanning.{rest-start, rest-room, row-tagged}
 use Rattle.rows.proofs.Adding.{Seek, seek-found, seek-turn, seek-end}
 use Rattle.rows.proofs.scan.nth_readable.Statement.{statement}
 use Rattle.rows.proofs.scan.nth_readable.Tie as tie
 
 abbrev Inv-loop : tie.InvT-loop
-Inv-loop image view table width n left₀ at₀ left at = Seek (rowReadable image (rightsOf view)) width table n at left
+Inv-loop image view run width n left₀ at₀ left at = Seek (rowReadable image (rightsOf view)) run width n at left
 
 abbrev μ-loop : tie.MeasureT-loop
-μ-loop image view table width n left₀ at₀ left at = length table - at
+μ-loop image view run width n left₀ at₀ left at = length run - at
 
 loop-holds : tie.Need-loop-holds Inv-loop μ-loop
 loop-holds c = record { rest = rest-start _ _ (c .before .before .pre .whole); sum = zero-add _ }
@@ -41,20 +41,24 @@ is-readable-requires c κs =
     (pre .accepted, row-tagged _ _ (pre .whole) _ (c .before .before .loop .inv .rest) (c .before .loop-test .taken))
 
 returns : tie.Need-returns Inv-loop μ-loop
-returns c = seek-found _ _ _ (c .before .before .before .before .before .before .before .pre .whole) _ _ _ (c .before .before .before .before .loop .inv) (c .before .before .before .loop-test .taken) (rw (← c .before .is-readable .ensures) (c .if1 .taken))
+returns c =
+    let turn = c .before .before .before in
+    seek-found _ _ _ (turn .before .before .before .before .pre .whole) _ _ _ (turn .before .loop .inv) (turn .loop-test .taken) (rw (← c .before .is-readable .ensures) (c .if1 .taken))
 
 left-after-requires : tie.Need-left-after-requires Inv-loop μ-loop
 left-after-requires c κs = search needs
 
 loop-less : tie.Need-loop-less Inv-loop μ-loop
 loop-less c =
-    let low = width-low _ _ (c .before .before .before .before .before .before .before .before .pre .whole) in
+    let turn = c .before .before .before .before in
+    let low = turn .before .before .before .before .pre .whole .wide in
     omega arith
 
 loop-again : tie.Need-loop-again Inv-loop μ-loop
 loop-again c =
-    let told = c .before .before .is-readable .ensures in
-    seek-turn _ _ _ (c .before .before .before .before .before .before .before .before .pre .whole) _ _ _ _ (c .before .before .before .before .before .loop .inv) (c .before .before .before .before .loop-test .taken) (rw (← told) (c .before .if1 .left)) (rw (← told) (c .left-after .ensures))
+    let turn = c .before .before .before .before in
+    let verdict = c .before .before .is-readable .ensures in
+    seek-turn _ _ _ (turn .before .before .before .before .pre .whole) _ _ _ _ (turn .before .loop .inv) (turn .loop-test .taken) (rw (← verdict) (c .before .if1 .left)) (rw (← verdict) (c .left-after .ensures))
 
 returns-2 : tie.Need-returns-2 Inv-loop μ-loop
 returns-2 c = seek-end _ _ _ (c .before .before .before .before .pre .whole) _ _ _ (c .before .loop .inv) (c .loop-test .left)

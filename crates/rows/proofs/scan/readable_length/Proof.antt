@@ -3,16 +3,17 @@ use native.Mathlib.Nat.{zero-add}
 use native.Mathlib.Omega.{arith}
 use lib.ListN.{length}
 use Rattle.access.specs.Rights.{rightsOf}
-use Rattle.rows.proofs.Scanning.{width-low, rest-start, rest-room, row-tagged}
+use Rattle.rows.specs.Table.{rowReadable}
+use Rattle.rows.proofs.Scanning.{rest-start, rest-room, row-tagged}
 use Rattle.rows.proofs.Adding.{Count, count-fits, count-turn, count-end}
 use Rattle.rows.proofs.scan.readable_length.Statement.{statement}
 use Rattle.rows.proofs.scan.readable_length.Tie as tie
 
 abbrev Inv-loop : tie.InvT-loop
-Inv-loop image view table width n₀ at₀ n at = Count image (rightsOf view) width table at n
+Inv-loop image view run width n₀ at₀ n at = Count (rowReadable image (rightsOf view)) run width at n
 
 abbrev μ-loop : tie.MeasureT-loop
-μ-loop image view table width n₀ at₀ n at = length table - at
+μ-loop image view run width n₀ at₀ n at = length run - at
 
 loop-holds : tie.Need-loop-holds Inv-loop μ-loop
 loop-holds c = record { rest = rest-start _ _ (c .before .before .pre .whole); sum = zero-add _ }
@@ -40,19 +41,23 @@ row-length-requires c κs =
 
 add-n : tie.Need-add-n Inv-loop μ-loop
 add-n c =
-    let fits = count-fits _ _ _ _ (c .before .before .before .before .before .before .pre .whole) _ _ (c .before .before .before .loop .inv) (c .before .before .loop-test .taken) in
+    let turn = c .before .before in
+    let fits = count-fits _ _ _ (turn .before .before .before .before .pre .whole) _ _ (turn .before .loop .inv) (turn .loop-test .taken) in
     omega (arith, c .row-length .ensures)
 
 loop-less : tie.Need-loop-less Inv-loop μ-loop
 loop-less c =
-    let low = width-low _ _ (c .before .before .before .before .before .before .pre .whole) in
+    let turn = c .before .before in
+    let low = turn .before .before .before .before .pre .whole .wide in
     omega arith
 
 loop-again : tie.Need-loop-again Inv-loop μ-loop
-loop-again c = count-turn _ _ _ _ (c .before .before .before .before .before .before .pre .whole) _ _ _ (c .before .before .before .loop .inv) (c .before .before .loop-test .taken) (c .row-length .ensures)
+loop-again c =
+    let turn = c .before .before in
+    count-turn _ _ _ (turn .before .before .before .before .pre .whole) _ _ _ (turn .before .loop .inv) (turn .loop-test .taken) (c .row-length .ensures)
 
 returns : tie.Need-returns Inv-loop μ-loop
-returns c = count-end _ _ _ _ (c .before .before .before .before .pre .whole) _ _ (c .before .loop .inv) (c .loop-test .left)
+returns c = count-end _ _ _ (c .before .before .before .before .pre .whole) _ _ (c .before .loop .inv) (c .loop-test .left)
 
 pub readable-length-spec : {M : Type 1} → statement M
 readable-length-spec =

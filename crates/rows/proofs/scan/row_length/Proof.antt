@@ -9,10 +9,10 @@ is-readable-requires : tie.Need-is-readable-requires
 is-readable-requires c κs = search needs
 
 returns : tie.Need-returns
-returns c = sym (ap length (adds-all _ _ _ (sym (c .before .is-readable .ensures) ∙ c .if1 .taken)))
+returns c = sym (ap length (adds-all _ _ (sym (c .before .is-readable .ensures) ∙ c .if1 .taken)))
 
 returns-2 : tie.Need-returns-2
-returns-2 c = sym (ap length (adds-none _ _ _ (sym (c .before .is-readable .ensures) ∙ c .if1 .left)))
+returns-2 c = sym (ap length (adds-none _ _ (sym (c .before .is-readable .ensures) ∙ c .if1 .left)))
 
 pub row-length-spec : {M : Type 1} → statement M
 row-length-spec = tie.close (tie.spec is-readable-requires returns returns-2)
