@@ -37,7 +37,6 @@ use Rattle.sessions.specs.Session.{SessionMarks, lentAnswer, sessionRights}
 use Rattle.sessions.specs.Opening.{Opening, session, refused, defaultSession, openAccepted, openOf}
 use Rattle.sessions.specs.Changes.{changeIf, changeTo, afterLent, withLabel, withRowLabel, labelChange, rowLabelChange, setLabelOf, setRowLabelOf}
 use Rattle.sessions.specs.Asking.{mayReadOf, mayWriteOf}
-use Rattle.sessions.proofs.Accepting.{lent-accepted}
 use Rattle.abi.specs.Labels.{printedGiven}
 use Rattle.abi.specs.Sessions.{openedGiven}
 use Rattle.abi.specs.TwoLabels.{mergedGiven}

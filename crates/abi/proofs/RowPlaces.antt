@@ -22,18 +22,17 @@ use Rattle.rows.specs.Updating.{nthRowAnswer, updateWith, updateRowOf}
 use Rattle.rows.specs.Masked.{placeVerdict, maskedVerdictOf}
 use Rattle.rows.specs.declared.answers.RowsRead.{RowsRead}
 use Rattle.rows.specs.declared.answers.RowsRead.the-variants as read
-use Rattle.rows.proofs.Standing.{table-means}
 use Rattle.rows.proofs.Wide.{flatten-length}
-use Rattle.rows.proofs.Adding.{readable-wide}
+use Rattle.rows.proofs.Held.{table-means, readable-wide}
 use Rattle.rows.proofs.Giving.{table-accepted}
 use Rattle.abi.specs.Tables.{rowsGiven}
 use Rattle.abi.proofs.Places.{lent-fits, verdict-fits}
 
 -- ---- the place that a refusal tells fits its 32 bits
 module _ (im : List ℕ) (s : SessionMarks) (table : List ℕ) (w : ℕ) where
-  table-fits : (r : Refusal) → tableAnswer im s w table ≡ Refused r → PlaceFits (refusalGiven r)
+  table-fits : (r : Refusal) → tableAnswer im s table w ≡ Refused r → PlaceFits (refusalGiven r)
   unfolding tableAnswer
-  table-fits r e = subst (λ (c : Checked). PlaceFits (checkedGiven c)) e (at (lentAnswer im s) refl (tableRule w table))
+  table-fits r e = subst (λ (c : Checked). PlaceFits (checkedGiven c)) e (at (lentAnswer im s) refl (tableRule table w))
     where
       at : (c : Checked) → lentAnswer im s ≡ c → (t : Bool) → PlaceFits (checkedGiven (onChecked c Refused (orRefuse t TableShape Accepted)))
       at Accepted d true = omega arith
@@ -42,23 +41,23 @@ module _ (im : List ℕ) (s : SessionMarks) (table : List ℕ) (w : ℕ) where
 
   pub read-fits : (buffer : List ℕ) → PlaceFits (rowsGiven (readRowsOf im s table w buffer .0))
   unfolding readRowsOf handedOut
-  read-fits buffer = at (tableAnswer im s w table) refl
+  read-fits buffer = at (tableAnswer im s table w) refl
     where
       rows : List (List ℕ)
-      rows = readableRows im (sessionRights im s) w table
+      rows = readableRows im (sessionRights im s) table w
 
       room : (t : Bool) (done : List ℕ) → PlaceFits (rowsGiven (cond {A = RowsRead × List ℕ} t (read.Done (length rows), done) (read.Refused Room, buffer) .0))
       room true done = omega arith
       room false done = omega arith
 
-      at : (c : Checked) → tableAnswer im s w table ≡ c
+      at : (c : Checked) → tableAnswer im s table w ≡ c
           → PlaceFits (rowsGiven (onChecked {A = RowsRead × List ℕ} c (λ q. (read.Refused q, buffer)) (handedOut rows buffer) .0))
       at Accepted d = room (leb (length (flatten rows)) (length buffer)) (atFront (flatten rows) buffer)
       at (Refused q) d = table-fits q d
 
   pub update-fits : (n : ℕ) (payload : List ℕ) → PlaceFits (checkedGiven (updateRowOf im s table w n payload .0))
   unfolding updateRowOf updateWith nthRowAnswer
-  update-fits n payload = at (tableAnswer im s w table) refl
+  update-fits n payload = at (tableAnswer im s table w) refl
     where
       rules : (a b c : Bool) → PlaceFits (checkedGiven (orRefuse a PayloadLength (orRefuse b NoRow (orRefuse c RowNotWritable Accepted))))
       rules true true true = omega arith
@@ -66,25 +65,25 @@ module _ (im : List ℕ) (s : SessionMarks) (table : List ℕ) (w : ℕ) where
       rules true false c = omega arith
       rules false b c = omega arith
 
-      at : (c : Checked) → tableAnswer im s w table ≡ c
+      at : (c : Checked) → tableAnswer im s table w ≡ c
           → PlaceFits (checkedGiven (onChecked {A = Checked × List ℕ} c (λ q. (Refused q, table)) (updateWith im (sessionRights im s) table w n payload) .0))
       at Accepted d =
-          let readable = readableRows im (sessionRights im s) w table in
+          let readable = readableRows im (sessionRights im s) table w in
           rules (eqb (length payload) (payloadLength w)) (ltb n (length readable)) (rowWritable im (sessionRights im s) (getD readable n []))
       at (Refused q) d = table-fits q d
 
   pub masked-fits : (place : ℕ) → PlaceFits (verdictGiven (maskedVerdictOf im s table w place))
   unfolding maskedVerdictOf placeVerdict
-  masked-fits place = at (tableAnswer im s w table) refl
+  masked-fits place = at (tableAnswer im s table w) refl
     where
       verdicts : (a b : Bool) → PlaceFits (verdictGiven (cond a (verdictOf b) (verdict.Refused NoRow)))
       verdicts true b = verdict-fits b
       verdicts false b = omega arith
 
-      at : (c : Checked) → tableAnswer im s w table ≡ c
-          → PlaceFits (verdictGiven (onChecked c verdict.Refused (placeVerdict im (sessionRights im s) table w place)))
+      at : (c : Checked) → tableAnswer im s table w ≡ c
+          → PlaceFits (verdictGiven (onChecked c verdict.Refused (placeVerdict im (sessionRights im s) (rowsOf table w) place)))
       at Accepted d =
-          verdicts (ltb place (length (rowsOf w table))) (rowReadable im (sessionRights im s) (getD (rowsOf w table) place []))
+          verdicts (ltb place (length (rowsOf table w))) (rowReadable im (sessionRights im s) (getD (rowsOf table w) place []))
       at (Refused q) d = table-fits q d
 
 -- ---- a count is below 2 ^ 63, as a value of a call that is done has to be
@@ -100,20 +99,20 @@ module _ (im : List ℕ) (s : SessionMarks) (table : List ℕ) (w : ℕ) where
 
   pub count-below : (buffer : List ℕ) → length buffer < 2 ^ 64 → countOf (readRowsOf im s table w buffer .0) < 2 ^ 63
   unfolding readRowsOf handedOut
-  count-below buffer limit = at (tableAnswer im s w table) refl
+  count-below buffer limit = at (tableAnswer im s table w) refl
     where
       rows : List (List ℕ)
-      rows = readableRows im (sessionRights im s) w table
+      rows = readableRows im (sessionRights im s) table w
 
-      room : tableRule w table ≡ true → (t : Bool) → leb (length (flatten rows)) (length buffer) ≡ t → (done : List ℕ)
+      room : tableRule table w ≡ true → (t : Bool) → leb (length (flatten rows)) (length buffer) ≡ t → (done : List ℕ)
           → countOf (cond {A = RowsRead × List ℕ} t (read.Done (length rows), done) (read.Refused Room, buffer) .0) < 2 ^ 63
       room e true fits done =
-          let wide = flatten-length w rows (readable-wide im (sessionRights im s) w table e) in
+          let wide = flatten-length w rows (readable-wide table w e im (sessionRights im s)) in
           let h : length rows * w ≤ length buffer = rw (← wide) (leb-true (length (flatten rows)) (length buffer) fits) in
-          short (length rows) (length buffer) h (table-means w table e .wide) limit
+          short (length rows) (length buffer) h (table-means table w e .wide) limit
       room e false fits done = omega arith
 
-      at : (c : Checked) → tableAnswer im s w table ≡ c
+      at : (c : Checked) → tableAnswer im s table w ≡ c
           → countOf (onChecked {A = RowsRead × List ℕ} c (λ q. (read.Refused q, buffer)) (handedOut rows buffer) .0) < 2 ^ 63
-      at Accepted d = room (table-accepted im s w table d .1) (leb (length (flatten rows)) (length buffer)) refl (atFront (flatten rows) buffer)
+      at Accepted d = room (table-accepted im s table w d .1) (leb (length (flatten rows)) (length buffer)) refl (atFront (flatten rows) buffer)
       at (Refused q) d = omega arith

@@ -3,12 +3,12 @@ use mathlib.Core.Path.{_≡_, refl}
 use lib.ListN.{length}
 use Rattle.fields.specs.Bytes.{number2, number4, number8, all}
 use Rattle.fields.specs.Names.{nameByte, nameIn, nameRule, sameName, nameBefore}
-use Rattle.fields.specs.Scan.{firstBad}
+use Rattle.fields.specs.Scan.{firstBad, listFrom}
 use Rattle.sets.specs.Sets.{has, allBelow, within, meets, collect}
 use Rattle.blocks.specs.Blocks.{lengthRule, blockAt, sumA, sumB, checkRule, placeRule, blockRule, blockCount, firstBadBlock}
-use Rattle.header.specs.Layout.{levels, compartments, groups, users, labels, components, firstLabelBlock, firstUserBlock, blocksNeeded, componentOffset, labelOffset, userOffset, componentRecord, labelRecord, userRecord, contentsOf}
+use Rattle.header.specs.Layout.{levels, compartments, groups, users, labels, components, firstBlock, blocksFor, blocksNeeded, recordOffset, recordAt, contentsOf, kindAt, classAt, classFirst, recordsOf}
 use Rattle.header.specs.Header.{headerRule, fitRule}
-use Rattle.records.specs.Rules.{classAt, classStart, parentRule, componentShape, numericRule, namesDiffer, newNameRule, componentRule, labelShape, tagRule, labelRule, userLevelsRule, userCompartmentsRule, userGroupsRule, userShape, userNameRule, userRule, recordRule, layoutRule, firstBadRecord, contentRule}
+use Rattle.records.specs.Rules.{parentRule, componentShape, numericRule, newNameRule, componentRule, labelShape, tagRule, labelRule, userLevelsRule, userCompartmentsRule, userGroupsRule, userShape, userNameRule, userRule, ruleOf, layoutRule, firstBadRecord, contentRule, otherName}
 use Rattle.hierarchy.specs.Below.{parent, hasParent, endsWithin, endsRule, firstRing, lineageWithin, lineage, below, belowRule, firstBadBelow}
 use Rattle.refusals.specs.declared.answers.Checked.the-variants.{Accepted}
 use Rattle.image.specs.Check.{firstBadContent, contentFault, countedFault, faultOf, checkOf}
@@ -19,7 +19,7 @@ unfolding cooperative
 sample-length = refl
 
 both-accepted : (checkOf cooperative ≡ Accepted) × (checkOf casesImage ≡ Accepted)
-unfolding cooperative casesImage number2 number4 number8 all nameByte nameIn nameRule sameName nameBefore firstBad has allBelow within meets collect lengthRule blockAt sumA sumB checkRule placeRule blockRule blockCount firstBadBlock levels compartments groups users labels components firstLabelBlock firstUserBlock blocksNeeded componentOffset labelOffset userOffset componentRecord labelRecord userRecord contentsOf headerRule fitRule classAt classStart parentRule componentShape numericRule namesDiffer newNameRule componentRule labelShape tagRule labelRule userLevelsRule userCompartmentsRule userGroupsRule userShape userNameRule userRule recordRule layoutRule firstBadRecord contentRule parent hasParent endsWithin endsRule firstRing lineageWithin lineage below belowRule firstBadBelow firstBadContent contentFault countedFault faultOf checkOf
+unfolding cooperative casesImage number2 number4 number8 all nameByte nameIn nameRule sameName nameBefore firstBad has allBelow within meets collect lengthRule blockAt sumA sumB checkRule placeRule blockRule blockCount firstBadBlock levels compartments groups users labels components firstBlock blocksFor blocksNeeded recordOffset recordAt contentsOf kindAt headerRule fitRule classAt classFirst parentRule componentShape numericRule otherName newNameRule componentRule labelShape tagRule labelRule userLevelsRule userCompartmentsRule userGroupsRule userShape userNameRule userRule ruleOf recordsOf listFrom layoutRule firstBadRecord contentRule parent hasParent endsWithin endsRule firstRing lineageWithin lineage below belowRule firstBadBelow firstBadContent contentFault countedFault faultOf checkOf
 both-accepted = (refl, refl)
 
 pub sample-accepted : checkOf cooperative ≡ Accepted
