@@ -1,11 +1,12 @@
 -- What an accepted answer of the rules for new labels means, and that labels which keep the rules are accepted. Assumes nothing.
 use Prim.Native.Nat.{ℕ, _≤_, _<_}
-use mathlib.Core.Path.{_≡_, refl, sym}
-use mathlib.Core.Bool.{Bool, true, false, true≢false}
+use mathlib.Core.Path.{_≡_, refl, sym, _∙_}
+use mathlib.Core.Bool.{Bool, true, false, not, true≢false}
 use mathlib.Core.List.{List}
-use borrow.Author.Tests.{leb-true, le-leb, ltb-true, lt-ltb}
+use borrow.Author.Tests.{leb-true, le-leb, ltb-true, lt-ltb, not-true, not-false}
 use Rattle.fields.proofs.Both.{parts}
 use Rattle.refusals.specs.declared.Refusal.{Refusal}
+use Rattle.refusals.specs.declared.Refusal.the-variants.{LevelNotAllowed, CompartmentsNotAllowed, GroupsNotAllowed, RowLabelOutside}
 use Rattle.sets.specs.Sets.{within}
 use Rattle.header.specs.Layout.{users, userRecord}
 use Rattle.records.specs.Fields.{maximumLevel, minimumLevel, readCompartments, readGroups}
@@ -13,7 +14,7 @@ use Rattle.hierarchy.specs.Below.{below}
 use Rattle.refusals.specs.declared.answers.Checked.{Checked}
 use Rattle.refusals.specs.declared.answers.Checked.the-variants.{Accepted, Refused}
 use Rattle.labels.specs.Label.{Marks}
-use Rattle.access.specs.Rights.{Rights, rightsAt}
+use Rattle.access.specs.Rights.{Rights, rightsAt, between}
 use Rattle.access.specs.NewLabels.{sessionGroupsRule, rowInside, sessionLabelAnswer, rowLabelAnswer, sessionRule}
 use Rattle.refusals.specs.Answers.{orRefuse, allowed}
 
@@ -71,6 +72,34 @@ pub means-session-label : (im : List ℕ) (u : ℕ) (new row : Marks) → Sessio
 unfolding sessionLabelAnswer sessionGroupsRule
 means-session-label im u new row k =
     rw (le-leb _ _ (k .minimum), le-leb _ _ (k .maximum), k .compartments, k .groups, means-inside (rightsAt im u new) row (k .inside))
+
+-- the rules in turn, as `session_label_answer` asks them: the first that fails gives its refusal
+module _ (im : List ℕ) (u : ℕ) (new row : Marks) (level : Bool)
+    (l : level ≡ between (minimumLevel (userRecord im u)) (maximumLevel (userRecord im u)) (new .level)) where
+  pub level-refused : not level ≡ true → Refused LevelNotAllowed ≡ sessionLabelAnswer im u new row
+  unfolding sessionLabelAnswer
+  level-refused h = rw (sym l ∙ not-true level h)
+
+  module _ (met : not level ≡ false) (compartments : Bool) (c : compartments ≡ within (new .compartments) (readCompartments (userRecord im u))) where
+    pub compartments-refused : not compartments ≡ true → Refused CompartmentsNotAllowed ≡ sessionLabelAnswer im u new row
+    unfolding sessionLabelAnswer
+    compartments-refused h = rw (sym l ∙ not-false level met, sym c ∙ not-true compartments h)
+
+    module _ (met2 : not compartments ≡ false) (groups : Bool) (g : groups ≡ sessionGroupsRule im (userRecord im u) (new .groups)) where
+      pub groups-refused : not groups ≡ true → Refused GroupsNotAllowed ≡ sessionLabelAnswer im u new row
+      unfolding sessionLabelAnswer
+      groups-refused h = rw (sym l ∙ not-false level met, sym c ∙ not-false compartments met2, sym g ∙ not-true groups h)
+
+      module _ (met3 : not groups ≡ false) (rights : Rights) (found : rights ≡ rightsAt im u new) (inside : Bool) (i : inside ≡ rowInside rights row) where
+        pub outside-refused : not inside ≡ true → Refused RowLabelOutside ≡ sessionLabelAnswer im u new row
+        unfolding sessionLabelAnswer
+        outside-refused h =
+            rw (sym l ∙ not-false level met, sym c ∙ not-false compartments met2, sym g ∙ not-false groups met3, ← found, sym i ∙ not-true inside h)
+
+        pub label-accepted : not inside ≡ false → Accepted ≡ sessionLabelAnswer im u new row
+        unfolding sessionLabelAnswer
+        label-accepted h =
+            rw (sym l ∙ not-false level met, sym c ∙ not-false compartments met2, sym g ∙ not-false groups met3, ← found, sym i ∙ not-false inside h)
 
 -- ---- a new row label
 pub record RowLabelKept (rights : Rights) (new : Marks) : Type 0 where

@@ -72,7 +72,8 @@ returns-3 c =
     let filled = tested .before .before .before in
     let start = filled .before .before .before in
     let here : start .args .session .user < users (start .args .image .now) = omega arith in
-    row-refused _ _ (start .pre) here _ (asked .session-label-answer .ensures) (accepted .enum-told .given .1) _ (found .rights-at .ensures) _ (rowAsked .row-label-answer .ensures) _ (c .enum-told4 .given .1)
+    row-refused _ _ (start .pre) here _ (asked .session-label-answer .ensures) (accepted .enum-told .given .1)
+    _ (found .rights-at .ensures) _ (rowAsked .row-label-answer .ensures) _ (c .enum-told4 .given .1)
 
 returns-4 : tie.Need-returns-4
 returns-4 c =
@@ -84,7 +85,8 @@ returns-4 c =
     let filled = tested .before .before .before in
     let start = filled .before .before .before in
     let here : start .args .session .user < users (start .args .image .now) = omega arith in (
-      row-accepted _ _ (start .pre) here _ (asked .session-label-answer .ensures) (accepted .enum-told .given .1) _ (found .rights-at .ensures) _ (rowAsked .row-label-answer .ensures) (c .enum-told3 .given .1),
+      row-accepted _ _ (start .pre) here _ (asked .session-label-answer .ensures) (accepted .enum-told .given .1)
+          _ (found .rights-at .ensures) _ (rowAsked .row-label-answer .ensures) (c .enum-told3 .given .1),
       (filled .fill .ensures, found .rights-at .ensures),
     )
 
