@@ -22,8 +22,8 @@ use Rattle.header.specs.Layout.{recordSize, capacityOf, countOf, blocksF
 slot-add : (c i j : ℕ) → 0 < c → i % c + j < c → ((i + j) / c ≡ i / c) × ((i + j) % c ≡ i % c + j)
 slot-add c i j pos h =
     let e : c * (i / c) + i % c ≡ i = div-add-mod i c in
-    let p : c * (i / c) + (i % c + j) ≡ i + j = omega arith in
-    ( ap (λ (n : ℕ). n / c) (sym p) ∙ mul-add-div pos (i / c) (i % c + j) ∙ ap (λ (n : ℕ). i / c + n) (div-eq-of-lt h) ∙ add-zero (i / c),
+    let p : c * (i / c) + (i % c + j) ≡ i + j = omega arith in (
+      ap (λ (n : ℕ). n / c) (sym p) ∙ mul-add-div pos (i / c) (i % c + j) ∙ ap (λ (n : ℕ). i / c + n) (div-eq-of-lt h) ∙ add-zero (i / c),
       ap (λ (n : ℕ). n % c) (sym p) ∙ mul-add-mod-self-left c (i / c) (i % c + j) ∙ mod-eq-of-lt h,
     )
 
@@ -33,8 +33,8 @@ slot-next c i pos =
     let e : c * (i / c) + i % c ≡ i = div-add-mod i c in
     let h = mod-lt i pos in
     let m : c * suc (i / c) ≡ c * (i / c) + c = mul-suc c (i / c) in
-    let p : c * suc (i / c) ≡ i + (c - i % c) = omega arith in
-    ( ap (λ (n : ℕ). n / c) (sym p) ∙ mul-div-right (suc (i / c)) pos ∙ sym (add-one (i / c)),
+    let p : c * suc (i / c) ≡ i + (c - i % c) = omega arith in (
+      ap (λ (n : ℕ). n / c) (sym p) ∙ mul-div-right (suc (i / c)) pos ∙ sym (add-one (i / c)),
       ap (λ (n : ℕ). n % c) (sym p) ∙ mul-mod-right c (suc (i / c)),
     )
 
@@ -104,7 +104,7 @@ module _ (shape : Shape) (roomy : Roomy shape) where
       let h = mod-lt i (roomy .some) in
       let t : i % shape .capacity + (shape .capacity - i % shape .capacity) ≡ shape .capacity = omega arith in
       let d : shape .size * (i % shape .capacity) + shape .size * (shape .capacity - i % shape .capacity) ≡ shape .size * shape .capacity =
-          sym (mul-add (shape .size) (i % shape .capacity) (shape .capacity - i % shape .capacity)) ∙ ap (λ (n : ℕ). shape .size * n) t in
+      sym (mul-add (shape .size) (i % shape .capacity) (shape .capacity - i % shape .capacity)) ∙ ap (λ (n : ℕ). shape .size * n) t in
       rw (s .0, s .1, mul-zero) (omega (arith, roomy .room))
 
   pub slot-after : (i : ℕ) → recordSlot shape (i + (shape .capacity - recordSlot shape i)) ≡ 0

@@ -53,7 +53,10 @@ fn user_fault(image: &[u8], u: usize) -> Fault
     ensures { λ r. ⌜ r ≡ userFault (now (image .entry)) u ⌝ }
 {
     let shape = layout::shape_of(image, Kind::User);
-    Fault::User(layout::record_block(shape, u), layout::record_slot(shape, u))
+    Fault::User(
+        layout::record_block(shape, u),
+        layout::record_slot(shape, u),
+    )
 }
 
 // The first fault once the header and the length are sound.

@@ -73,7 +73,7 @@ module _ (im : List ℕ) (b : ℕ) where
       let c : Contents = contentsOf im b in
       let h = held-is im b low high in
       let all : firstBad (recordRule im (c .kind)) (c .to - c .from) (c .from) ≡ c .from + (c .to - c .from) =
-          all-good (recordRule im (c .kind)) (c .to - c .from) (c .from) (λ i l u. k .sound i l (omega (arith, h .ordered))) in
+      all-good (recordRule im (c .kind)) (c .to - c .from) (c .from) (λ i l u. k .sound i l (omega (arith, h .ordered))) in
       let upto : firstBad (recordRule im (c .kind)) (c .to - c .from) (c .from) ≡ c .to = omega (arith, h .ordered) in
       both _ _ (layout-holds im b low high (k .layout)) (eq-eqb _ _ upto)
 

@@ -9,8 +9,8 @@ use crate::components::component_ok;
 use crate::labels::label_ok;
 use crate::users::user_ok;
 use fields::numbers::all_zero;
-use header::layout::Kind;
 use header::contents::block_contents;
+use header::layout::Kind;
 use header::layout::kind_byte;
 
 fn record_ok(image: &[u8], kind: Kind, i: usize) -> bool

@@ -7,7 +7,7 @@ use Rattle.fields.specs.Names.{nameByte, nameIn, sameName}
 use Rattle.fields.specs.Scan.{firstBad}
 use Rattle.sets.specs.Sets.{has, empty, within, meets, collect}
 use Rattle.refusals.specs.declared.Refusal.the-variants.{NoUser, RowLabelOutside, SessionRules}
-use Rattle.header.specs.Layout.{levels, compartments, groups, users, labels, components, firstBlock, blocksFor, recordOffset, recordAt, classFirst}
+use Rattle.header.specs.Layout.{levels, compartments, groups, users, labels, components, firstBlock, blocksFor, recordOffset, recordAt, classFirst, userRecord}
 use Rattle.records.specs.Fields.{privileges}
 use Rattle.hierarchy.specs.Below.{parent, hasParent, lineageWithin, lineage, below}
 use Rattle.refusals.specs.declared.answers.Checked.the-variants.{Accepted, Refused}

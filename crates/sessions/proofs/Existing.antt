@@ -6,10 +6,12 @@ use mathlib.Core.List.{List}
 use native.Mathlib.Omega.{arith}
 use borrow.Author.Tests.{lt-ltb}
 use Rattle.sets.specs.Sets.{intersection}
-use Rattle.sets.proofs.Bounds.{below-within, has-below, part-below, intersection-below}
-use Rattle.header.specs.Layout.{levels, compartments, groups, userRecord}
+use Rattle.sets.proofs.Bounds.{within-below, part-below, intersection-below}
+use Rattle.header.specs.Layout.{levels, compartments, groups, userRecord, countsOf}
 use Rattle.records.specs.Fields.{readCompartments, writeCompartments, readGroups, writeGroups}
+use Rattle.records.proofs.MeaningLabels.{exist-holds}
 use Rattle.records.proofs.MeaningUsers.{UserKept}
+use Rattle.labels.proofs.Existing.{means-exists}
 use Rattle.hierarchy.specs.Below.{below}
 use Rattle.hierarchy.proofs.Under.{below-limit}
 use Rattle.refusals.specs.declared.answers.Checked.the-variants.{Accepted}
@@ -20,16 +22,10 @@ use Rattle.access.proofs.Answers.{SessionLabelKept}
 use Rattle.sessions.specs.Session.{SessionMarks, lentAnswer}
 use Rattle.sessions.proofs.Accepting.{lent-accepted, lent-means, lent-user}
 
-exists-by : (im : List ℕ) (m : Marks) → m .level < levels im → m .compartments < 2 ^ compartments im → m .groups < 2 ^ groups im
-    → labelExists im m ≡ true
-unfolding labelExists
-exists-by im m l c g =
-    rw (lt-ltb (m .level) (levels im) l, below-within (m .compartments) (compartments im) c, below-within (m .groups) (groups im) g)
-
 module _ (im : List ℕ) (s : SessionMarks) (lent : lentAnswer im s ≡ Accepted) where
   -- the user's record names only what exists, and the session keeps its rules
-  user : UserKept im (userRecord im (s .user))
-  user = user-kept im (lent-accepted im s lent) (s .user) (lent-user im s lent) .kept
+  user : UserKept (countsOf im) (userRecord im (s .user))
+  user = user-kept im (lent-accepted im s lent) (s .user) (lent-user im s lent)
 
   kept : SessionLabelKept im (s .user) (s .label) (s .row)
   kept = lent-means im s lent .sessionLabel
@@ -42,7 +38,7 @@ module _ (im : List ℕ) (s : SessionMarks) (lent : lentAnswer im s ≡ Accepted
   compartments-exist =
       let read = readCompartments (userRecord im (s .user)) in
       part-below (s .label .compartments) read (compartments im) (kept .compartments)
-      (has-below read (compartments im) (user .compartmentsKept .readExist))
+      (within-below read (compartments im) (exist-holds read (compartments im) (user .compartmentsKept .readExist)))
 
   groups-exist : s .label .groups < 2 ^ groups im
   groups-exist =
@@ -71,6 +67,6 @@ module _ (im : List ℕ) (s : SessionMarks) (lent : lentAnswer im s ≡ Accepted
 
   pub session-labels-exist : (labelExists im (s .label) ≡ true) × (labelExists im (s .row) ≡ true)
   session-labels-exist = (
-    exists-by im (s .label) level-exists compartments-exist groups-exist,
-    exists-by im (s .row) row-level-exists row-compartments-exist row-groups-exist,
+    means-exists im (s .label) (record { level = level-exists; compartments = compartments-exist; groups = groups-exist }),
+    means-exists im (s .row) (record { level = row-level-exists; compartments = row-compartments-exist; groups = row-groups-exist }),
   )

@@ -1,7 +1,7 @@
 use mathlib.Core.Path.{subst}
 use borrow.Author.Needs.{needs}
 use Rattle.refusals.specs.Answers.{PlaceFits}
-use Rattle.printing.specs.declared.printing.Printed.{Printed}
+use Rattle.printing.specs.declared.answers.Printed.{Printed}
 use Rattle.abi.specs.Labels.{printedGiven}
 use Rattle.abi.proofs.printed_code.Statement.{statement}
 use Rattle.abi.proofs.printed_code.Tie as tie

@@ -27,10 +27,10 @@ add-result c = search needs
 
 returns-3 : tie.Need-returns-3
 unfolding classFirst
-returns-3 c =
-    ( rw (ne-eqb _ _ (c .before .before .before .if1 .left), ne-eqb _ _ (c .before .before .if2 .left), c .before .levels2 .ensures .0, c .compartments .ensures .0),
-      omega arith,
-    )
+returns-3 c = (
+  rw (ne-eqb _ _ (c .before .before .before .if1 .left), ne-eqb _ _ (c .before .before .if2 .left), c .before .levels2 .ensures .0, c .compartments .ensures .0),
+  omega arith,
+)
 
 pub class-first-spec : {M : Type 1} → statement M
 class-first-spec =

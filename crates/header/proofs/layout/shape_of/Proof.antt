@@ -24,8 +24,8 @@ returns c =
     let a = c .before .before .before .before .before .args in
     let first = c .before .before .before .first-block in
     let e : _≡_ {A = Shape} (record { first = first .result; size = c .before .before .size .result; capacity = c .before .capacity .result; count = c .count .result })
-        (shapeOf (a .image .now) (a .kind)) =
-        rw (first .ensures .0, c .before .before .size .ensures, c .before .capacity .ensures .0, c .count .ensures .0) in
+    (shapeOf (a .image .now) (a .kind)) =
+    rw (first .ensures .0, c .before .before .size .ensures, c .before .capacity .ensures .0, c .count .ensures .0) in
     record { is = e; roomy = subst Roomy (sym e) (shape-roomy (a .image .now) (a .kind)); few = c .count .ensures .1 }
 
 pub shape-of-spec : {M : Type 1} → statement M
