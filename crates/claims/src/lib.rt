@@ -1,0 +1,1 @@
+// The main theorems of the library, each stated in full: see proofs/Claims.antt.
