@@ -1,1 +1,113 @@
--- The main theorems.
+-- The main theorems of the library, each stated in full over the definitions that the contracts of the calls cite, and proved by citing
+-- where it is proved. A reader who wants to know what is claimed can begin here. Assumes nothing.
+use Prim.Native.Nat.{ℕ, _<_}
+use mathlib.Core.Path.{_≡_}
+use mathlib.Core.Bool.{true}
+use mathlib.Core.List.{List, map, flatten}
+use mathlib.Core.Logic.{_↔_}
+use Rattle.sets.specs.Sets.{has}
+use Rattle.header.specs.Layout.{groups, labels}
+use Rattle.hierarchy.specs.Below.{Above, below}
+use Rattle.hierarchy.proofs.Under.{below-true, below-above, above-below}
+use Rattle.refusals.specs.declared.answers.Checked.the-variants.{Accepted}
+use Rattle.refusals.specs.declared.answers.Verdict.the-variants.{Yes}
+use Rattle.image.specs.Check.{IsAccepted}
+use Rattle.image.proofs.EveryRule as image
+use Rattle.image.proofs.EveryRule.{EveryRule}
+use Rattle.image.proofs.Policy.{parents-end}
+use Rattle.labels.specs.Label.{Marks, labelAt, labelExists}
+use Rattle.labels.specs.Parse.{read, ofText, parseOf}
+use Rattle.printing.specs.Print.{textOf}
+use Rattle.roundtrip.proofs.RoundTrip.{parse-of-print, record-reads-back}
+use Rattle.access.specs.Verdicts.{readableAtMaximum}
+use Rattle.sessions.specs.Session.{SessionMarks, lentAnswer}
+use Rattle.sessions.specs.Opening.{session, openOf}
+use Rattle.sessions.specs.Changes.{setLabelOf, setRowLabelOf}
+use Rattle.sessions.specs.Asking.{mayReadOf, mayWriteOf}
+use Rattle.sessions.proofs.Accepting.{lent-accepted}
+use Rattle.sessions.proofs.Existing.{session-labels-exist}
+use Rattle.sessions.proofs.Passing as passing
+use Rattle.sessions.proofs.Bounded as bounded
+use Rattle.encoding.specs.Sessions.{sessionBytes, sessionIn}
+use Rattle.encoding.proofs.ReadBack.{session-back}
+use Rattle.abi.proofs.Widths.{lent-widths}
+use Rattle.lines.specs.Lines.{outputOf}
+use Rattle.lines.specs.Parts.{PartsOf}
+use Rattle.lines.proofs.Rest.{output-joined}
+use Rattle.isolation.specs.Calls.{Call}
+use Rattle.isolation.specs.Claim.{Premises, Claim}
+use Rattle.isolation.proofs.HiddenRows as isolation
+use Rattle.sample.specs.Cases.{Case, asked, proved}
+use Rattle.sample.proofs.Cases.{all-cases}
+
+-- ---- the image
+-- An image is accepted exactly if it keeps every rule: of its length, of each block's check and place, of the header, of each block's
+-- layout, of each component, label and user record, of parents that end, and of a user's groups below one another.
+pub accepted-exactly : (im : List ℕ) → IsAccepted im ↔ EveryRule im
+accepted-exactly = image.accepted-exactly
+
+-- ---- groups
+-- Below a set lie just the groups that are in it or have an ancestor in it, at any distance. (`Above im g p`: p is g or an ancestor of g.)
+pub below-every-ancestor : (im : List ℕ) → IsAccepted im → (s g : ℕ)
+    → (has (below im s) g ≡ true) ↔ ((g < groups im) × ((p : ℕ) × (Above im g p × (has s p ≡ true))))
+below-every-ancestor im acc s g = (
+  (λ e. (below-true im s g e .0, below-above im s g e)),
+  (λ q. above-below im s g (q .1 .0) (q .0) (parents-end im acc g (q .0)) (q .1 .1 .0) (q .1 .1 .1)),
+)
+
+-- ---- label text
+-- The print of a label whose components exist reads back as that label,
+pub print-reads-back : (im : List ℕ) → IsAccepted im → (m : Marks) → labelExists im m ≡ true → parseOf im (textOf im m) ≡ ofText (read m)
+print-reads-back = parse-of-print
+
+-- so does that of every label of an accepted image,
+pub label-reads-back : (im : List ℕ) → IsAccepted im → (k : ℕ) → k < labels im
+    → parseOf im (textOf im (labelAt im k)) ≡ ofText (read (labelAt im k))
+label-reads-back = record-reads-back
+
+-- and of both labels of an accepted session.
+pub session-reads-back : (im : List ℕ) (s : SessionMarks) → lentAnswer im s ≡ Accepted
+    → (parseOf im (textOf im (s .label)) ≡ ofText (read (s .label))) × (parseOf im (textOf im (s .row)) ≡ ofText (read (s .row)))
+session-reads-back im s e = (
+  parse-of-print im (lent-accepted im s e) (s .label) (session-labels-exist im s e .0),
+  parse-of-print im (lent-accepted im s e) (s .row) (session-labels-exist im s e .1),
+)
+
+-- ---- sessions
+-- A session that opens passes every later test (19), and so does a session whose label or row label was changed.
+pub opened-passes : (im name : List ℕ) (s : SessionMarks) → openOf im name ≡ session s → lentAnswer im s ≡ Accepted
+opened-passes = passing.opened-passes
+
+pub label-changed-passes : (im text : List ℕ) (s t : SessionMarks) → setLabelOf im s text ≡ (t, Accepted) → lentAnswer im t ≡ Accepted
+label-changed-passes = passing.label-changed-passes
+
+pub row-label-changed-passes : (im text : List ℕ) (s t : SessionMarks) → setRowLabelOf im s text ≡ (t, Accepted) → lentAnswer im t ≡ Accepted
+row-label-changed-passes = passing.row-label-changed-passes
+
+-- An accepted session that is laid down in bytes reads back as itself.
+pub session-in-bytes : (im : List ℕ) (s : SessionMarks) → lentAnswer im s ≡ Accepted → sessionIn (sessionBytes s) ≡ s
+session-in-bytes im s e = session-back s (lent-widths im s e)
+
+-- ---- verdicts
+-- No session reads a row that is not readable at its user's maximum read label.
+pub reads-within-maximum : (im : List ℕ) (s : SessionMarks) (tag : ℕ) → mayReadOf im s tag ≡ Yes → readableAtMaximum im (s .user) tag ≡ true
+reads-within-maximum = bounded.reads-within-maximum
+
+-- A writable row is readable.
+pub writable-readable : (im : List ℕ) (s : SessionMarks) (tag : ℕ) → mayWriteOf im s tag ≡ Yes → mayReadOf im s tag ≡ Yes
+writable-readable = bounded.writes-readable
+
+-- ---- the sample co-operative: each of the cases P1 to P16 gives what document 01 says
+pub sample-cases : map asked proved ≡ map (λ (c : Case). c .expected) proved
+sample-cases = all-cases
+
+-- ---- the report: the parts that the cursor gives, joined, are the whole output
+pub report-whole : (im : List ℕ) (parts : List (List ℕ)) → PartsOf im (outputOf im) parts → flatten parts ≡ outputOf im
+report-whole im parts run = output-joined run
+
+-- ---- demand 3: hidden rows stay hidden
+-- Over any sequence of openings, label changes, reads and updates by one user, two tables that agree on what that user could ever read
+-- give equal answers and agree on it again at the end, and every other row keeps its bytes and its place.
+pub hidden-rows : (im : List ℕ) (u : ℕ) (table1 table2 : List ℕ) (width : ℕ) (start : SessionMarks) (calls1 calls2 : List Call)
+    → Premises im u table1 table2 width start calls1 calls2 → Claim im u table1 table2 width start calls1 calls2
+hidden-rows = isolation.hidden-rows
