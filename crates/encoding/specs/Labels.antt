@@ -4,7 +4,7 @@ use mathlib.Core.List.{List, [], _∷_, _++_}
 use lib.ListN.{replicate}
 use Rattle.fields.specs.Bytes.{byteAt, number8}
 use Rattle.sets.specs.Groups.{width}
-use Rattle.labels.specs.Label.{Marks}
+use Rattle.labels.specs.Label.{Marks, marks}
 
 -- the eight bytes of a word, the lowest first
 abbrev pub bytes8 : ℕ → List ℕ
@@ -33,8 +33,8 @@ highGroups bytes = wordThen (number8 bytes 24) (wordThen (number8 bytes 32) (num
 -- the label that 48 bytes hold; the bytes that no field has are not looked at
 unfoldable pub labelIn : List ℕ → Marks
 labelIn bytes =
-    record { level = byteAt bytes 4; compartments = number8 bytes 8; groups = wordThen (number8 bytes 16) (highGroups bytes) }
+    marks (byteAt bytes 4) (number8 bytes 8) (wordThen (number8 bytes 16) (highGroups bytes))
 
 -- the label that 48 bytes hold, but for the groups past the 64th, for calls that are lent no image
 unfoldable pub lowLabelIn : List ℕ → Marks
-lowLabelIn bytes = record { level = byteAt bytes 4; compartments = number8 bytes 8; groups = number8 bytes 16 }
+lowLabelIn bytes = marks (byteAt bytes 4) (number8 bytes 8) (number8 bytes 16)

@@ -8,7 +8,7 @@ use lib.Dec.{eqb}
 use Rattle.fields.specs.Bytes.{byteAt, part}
 use Rattle.refusals.specs.declared.answers.Checked.{Checked}
 use Rattle.refusals.specs.Answers.{onChecked, checkedGiven, codeOf}
-use Rattle.sessions.specs.Session.{SessionMarks}
+use Rattle.sessions.specs.Session.{SessionMarks, sessionMarks}
 use Rattle.encoding.specs.Labels.{labelBytes, labelIn, highGroups, LabelFits}
 
 unfoldable pub sessionBytes : SessionMarks → List ℕ
@@ -22,7 +22,7 @@ pub record SessionPartsFit (s : SessionMarks) : Type 0 where
 
 -- the session that 104 bytes hold
 unfoldable pub sessionIn : List ℕ → SessionMarks
-sessionIn bytes = record { user = byteAt bytes 0; label = labelIn (part bytes 8 48); row = labelIn (part bytes 56 48) }
+sessionIn bytes = sessionMarks (byteAt bytes 0) (labelIn (part bytes 8 48)) (labelIn (part bytes 56 48))
 
 -- the signed-on user is the user
 abbrev pub oneUser : List ℕ → Bool

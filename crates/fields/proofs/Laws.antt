@@ -4,13 +4,13 @@ use Prim.Native.Nat.{ℕ, zero, suc, _+_, _-_, _≤_, _<_}
 use mathlib.Core.Path.{_≡_, refl, sym, ap, _∙_}
 use mathlib.Core.Bool.{Bool, true, false, _&&_, _||_}
 use mathlib.Core.List.{List, [], _∷_}
-use native.Mathlib.Nat.{sub-zero, zero-sub, add-sub-cancel-left}
+use native.Mathlib.Nat.{le-refl, sub-zero, zero-sub, add-sub-cancel-left}
 use native.Mathlib.Numerals.{add-one}
 use native.Mathlib.Omega.{arith}
 use borrow.Author.Tests.{lt-ltb, le-ltb, eq-eqb, ne-eqb}
 use lib.Dec.{eqb, ltb}
 use lib.ListN.{length, getD, take, drop, drop-of-length-le, length-take, length-drop}
-use lib.Seq.{take-nil, drop-cons, getD-take, getD-drop}
+use lib.Seq.{take-nil, take-all, drop-cons, getD-take, getD-drop}
 use Rattle.fields.specs.Bytes.{all, part, byteAt}
 use Rattle.fields.specs.Names.{sameName, nameBefore}
 
@@ -34,6 +34,10 @@ module _ (s : List ℕ) (k n : ℕ) where
 
   pub part-byte : (i : ℕ) → i < n → byteAt (part s k n) i ≡ byteAt s (k + i)
   part-byte i h = rw (getD-take, getD-drop)
+
+-- and from k up to the end
+pub rest-taken : (s : List ℕ) (k : ℕ) → take (length s - k) (drop k s) ≡ drop k s
+rest-taken s k = take-all (length s - k) (drop k s) (rw length-drop (le-refl (length s - k)))
 
 -- ---- a test of every byte
 module _ (test : ℕ → Bool) (s : List ℕ) (i : ℕ) where

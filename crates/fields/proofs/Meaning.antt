@@ -8,7 +8,8 @@ use mathlib.Core.Logic.{_⊎_, inl, inr, ⊎-elim}
 use native.Mathlib.Omega.{arith}
 use borrow.Author.Tests.{ltb-true, ltb-false, leb-true, eqb-true, lt-ltb, le-leb, eq-eqb, not-true, not-false}
 use lib.Dec.{eqb, leb, ltb}
-use lib.ListN.{length, getD}
+use lib.ListN.{length, getD, drop}
+use lib.Seq.{getD-drop}
 use Rattle.fields.specs.Bytes.{byteAt, part, all, allZero}
 use Rattle.fields.specs.Names.{nameByte, nameIn, nameRule, sameName, nameBefore}
 use Rattle.fields.specs.Scan.{firstWhere}
@@ -49,6 +50,16 @@ part-zero s k n f =
     means-all (λ x. eqb x 0) (part s k n)
     (λ i h. let g : i < n = omega (arith, part-short s k n) in
     eq-eqb _ 0 (part-byte s k n i g ∙ f (k + i) (omega arith) (omega arith)))
+
+-- and of the bytes from k on
+pub zero-rest : (s : List ℕ) (k : ℕ) → allZero (drop k s) ≡ true → (i : ℕ) → k ≤ i → byteAt s i ≡ 0
+zero-rest s k e i low =
+    let q : k + (i - k) ≡ i = omega arith in
+    ap (byteAt s) (sym q) ∙ sym (getD-drop k s (i - k) 0) ∙ zero-means (drop k s) e (i - k)
+
+pub rest-zero : (s : List ℕ) (k : ℕ) → ((i : ℕ) → k ≤ i → byteAt s i ≡ 0) → allZero (drop k s) ≡ true
+rest-zero s k f =
+    means-all (λ x. eqb x 0) (drop k s) (λ i h. eq-eqb _ 0 (getD-drop k s i 0 ∙ f (k + i) (omega arith)))
 
 -- ---- a name's field
 -- A to Z, 0 to 9 and underscore

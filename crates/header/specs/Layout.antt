@@ -1,4 +1,4 @@
--- The counts in an image's header, and where by them the blocks and records stand. Above it records are named by their kind and their place among those of the kind.
+-- The counts in an image's header, and where by them the blocks and records stand. The crates above this one name a record by its kind and its place among those of the kind.
 use Prim.Native.Nat.{ℕ, _+_, _-_, _*_, _/_, _%_, _≤_, _<_, min}
 use mathlib.Core.Path.{_≡_}
 use mathlib.Core.Bool.{cond}
@@ -54,7 +54,7 @@ classFirst n class = cond (eqb class 1) 0 (cond (eqb class 2) (n .levels) (n .le
 unfoldable pub classAt : Counts → ℕ → ℕ
 classAt n i = cond (ltb i (n .levels)) 1 (cond (ltb i (n .levels + n .compartments)) 2 3)
 
--- ---- the kinds: components, labels, users. No other place has these numbers
+-- ---- the kinds: components, labels, users. The numbers that a kind's shape is made of stand here alone
 abbrev pub kindByte : Kind → ℕ
 kindByte Component = 67
 kindByte Label = 76
@@ -103,7 +103,7 @@ abbrev pub shapeOf : List ℕ → Kind → Shape
 shapeOf im kind =
     record { first = firstBlock im kind; size = recordSize kind; capacity = capacityOf kind; count = countOf im kind }
 
--- a block holds one record or more, as many as its byte 1 can tell, and has room for them
+-- a block holds one record or more, no more than its byte 1 can tell, and has room for them
 pub record Roomy (shape : Shape) : Type 0 where
   pub some : 1 ≤ shape .capacity
   pub few : shape .capacity ≤ 255
@@ -141,7 +141,7 @@ userRecord im u = recordAt im User u
 unfoldable pub recordsOf : List ℕ → Kind → List (List ℕ)
 recordsOf im kind = listFrom (recordAt im kind) (countOf im kind) 0
 
--- a walk stands at the record of place j: where the record begins, and how many its block has from it on
+-- a walk stands at the record of place j: where the record begins, and how many its block has room for from it on
 pub record Standing (shape : Shape) (j : ℕ) (here : RecordAt) : Type 0 where
   pub begins : here .at ≡ recordOffset shape j
   pub more : here .left ≡ shape .capacity - recordSlot shape j

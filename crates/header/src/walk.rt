@@ -8,7 +8,7 @@ use crate::layout::Contents;
 use crate::layout::Kind;
 use crate::layout::Shape;
 
-// Where a record begins, and how many records its block has from it on.
+// Where a record begins, and how many records its block has room for from it on.
 pub struct RecordAt {
     pub at: usize,
     pub left: usize,

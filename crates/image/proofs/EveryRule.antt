@@ -1,27 +1,44 @@
--- An image is accepted exactly if it keeps every rule, in words of places and bytes. Assumes nothing.
+-- An image is accepted exactly if it keeps every rule, in words of places and bytes; names stand in byte order by the definition of that
+-- order. Assumes nothing.
 use Prim.Native.Nat.{ℕ, _≤_, _<_}
-use mathlib.Core.Path.{_≡_}
+use mathlib.Core.Path.{_≡_, subst}
 use mathlib.Core.Bool.{true, false}
 use mathlib.Core.List.{List}
 use mathlib.Core.Logic.{_↔_}
+use Rattle.sets.specs.Sets.{has, within}
+use Rattle.sets.proofs.Within.{within-has, has-within}
 use Rattle.blocks.specs.Blocks.{blockCount}
 use Rattle.blocks.proofs.Meaning.{LengthKept, length-means, length-holds, BlockKept, block-means, block-holds}
 use Rattle.header.specs.declared.layout.Kind.{Kind}
 use Rattle.header.specs.declared.layout.Kind.the-variants.{Component, Label, User}
 use Rattle.header.specs.Layout as layout
 use Rattle.header.specs.Layout.{groups, blocksNeeded, Fitted, countsOf, countOf, recordsOf, userRecord}
+use Rattle.header.proofs.Inside.{record-of}
+use Rattle.records.specs.Fields.{readGroups, writeGroups, defaultGroups, rowGroups}
 use Rattle.records.specs.Rules.{ruleOf, recordRule}
 use Rattle.records.proofs.MeaningHeader.{HeaderKept, header-means, header-holds, fit-means, fit-holds}
-use Rattle.records.proofs.MeaningBlocks.{LayoutKept, content-means, blocks-kept}
+use Rattle.records.proofs.MeaningBlocks.{LayoutKept, content-means, contents-kept}
 use Rattle.records.proofs.MeaningComponents.{ComponentAmong, component-holds}
 use Rattle.records.proofs.MeaningLabels.{LabelAmong, label-holds}
-use Rattle.records.proofs.MeaningUsers.{UserAmong, user-holds}
-use Rattle.hierarchy.specs.Below.{hasParent, Above, endsRule, belowRule}
+use Rattle.records.proofs.MeaningUsers.{UserKept, UserAmong, user-holds}
+use Rattle.hierarchy.specs.Below.{hasParent, Above, below, endsRule}
 use Rattle.hierarchy.proofs.Lineage.{ends-top}
 use Rattle.hierarchy.proofs.Walks.{top-ends}
+use Rattle.hierarchy.proofs.Under.{below-above, above-below}
 use Rattle.image.specs.Check.{IsAccepted}
 use Rattle.image.proofs.Accepted.{keeps, kept-accepted}
 use Rattle.image.proofs.Policy.{BelowKept, below-holds, component-among, label-among, user-among, user-below}
+
+-- every group of a is in b or has an ancestor in b, at any distance. (`Above im g p`: p is g or an ancestor of g.)
+abbrev pub Under : List ℕ → ℕ → ℕ → Type 0
+Under im a b = (g : ℕ) → has a g ≡ true → (p : ℕ) × (Above im g p × (has b p ≡ true))
+
+-- a user's write and default groups lie in below(read), the row groups in below(default) and in below(write)
+pub record GroupsUnder (im rec : List ℕ) : Type 0 where
+  pub writeUnderRead : Under im (writeGroups rec) (readGroups rec)
+  pub defaultUnderRead : Under im (defaultGroups rec) (readGroups rec)
+  pub rowUnderDefault : Under im (rowGroups rec) (defaultGroups rec)
+  pub rowUnderWrite : Under im (rowGroups rec) (writeGroups rec)
 
 pub record EveryRule (im : List ℕ) : Type 0 where
   -- the length is not 0, a multiple of 512 and at most 65,536
@@ -40,9 +57,41 @@ pub record EveryRule (im : List ℕ) : Type 0 where
   -- following parents from any group reaches one that has none
   pub parentsEnd : (g : ℕ) → g < groups im → (p : ℕ) × (Above im g p × (hasParent im p ≡ false))
   -- each user's groups lie below one another
-  pub groupsBelow : (u : ℕ) → u < layout.users im → BelowKept im (userRecord im u)
+  pub groupsUnder : (u : ℕ) → u < layout.users im → GroupsUnder im (userRecord im u)
 
 module _ (im : List ℕ) where
+  under-means : (a b : ℕ) → within a (below im b) ≡ true → Under im a b
+  under-means a b e g h = below-above im b g (within-has a (below im b) e g h)
+
+  under-kept : {rec : List ℕ} → BelowKept im rec → GroupsUnder im rec
+  under-kept {rec} k =
+      record {
+        writeUnderRead = under-means (writeGroups rec) (readGroups rec) (k .writeBelowRead);
+        defaultUnderRead = under-means (defaultGroups rec) (readGroups rec) (k .defaultBelowRead);
+        rowUnderDefault = under-means (rowGroups rec) (defaultGroups rec) (k .rowBelowDefault);
+        rowUnderWrite = under-means (rowGroups rec) (writeGroups rec) (k .rowBelowWrite);
+      }
+
+  -- the other way, where the parents of every group end and the groups exist
+  under-holds : EveryRule im → (a b : ℕ) → ((g : ℕ) → has a g ≡ true → g < groups im) → Under im a b → within a (below im b) ≡ true
+  under-holds e a b exist f =
+      has-within a (below im b)
+      (λ g h. let q = f g h in
+      let p = e .parentsEnd g (exist g h) in
+      above-below im b g (q .0) (exist g h) (top-ends im g (p .0) (exist g h) (p .1 .0) (p .1 .1)) (q .1 .0) (q .1 .1))
+
+  kept-under : EveryRule im → (u : ℕ) → u < layout.users im → BelowKept im (userRecord im u)
+  kept-under e u h =
+      let rec : List ℕ = userRecord im u in
+      let k = subst (UserKept (countsOf im)) (record-of im User u h) (e .users u h .kept) .groupsKept in
+      let g = e .groupsUnder u h in
+      record {
+        writeBelowRead = under-holds e (writeGroups rec) (readGroups rec) (k .writeExist) (g .writeUnderRead);
+        defaultBelowRead = under-holds e (defaultGroups rec) (readGroups rec) (k .defaultExist) (g .defaultUnderRead);
+        rowBelowDefault = under-holds e (rowGroups rec) (defaultGroups rec) (k .rowExist) (g .rowUnderDefault);
+        rowBelowWrite = under-holds e (rowGroups rec) (writeGroups rec) (k .rowExist) (g .rowUnderWrite);
+      }
+
   pub accepted-keeps : IsAccepted im → EveryRule im
   unfolding endsRule
   accepted-keeps acc =
@@ -57,7 +106,7 @@ module _ (im : List ℕ) where
         labels = label-among im acc;
         users = user-among im acc;
         parentsEnd = λ g h. ends-top im (groups im) g (k .ends g h);
-        groupsBelow = user-below im acc;
+        groupsUnder = λ u h. under-kept (user-below im acc u h);
       }
 
   record-holds : EveryRule im → (kind : Kind) (i : ℕ) → i < countOf im kind → recordRule im kind i ≡ true
@@ -74,9 +123,9 @@ module _ (im : List ℕ) where
         blocks = λ b h. block-holds im b (e .blocks b h);
         header = header-holds im (e .header);
         fit = fit-holds im (e .fitted);
-        contents = λ b low high. blocks-kept im (record-holds e) b low high (e .layouts b low high);
+        contents = λ b low high. contents-kept im (record-holds e) b low high (e .layouts b low high);
         ends = λ g h. let p = e .parentsEnd g h in top-ends im g (p .0) h (p .1 .0) (p .1 .1);
-        below = λ u h. below-holds im u (e .groupsBelow u h);
+        below = λ u h. below-holds im u (kept-under e u h);
       })
 
   pub accepted-exactly : IsAccepted im ↔ EveryRule im

@@ -15,10 +15,10 @@ use Rattle.header.specs.declared.layout.Kind.{Kind}
 use Rattle.header.specs.declared.layout.Kind.the-variants.{Component, Label, User}
 use Rattle.header.specs.Layout.{components, labels, users, groups, countsOf, classAt, countOf, componentRecord, labelRecord, userRecord, recordsOf}
 use Rattle.header.proofs.Inside.{records-count, record-of}
-use Rattle.records.specs.Fields.{componentName, tagOf, userName, readGroups, writeGroups, defaultGroups, rowGroups}
+use Rattle.records.specs.Fields.{componentName, numericForm, tagOf, userName, readGroups, writeGroups, defaultGroups, rowGroups}
 use Rattle.records.specs.Rules.{ruleOf, recordRule}
 use Rattle.records.proofs.MeaningBlocks.{records-kept}
-use Rattle.records.proofs.MeaningComponents.{ComponentKept, ComponentAmong, component-means, component-unique}
+use Rattle.records.proofs.MeaningComponents.{ComponentKept, ComponentAmong, component-means, numeric-rise, component-unique}
 use Rattle.records.proofs.MeaningLabels.{LabelKept, LabelAmong, label-means, tags-rise, tag-unique}
 use Rattle.records.proofs.MeaningUsers.{UserKept, UserAmong, user-means, names-rise, user-unique}
 use Rattle.hierarchy.specs.Below.{endsRule, below, belowRule}
@@ -77,7 +77,7 @@ module _ (im : List ℕ) (acc : IsAccepted im) where
   pub user-below : (u : ℕ) → u < users im → BelowKept im (userRecord im u)
   user-below u h = below-means im u (keeps im acc .below u h)
 
-  -- tags and user names rise strictly; class and name tell components apart
+  -- tags, user names, and numeric forms inside a class rise strictly; class and name tell components apart
   listed : (kind : Kind) (i : ℕ) → i < countOf im kind → i < length (recordsOf im kind)
   listed kind i h = rw (records-count im kind) h
 
@@ -106,6 +106,14 @@ module _ (im : List ℕ) (acc : IsAccepted im) where
   users-apart j k hj hk e =
       user-unique (recordsOf im User) (λ i h. user-among i (unlisted User i h) .rises) j k (listed User j hj) (listed User k hk)
       (rw (record-of im User j hj, record-of im User k hk) e)
+
+  pub numeric-rising : (j k : ℕ) → classAt (countsOf im) j ≡ classAt (countsOf im) k → j < k → k < components im
+      → numericForm (componentRecord im j) < numericForm (componentRecord im k)
+  numeric-rising j k same less high =
+      let first : j < components im = omega arith in
+      rw (record-of im Component j first, record-of im Component k high) at
+      (numeric-rise (countsOf im) (recordsOf im Component) (λ i h. component-among i (unlisted Component i h) .rises) j k same less
+      (listed Component k high))
 
   pub components-apart : (j k : ℕ) → j < components im → k < components im → classAt (countsOf im) j ≡ classAt (countsOf im) k
       → componentName (componentRecord im j) ≡ componentName (componentRecord im k) → j ≡ k

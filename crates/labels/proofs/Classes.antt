@@ -9,6 +9,7 @@ use borrow.Author.Tests.{lt-ltb, eq-eqb, eqb-false}
 use lib.Dec.{eqb}
 use Rattle.fields.specs.Scan.{firstBad}
 use Rattle.fields.proofs.Scan.{bad-shift}
+use Rattle.sets.specs.Groups.{width}
 use Rattle.header.specs.Layout.{levels, compartments, groups, components, countsOf, classFirst}
 use Rattle.records.specs.Rules.{otherName, othersNamed}
 use Rattle.header.specs.Limits.{Counted}
@@ -29,10 +30,10 @@ class-has im class p low high = at (eqb class 1) refl (eqb class 2) refl
         rw (e, d, eq-eqb class 3 three, lt-ltb p (groups im) h)
 
 -- a set has room for the places of every class
-pub class-limit : (im : List ℕ) (class : ℕ) → Counted im → classCount im class ≤ 64
+pub class-limit : (im : List ℕ) (class : ℕ) → Counted im → classCount im class ≤ width
 class-limit im class k = at (eqb class 1) (eqb class 2)
   where
-    at : (s t : Bool) → cond s (levels im) (cond t (compartments im) (groups im)) ≤ 64
+    at : (s t : Bool) → cond s (levels im) (cond t (compartments im) (groups im)) ≤ width
     at true t = omega (arith, k .levelsLimit)
     at false true = k .compartmentsLimit
     at false false = k .groupsLimit

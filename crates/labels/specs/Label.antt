@@ -24,7 +24,7 @@ marksOf l = marks (l .level) (l .compartments) (placesOf (l .groups))
 -- the label of the k-th label record
 unfoldable pub labelAt : List ℕ → ℕ → Marks
 labelAt im k =
-    let rec = labelRecord im k in record { level = labelLevel rec; compartments = labelCompartments rec; groups = labelGroups rec }
+    let rec = labelRecord im k in marks (labelLevel rec) (labelCompartments rec) (labelGroups rec)
 
 -- the policy has every component that the label names
 unfoldable pub labelExists : List ℕ → Marks → Bool

@@ -22,7 +22,7 @@ use Rattle.labels.specs.declared.answers.TextRead.{TextRead}
 use Rattle.labels.specs.declared.answers.TextRead.the-variants as textRead
 use Rattle.labels.specs.declared.answers.Parsed.{Parsed}
 use Rattle.labels.specs.declared.answers.Parsed.the-variants as parsed
-use Rattle.labels.specs.Label.{Marks, marksOf}
+use Rattle.labels.specs.Label.{Marks, marks, marksOf}
 use Rattle.labels.specs.Text.{comma, colon, split, shapeRule}
 
 -- ---- names
@@ -73,9 +73,9 @@ readList im class offset (x ∷ xs) = readNames im class offset none (split comm
 -- ---- a label
 -- after the compartments: groups, or none; the next part begins at the offset
 abbrev pub groupsAfter : List ℕ → ℕ → ℕ → ℕ → List (List ℕ) → Reading Marks
-groupsAfter im level compartments offset [] = read (record { level = level; compartments = compartments; groups = none })
+groupsAfter im level compartments offset [] = read (marks level compartments none)
 groupsAfter im level compartments offset (part ∷ more) =
-    thenRead (readList im 3 offset part) (λ g. read (record { level = level; compartments = compartments; groups = g }))
+    thenRead (readList im 3 offset part) (λ g. read (marks level compartments g))
 
 -- after the level: compartments, or none; then groups
 abbrev pub readSets : List ℕ → ℕ → ℕ → List (List ℕ) → Reading Marks

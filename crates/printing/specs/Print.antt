@@ -7,6 +7,7 @@ use lib.Dec.{leb}
 use lib.ListN.{length, drop}
 use Rattle.buffers.specs.Pasting.{atFront}
 use Rattle.sets.specs.Sets.{has, empty}
+use Rattle.sets.specs.Groups.{width}
 use Rattle.refusals.specs.declared.Refusal.{Refusal}
 use Rattle.refusals.specs.declared.Refusal.the-variants.{NoComponent, Room}
 use Rattle.header.specs.Layout.{compartments, groups, componentRecord}
@@ -69,8 +70,8 @@ unfoldable pub printOf : List ℕ → Marks → List ℕ → Printed × List ℕ
 printOf im m buffer = onChecked (checkOf im) (unprinted buffer) (acceptedAnswer im m buffer)
 
 -- ---- what the parts of print do
--- what code may take for granted where it lists names: the image is accepted and has the first places of the class, 64 at most
+-- what code may take for granted where it lists names: the image is accepted and has the first places of the class, no more than a set has room for
 pub record Named (im : List ℕ) (class count : ℕ) : Type 0 where
   pub accepted : IsAccepted im
   pub present : (p : ℕ) → p < count → hasComponent im class p ≡ true
-  pub few : count ≤ 64
+  pub few : count ≤ width

@@ -110,8 +110,8 @@ records-kept im kept kind i here =
     (content-means im b (kept b low high) .sound) i (held-from im kind i here) (held-upto im kind i here)
 
 -- and the other way: a block whose layout is right, of records that keep their rules, is right
-pub blocks-kept : (im : List ℕ) → ((kind : Kind) (i : ℕ) → i < countOf im kind → recordRule im kind i ≡ true)
+pub contents-kept : (im : List ℕ) → ((kind : Kind) (i : ℕ) → i < countOf im kind → recordRule im kind i ≡ true)
     → (b : ℕ) → 1 ≤ b → b < blocksNeeded im → LayoutKept im b → contentRule im b ≡ true
-blocks-kept im kept b low high layout =
+contents-kept im kept b low high layout =
     let h = held-is im b low high in
     content-holds im b low high (record { layout = layout; sound = λ i l u. kept (contentsOf im b .kind) i (omega (arith, h .counted)) })

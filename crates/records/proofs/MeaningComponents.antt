@@ -12,7 +12,7 @@ use lib.ListN.{length}
 use Rattle.fields.specs.Bytes.{byteAt}
 use Rattle.fields.specs.Names.{sameName}
 use Rattle.fields.proofs.Both.{parts, either, both, or-left, or-right}
-use Rattle.fields.proofs.Meaning.{zero-part, part-zero, NameKept, name-means, name-holds, differ-means, same-means}
+use Rattle.fields.proofs.Meaning.{zero-rest, rest-zero, NameKept, name-means, name-holds, differ-means, same-means}
 use Rattle.fields.proofs.Scan.{everywhere-at, all-good}
 use Rattle.header.specs.Layout.{Counts, classFirst, classAt}
 use Rattle.records.specs.Fields.{classOf, componentNameField, componentName, numericForm, parentOf}
@@ -93,7 +93,7 @@ pub record ComponentKept (class count : ℕ) (rec : List ℕ) : Type 0 where
   pub named : NameKept (componentNameField rec)
   pub numericLimit : numericForm rec ≤ 9999
   pub parent : ParentKept class count (parentOf rec)
-  pub unused : (i : ℕ) → 35 ≤ i → i < 40 → byteAt rec i ≡ 0
+  pub unused : (i : ℕ) → 35 ≤ i → byteAt rec i ≡ 0
 
 module _ (class count : ℕ) (rec : List ℕ) where
   pub component-shape-means : componentShape class count rec ≡ true → ComponentKept class count rec
@@ -108,7 +108,7 @@ module _ (class count : ℕ) (rec : List ℕ) where
         named = name-means _ (q1 .1);
         numericLimit = leb-true _ _ (q2 .1);
         parent = parent-means class count (parentOf rec) (q3 .1);
-        unused = zero-part rec 35 5 (q4 .1);
+        unused = zero-rest rec 35 (q4 .1);
       }
 
   pub component-shape-holds : ComponentKept class count rec → componentShape class count rec ≡ true
@@ -119,7 +119,7 @@ module _ (class count : ℕ) (rec : List ℕ) where
         name-holds _ (k .named),
         le-leb _ _ (k .numericLimit),
         parent-holds class count (parentOf rec) (k .parent),
-        part-zero rec 35 5 (k .unused),
+        rest-zero rec 35 (k .unused),
       )
 
   -- so a level or a compartment holds 255

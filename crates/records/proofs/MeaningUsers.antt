@@ -12,7 +12,7 @@ use lib.ListN.{length}
 use Rattle.fields.specs.Bytes.{byteAt}
 use Rattle.fields.specs.Names.{nameBefore}
 use Rattle.fields.proofs.Both.{parts, either, both, or-left, or-right}
-use Rattle.fields.proofs.Meaning.{zero-part, part-zero, NameKept, name-means, name-holds, before-irrefl, before-trans}
+use Rattle.fields.proofs.Meaning.{zero-part, part-zero, zero-rest, rest-zero, NameKept, name-means, name-holds, before-irrefl, before-trans}
 use Rattle.sets.specs.Sets.{has}
 use Rattle.sets.proofs.Bounds.{below-lacks}
 use Rattle.sets.proofs.Within.{within-has, has-within}
@@ -112,12 +112,12 @@ user-groups-holds count rec k =
     )
 
 -- ---- a record by itself
--- the privilege bit 128 is place 7; bytes 36..39 and 104..127 are unused
+-- every privilege is a bit below 128; bytes 36..39 and those from 104 on are unused
 pub record UserKept (n : Counts) (rec : List ℕ) : Type 0 where
   pub named : NameKept (userNameField rec)
   pub privilegesLimit : privileges rec < 128
   pub unusedLevels : (i : ℕ) → 36 ≤ i → i < 40 → byteAt rec i ≡ 0
-  pub unusedEnd : (i : ℕ) → 104 ≤ i → i < 128 → byteAt rec i ≡ 0
+  pub unusedEnd : (i : ℕ) → 104 ≤ i → byteAt rec i ≡ 0
   pub levelsKept : LevelsKept (n .levels) rec
   pub compartmentsKept : CompartmentsKept (n .compartments) rec
   pub groupsKept : GroupsKept (n .groups) rec
@@ -136,7 +136,7 @@ module _ (n : Counts) (rec : List ℕ) where
         named = name-means _ (q1 .0);
         privilegesLimit = ltb-true _ _ (q1 .1);
         unusedLevels = zero-part rec 36 4 (q2 .1);
-        unusedEnd = zero-part rec 104 24 (q3 .1);
+        unusedEnd = zero-rest rec 104 (q3 .1);
         levelsKept = user-levels-means (n .levels) rec (q4 .1);
         compartmentsKept = user-compartments-means (n .compartments) rec (q5 .1);
         groupsKept = user-groups-means (n .groups) rec (q6 .1);
@@ -149,7 +149,7 @@ module _ (n : Counts) (rec : List ℕ) where
         name-holds _ (k .named),
         lt-ltb _ _ (k .privilegesLimit),
         part-zero rec 36 4 (k .unusedLevels),
-        part-zero rec 104 24 (k .unusedEnd),
+        rest-zero rec 104 (k .unusedEnd),
         user-levels-holds (n .levels) rec (k .levelsKept),
         user-compartments-holds (n .compartments) rec (k .compartmentsKept),
         user-groups-holds (n .groups) rec (k .groupsKept),

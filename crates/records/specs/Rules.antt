@@ -1,10 +1,10 @@
--- The rules of an image's records: of a record by itself, and of a record among those before it in the list of its kind. Each is a
--- Boolean; proofs/Meaning*.antt say what each means for places and bytes.
+-- The rules of an image's records: of a record by itself, and of a record among those before it in the list of its kind; and of a block:
+-- its layout and its records. Each is a Boolean; proofs/Meaning*.antt say what each means for places and bytes.
 use Prim.Native.Nat.{ℕ, _+_, _-_, _*_}
 use mathlib.Core.Bool.{Bool, cond, not, _&&_, _||_}
 use mathlib.Core.List.{List, []}
 use lib.Dec.{eqb, leb, ltb}
-use lib.ListN.{getD}
+use lib.ListN.{drop, getD}
 use Rattle.fields.specs.Bytes.{byteAt, part, allZero}
 use Rattle.fields.specs.Names.{nameRule, sameName, nameBefore}
 use Rattle.fields.specs.Scan.{firstBad, everywhere}
@@ -32,7 +32,7 @@ parentRule class count parent = eqb parent 255 || eqb class 3 && ltb parent coun
 unfoldable pub componentShape : ℕ → ℕ → List ℕ → Bool
 componentShape class count rec =
     eqb (classOf rec) class && nameRule (componentNameField rec) && leb (numericForm rec) 9999
-    && parentRule class count (parentOf rec) && allZero (part rec 35 5)
+    && parentRule class count (parentOf rec) && allZero (drop 35 rec)
 
 -- inside a class the numeric form rises strictly
 unfoldable pub numericRule : Counts → List (List ℕ) → ℕ → Bool
@@ -93,7 +93,7 @@ userGroupsRule count rec =
 -- what a user record must be, whatever the others are; privilege bit 128 is zero
 unfoldable pub userShape : Counts → List ℕ → Bool
 userShape n rec =
-    nameRule (userNameField rec) && ltb (privileges rec) 128 && allZero (part rec 36 4) && allZero (part rec 104 24)
+    nameRule (userNameField rec) && ltb (privileges rec) 128 && allZero (part rec 36 4) && allZero (drop 104 rec)
     && userLevelsRule (n .levels) rec && userCompartmentsRule (n .compartments) rec && userGroupsRule (n .groups) rec
 
 -- user names rise strictly in byte order

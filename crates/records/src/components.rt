@@ -32,7 +32,7 @@ fn shape_ok(rec: &[u8], class: u8, count: usize) -> bool
         & names::name_ok(&rec[1..32])
         & (number2(rec, 32) <= 9999)
         & parent_ok(class, count, rec[34] as usize)
-        & all_zero(&rec[35..40])
+        & all_zero(&rec[35..])
 }
 
 pub fn component_name<'a>(image: &'a [u8], i: usize) -> &'a [u8]

@@ -1,5 +1,5 @@
 // The rules of a user record, but for those of below.
-ghost use Prim.Native.Nat.{_<_, _≤_};
+ghost use Prim.Native.Nat.{_+_, _<_, _≤_};
 ghost use mathlib.Core.Path.{_≡_};
 ghost use lib.ListN.{length};
 ghost use Rattle.fields.specs.Bytes.{number8};
@@ -29,7 +29,7 @@ pub fn name<'a>(image: &'a [u8], u: usize) -> &'a [u8]
 
 // The set of groups in the eight bytes from k on.
 pub fn group_set(rec: &[u8], k: usize) -> Groups
-    requires { ⌜ (length (now rec) ≡ recordSize User) × (k ≤ 120) ⌝ }
+    requires { ⌜ (length (now rec) ≡ recordSize User) × (k + 8 ≤ recordSize User) ⌝ }
     ensures { λ r. ⌜ placesOf r ≡ number8 (now (rec .entry)) k ⌝ }
 {
     Groups::of_word(number8(rec, k))
@@ -150,7 +150,7 @@ fn shape_ok(image: &[u8], rec: &[u8]) -> bool
     names::name_ok(&rec[0..31])
         & (rec[31] < 128)
         & all_zero(&rec[36..40])
-        & all_zero(&rec[104..128])
+        & all_zero(&rec[104..])
         & levels_ok(rec, layout::levels(image))
         & compartments_ok(rec, layout::compartments(image))
         & groups_ok(rec, layout::groups(image))

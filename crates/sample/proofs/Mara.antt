@@ -18,7 +18,8 @@ use Rattle.sessions.specs.Session.{lentAnswer}
 use Rattle.sessions.specs.Opening.{session, defaultLabel, defaultRowLabel, defaultSession, openAccepted, openOf}
 use Rattle.sessions.specs.Changes.{withLabel, labelChange, setLabelOf}
 use Rattle.sample.specs.Pieces.{vault, kiln, dock, mara as name}
-use Rattle.sample.specs.Cooperative.{cooperative, casesImage, marks}
+use Rattle.sample.specs.Cooperative.{cooperative, casesImage}
+use Rattle.labels.specs.Label.{marks}
 use Rattle.sample.proofs.Sample.{sample-accepted, cases-accepted}
 pub use Rattle.sample.specs.Cooperative.{maraOpened as mara}
 

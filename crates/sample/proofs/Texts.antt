@@ -10,7 +10,8 @@ use Rattle.printing.specs.Print.{entryAt, listed, listText, section, textOf}
 use Rattle.roundtrip.proofs.AnyOrder.{swap}
 use Rattle.roundtrip.proofs.TextOrder.{SameNames, compartments as with-compartments}
 use Rattle.sample.specs.Pieces.{open-level, vault, kiln, glaze, north, south}
-use Rattle.sample.specs.Cooperative.{cooperative, marks}
+use Rattle.sample.specs.Cooperative.{cooperative}
+use Rattle.labels.specs.Label.{marks}
 
 -- "OPEN::NORTH,SOUTH", printed
 pub groups-alone : textOf cooperative (marks 0 0 10) ≡ open-level ++ colon ∷ colon ∷ north ++ comma ∷ south

@@ -6,7 +6,8 @@ use Rattle.dominance.specs.TwoLabels.{letterL, letterM, letterU}
 use Rattle.sessions.specs.Changes.{withLabel}
 use Rattle.encoding.specs.Sessions.{sessionBytes}
 use Rattle.sample.specs.Pieces.{open-level, crew, vault, kiln, glaze, works, north, dock, south}
-use Rattle.sample.specs.Cooperative.{casesImage, marks, maraOpened}
+use Rattle.sample.specs.Cooperative.{casesImage, maraOpened}
+use Rattle.labels.specs.Label.{marks}
 use Rattle.sample.specs.Questions.{Question, ofRow, newLabel, merged, printed, Told, verdicts, done, refused, answer}
 
 -- ---- texts

@@ -1,8 +1,8 @@
 -- The sample co-operative of document 01 as two images, which differ in their labels only, and MARA's session as it opens in both.
 use Prim.Native.Nat.{ℕ}
 use mathlib.Core.List.{List, _++_}
-use Rattle.labels.specs.Label.{Marks}
-use Rattle.sessions.specs.Session.{SessionMarks}
+use Rattle.labels.specs.Label.{marks}
+use Rattle.sessions.specs.Session.{SessionMarks, sessionMarks}
 use Rattle.sample.specs.Pieces.{label, header, components, labels, users}
 
 -- the report's: 10 = CREW:KILN:DOCK, 20 = CREW::WORKS, 30 = OPEN
@@ -20,9 +20,6 @@ eightLabels =
 unfoldable pub casesImage : List ℕ
 casesImage = header 8 99 108 ++ components ++ labels 8 eightLabels 158 16 ++ users
 
-abbrev pub marks : ℕ → ℕ → ℕ → Marks
-marks l c g = record { level = l; compartments = c; groups = g }
-
 -- MARA's session: CREW:KILN,GLAZE:NORTH with row label CREW:KILN:DOCK
 abbrev pub maraOpened : SessionMarks
-maraOpened = record { user = 0; label = marks 1 3 2; row = marks 1 1 4 }
+maraOpened = sessionMarks 0 (marks 1 3 2) (marks 1 1 4)

@@ -3,10 +3,10 @@
 use Prim.Native.Nat.{ℕ}
 use mathlib.Core.List.{List, [], _∷_, flatten}
 use lib.ListN.{replicate}
-use Rattle.sessions.specs.Session.{SessionMarks}
+use Rattle.sessions.specs.Session.{SessionMarks, sessionMarks}
 use Rattle.isolation.specs.Calls.{last, other, reading, updating, Call, opening, settingLabel, settingRowLabel, onRows}
 use Rattle.sample.specs.Pieces.{mara}
-use Rattle.sample.specs.Cooperative.{marks}
+use Rattle.labels.specs.Label.{marks}
 
 -- ---- two tables of width 6
 -- a row: a tag below 256, and two bytes of payload
@@ -34,23 +34,23 @@ table2 = flatten rows2
 -- ---- MARA's sessions
 -- VAULT:KILN:DOCK with row label CREW:KILN:DOCK
 abbrev pub vaulted : SessionMarks
-vaulted = record { user = 0; label = marks 2 1 4; row = marks 1 1 4 }
+vaulted = sessionMarks 0 (marks 2 1 4) (marks 1 1 4)
 
 -- VAULT:KILN:DOCK with row label CREW
 abbrev pub bare : SessionMarks
-bare = record { user = 0; label = marks 2 1 4; row = marks 1 0 0 }
+bare = sessionMarks 0 (marks 2 1 4) (marks 1 0 0)
 
 -- CREW:GLAZE:NORTH with row label CREW
 abbrev pub glazed : SessionMarks
-glazed = record { user = 0; label = marks 1 2 2; row = marks 1 0 0 }
+glazed = sessionMarks 0 (marks 1 2 2) (marks 1 0 0)
 
 -- OPEN, below her minimum level: 19 refuses it
 abbrev pub tooLow : SessionMarks
-tooLow = record { user = 0; label = marks 0 0 0; row = marks 1 1 4 }
+tooLow = sessionMarks 0 (marks 0 0 0) (marks 1 1 4)
 
 -- before any session is returned: no user has place 9
 abbrev pub noSession : SessionMarks
-noSession = record { user = 9; label = marks 0 0 0; row = marks 0 0 0 }
+noSession = sessionMarks 9 (marks 0 0 0) (marks 0 0 0)
 
 -- ---- her calls
 -- MARK: no user has that name

@@ -7,7 +7,7 @@ use Rattle.refusals.specs.Answers.{onChecked}
 use Rattle.labels.specs.Label.{Marks}
 use Rattle.labels.specs.Parse.{Reading, read, refused, readText, refusalOf}
 use Rattle.access.specs.NewLabels.{sessionLabelAnswer, rowLabelAnswer}
-use Rattle.sessions.specs.Session.{SessionMarks, sessionOf, lentAnswer, sessionRights}
+use Rattle.sessions.specs.Session.{SessionMarks, sessionMarks, sessionOf, lentAnswer, sessionRights}
 use Rattle.sessions.specs.declared.answers.Changed.{Changed}
 
 -- the new session where the answer accepts it; else the session as it was, with the refusal
@@ -21,10 +21,10 @@ changeTo old (refused reason) rule change = (old, Refused (refusalOf reason))
 
 -- ---- a lent session that is accepted
 abbrev pub withLabel : SessionMarks → Marks → SessionMarks
-withLabel s new = record { user = s .user; label = new; row = s .row }
+withLabel s new = sessionMarks (s .user) new (s .row)
 
 abbrev pub withRowLabel : SessionMarks → Marks → SessionMarks
-withRowLabel s new = record { user = s .user; label = s .label; row = new }
+withRowLabel s new = sessionMarks (s .user) (s .label) new
 
 unfoldable pub labelChange : List ℕ → SessionMarks → List ℕ → SessionMarks × Checked
 labelChange im s text =

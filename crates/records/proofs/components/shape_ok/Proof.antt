@@ -1,5 +1,6 @@
 use native.Mathlib.Omega.{arith}
 use borrow.Author.Needs.{needs}
+use Rattle.fields.proofs.Laws.{rest-taken}
 use Rattle.records.specs.Rules.{componentShape}
 use Rattle.records.proofs.components.shape_ok.Statement.{statement}
 use Rattle.records.proofs.components.shape_ok.Tie as tie
@@ -51,6 +52,7 @@ returns c =
       c .before .before .before .before .number2 .ensures .0,
       c .before .before .parent-ok .ensures,
       c .all-zero .ensures,
+      rest-taken,
     )
 
 pub shape-ok-spec : {M : Type 1} → statement M

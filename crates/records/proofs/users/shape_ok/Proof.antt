@@ -1,4 +1,5 @@
 use borrow.Author.Needs.{needs}
+use Rattle.fields.proofs.Laws.{rest-taken}
 use Rattle.records.specs.Rules.{userShape}
 use Rattle.header.proofs.Inside.{header-inside}
 use Rattle.records.proofs.users.shape_ok.Statement.{statement}
@@ -74,6 +75,7 @@ returns c =
       c .before .before .before .before .before .levels .ensures .0,
       c .before .before .before .compartments .ensures .0,
       c .before .groups .ensures .0,
+      rest-taken,
     )
 
 pub shape-ok-spec : {M : Type 1} → statement M
