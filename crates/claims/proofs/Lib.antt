@@ -1,1 +1,3 @@
+-- The main theorems.
 pub mod Claims
+pub mod CFunctions
