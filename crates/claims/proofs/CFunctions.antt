@@ -1,17 +1,17 @@
 -- Hidden rows stay hidden from who calls the C functions: each call on bytes that hold a session does what the call by value does on that
 -- session, and what the caller sees is determined by its answer and by the bytes before. Assumes nothing.
-use Prim.Native.Nat.{ℕ, _+_, _*_, _^_}
+use Prim.Native.Nat.{ℕ, _*_, _^_}
 use mathlib.Core.Path.{_≡_, refl, sym, ap, _∙_, subst}
-use mathlib.Core.Bool.{Bool, true, false, cond}
+use mathlib.Core.Bool.{true, false, cond}
 use mathlib.Core.List.{List, [], _∷_, map}
 use native.Mathlib.Omega.{arith}
 use lib.Dec.{ltb}
-use lib.ListN.{getD, take}
+use lib.ListN.{take}
 use borrow.Author.Tests.{le-ltb}
 use Rattle.fields.proofs.Both.{both-left, both-right}
 use Rattle.refusals.specs.declared.Refusal.{Refusal}
+use Rattle.refusals.specs.declared.Refusal.the-variants.{SessionRules}
 use Rattle.refusals.specs.declared.answers.Checked.{Checked}
-use Rattle.refusals.specs.Refusals.{numberOf, valuesOf}
 use Rattle.refusals.specs.Answers.{checkedGiven, codeOf, answerOf}
 use Rattle.sessions.specs.Session.{SessionMarks}
 use Rattle.sessions.specs.Opening.{Opening, session, refused, openOf}
@@ -21,17 +21,17 @@ use Rattle.rows.specs.Updating.{updateRowOf}
 use Rattle.rows.specs.declared.answers.RowsRead.{RowsRead}
 use Rattle.rows.specs.declared.answers.RowsRead.the-variants.{Done, Refused}
 use Rattle.encoding.specs.Sessions.{sessionIn, oneUser, Holds, changedInto}
-use Rattle.abi.specs.Answers.{coded}
-use Rattle.abi.specs.Sessions.{openedGiven, openedInto, openAnswer, changeAnswer}
-use Rattle.abi.specs.Tables.{rowsGiven, readAnswer, updateAnswer}
+use Rattle.abi.specs.Answers.{coded, afterCheck}
+use Rattle.abi.specs.Sessions.{openedGiven, openedInto, changeAnswer}
+use Rattle.abi.specs.Tables.{rowsGiven}
 use Rattle.abi.proofs.InBytes.{open-holds, set-label-holds, set-row-label-holds, read-held, update-held}
 use Rattle.isolation.specs.Calls.{lentSession, sessionAfter, bytesRead, rowStep, step, run}
-use Rattle.isolation.specs.Calls.{Call, Answer, opened, labelSet, rowsHanded, rowDone, State}
-use Rattle.isolation.specs.Claim.{started, tableAfter, listAtMaximum, HiddenKept}
+use Rattle.isolation.specs.Calls.{Answer, opened, labelSet, rowsHanded, rowDone, State}
+use Rattle.isolation.specs.Claim.{bufferZeroed, started, listAtMaximum, Premises, HiddenKept}
 use Rattle.isolation.proofs.HiddenRows.{run-step, hidden-rows}
 use Rattle.claims.specs.CFunctions.{BytesLent, lastBytes, otherBytes, CCall, cOpen, cSetLabel, cSetRowLabel, cRead, cUpdate, CState, cStarted}
 use Rattle.claims.specs.CFunctions.{bytesLent, bytesHanded, cStep, cRun, lentValued, valued, lentOneUser, oneUserCall, oneUserCalls}
-use Rattle.claims.specs.CFunctions.{cBufferZeroed, CAlike, cTableAfter, CClaim, CHiddenRows}
+use Rattle.claims.specs.CFunctions.{cBufferZeroed, CHiddenRows}
 
 -- ---- what a caller sees, by the answer of the call by value
 -- the bytes that are lent to a call
@@ -74,7 +74,8 @@ pub record Simulated (im : List ℕ) (state : CState) (s : SessionMarks) (call :
   pub seen : cStep im state call .1 ≡ seenOf (lentTo (state .bytes) call) answer
 
 -- an opening that is done writes a session; a refused one leaves the last
-opened-holds : (im name lately : List ℕ) (s : SessionMarks) → Holds lately s → Holds (openedInto (openOf im name) lately) (sessionAfter (openOf im name) s)
+opened-holds : (im name lately : List ℕ) (s : SessionMarks) → Holds lately s
+    → Holds (openedInto (openOf im name) lately) (sessionAfter (openOf im name) s)
 opened-holds im name lately s h = at (openOf im name) refl
   where
     at : (answer : Opening) → openOf im name ≡ answer → Holds (openedInto answer lately) (sessionAfter answer s)
@@ -164,6 +165,29 @@ module _ (im : List ℕ) (state : CState) (s : SessionMarks) (h : Holds (state .
         seen = ap (λ (p : ℕ × List ℕ). (p .0, [])) after;
       }
 
+-- ---- one call on bytes of two users, which hold no session: the number is by the image alone, and table and bytes stay as they were
+module _ (im : List ℕ) (state : CState) (bytes : List ℕ) (two : oneUser bytes ≡ false) where
+  pub two-users-set-label : (text : List ℕ)
+      → cStep im state (cSetLabel (otherBytes bytes) text) ≡ (cStarted (state .table) bytes, (answerOf (afterCheck im SessionRules), bytes))
+  unfolding cStep
+  two-users-set-label text = rw two
+
+  pub two-users-set-row-label : (text : List ℕ)
+      → cStep im state (cSetRowLabel (otherBytes bytes) text) ≡ (cStarted (state .table) bytes, (answerOf (afterCheck im SessionRules), bytes))
+  unfolding cStep
+  two-users-set-row-label text = rw two
+
+  pub two-users-read : (width : ℕ) (buffer : List ℕ)
+      → cStep im state (cRead (otherBytes bytes) width buffer) ≡ (state, (answerOf (afterCheck im SessionRules), []))
+  unfolding cStep
+  two-users-read width buffer =
+      let number = answerOf (afterCheck im SessionRules) in rw (two, refusal-handed (afterCheck im SessionRules) (take (number * width) buffer))
+
+  pub two-users-update : (width n : ℕ) (payload : List ℕ)
+      → cStep im state (cUpdate (otherBytes bytes) width n payload) ≡ (state, (answerOf (afterCheck im SessionRules), []))
+  unfolding cStep
+  two-users-update width n payload = rw two
+
 -- ---- a sequence
 -- what it leaves, and all that is seen, beside the run by value
 pub record RunSimulated (im : List ℕ) (state : CState) (s : SessionMarks) (calls : List CCall) : Type 0 where
@@ -179,16 +203,21 @@ run-simulated im (call ∷ calls) state s h one =
     let first = step-simulated im state s h call (both-left (oneUserCall call) (oneUserCalls calls) one) in
     let after = cStep im state call .0 in
     let rest = run-simulated im calls after (first .session) (first .holds) (both-right (oneUserCall call) (oneUserCalls calls) one) in
-    let value = run-step im (started (state .table) s) (valued call) (map valued calls) (started (after .table) (first .session)) (first .answer) (first .by-value) in
+    let before = started (state .table) s in
+    let middle = started (after .table) (first .session) in
+    let value = run-step im before (valued call) (map valued calls) middle (first .answer) (first .by-value) in
+    let end = ap (λ (r : State × List Answer). r .0) value in
+    let answers = ap (λ (r : State × List Answer). r .1) value in
     record {
-      table = rest .table ∙ sym (ap (λ (r : State × List Answer). r .0 .table) value);
-      holds = subst (λ (x : SessionMarks). Holds (cRun im after calls .0 .bytes) x) (sym (ap (λ (r : State × List Answer). r .0 .session) value)) (rest .holds);
-      seen = rw (first .seen, rest .seen, first .bytes) (sym (ap (λ (r : State × List Answer). seenAll (state .bytes) (call ∷ calls) (r .1)) value));
+      table = rest .table ∙ sym (ap (λ (x : State). x .table) end);
+      holds = subst (λ (x : State). Holds (cRun im after calls .0 .bytes) (x .session)) (sym end) (rest .holds);
+      seen = rw (first .seen, rest .seen, first .bytes) (sym (ap (seenAll (state .bytes) (call ∷ calls)) answers));
     }
 
 -- ---- two sequences that are alike
 -- the reads' buffers do not show in what is seen
-seen-zeroed : (calls : List CCall) (lately : List ℕ) (answers : List Answer) → seenAll lately calls answers ≡ seenAll lately (map cBufferZeroed calls) answers
+seen-zeroed : (calls : List CCall) (lately : List ℕ) (answers : List Answer)
+    → seenAll lately calls answers ≡ seenAll lately (map cBufferZeroed calls) answers
 unfolding seenAll
 seen-zeroed [] lately answers = refl
 seen-zeroed (call ∷ calls) lately [] = refl
@@ -215,6 +244,18 @@ one-user-zeroed (call ∷ calls) = rw (same call, one-user-zeroed calls)
     same (cRead lent width buffer) = refl
     same (cUpdate lent width n payload) = refl
 
+-- by value they are alike too
+valued-zeroed : (calls : List CCall) → map bufferZeroed (map valued calls) ≡ map valued (map cBufferZeroed calls)
+valued-zeroed [] = refl
+valued-zeroed (call ∷ calls) = rw (same call, valued-zeroed calls)
+  where
+    same : (c : CCall) → bufferZeroed (valued c) ≡ valued (cBufferZeroed c)
+    same (cOpen lent name) = refl
+    same (cSetLabel lent text) = refl
+    same (cSetRowLabel lent text) = refl
+    same (cRead lent width buffer) = refl
+    same (cUpdate lent width n payload) = refl
+
 -- ---- hidden rows stay hidden
 pub c-hidden-rows : CHiddenRows
 c-hidden-rows im u table1 table2 width bytes calls1 calls2 p =
@@ -223,7 +264,7 @@ c-hidden-rows im u table1 table2 width bytes calls1 calls2 p =
     let one2 = sym (one-user-zeroed calls1 ∙ ap oneUserCalls (p .calls-alike) ∙ sym (one-user-zeroed calls2)) ∙ p .calls-one-user in
     let first = run-simulated im calls1 (cStarted table1 bytes) s h (p .calls-one-user) in
     let second = run-simulated im calls2 (cStarted table2 bytes) s h one2 in
-    let claim = hidden-rows im u table1 table2 width s (map valued calls1) (map valued calls2) (p .by-value) in
+    let claim = hidden-rows im u table1 table2 width s (map valued calls1) (map valued calls2) by-value in
     let answers = run im (started table2 s) (map valued calls2) .1 in
     let list : List ℕ → List (List ℕ) = λ (table : List ℕ). listAtMaximum im u table width in
     record {
@@ -238,3 +279,13 @@ c-hidden-rows im u table1 table2 width bytes calls1 calls2 p =
       hidden-kept1 = subst (λ (t : List ℕ). HiddenKept im u table1 t width) (sym (first .table)) (claim .hidden-kept1);
       hidden-kept2 = subst (λ (t : List ℕ). HiddenKept im u table2 t width) (sym (second .table)) (claim .hidden-kept2);
     }
+  where
+    by-value : Premises im u table1 table2 width (sessionIn bytes) (map valued calls1) (map valued calls2)
+    by-value =
+        record {
+          table1-accepted = p .table1-accepted;
+          table2-accepted = p .table2-accepted;
+          lists-equal = p .lists-equal;
+          calls-own = p .calls-own;
+          calls-alike = valued-zeroed calls1 ∙ ap (map valued) (p .calls-alike) ∙ sym (valued-zeroed calls2);
+        }

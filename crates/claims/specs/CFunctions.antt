@@ -6,15 +6,17 @@ use mathlib.Core.Bool.{Bool, true, cond, _&&_}
 use mathlib.Core.List.{List, [], _∷_, map}
 use lib.Dec.{ltb}
 use lib.ListN.{length, take, replicate}
+use Rattle.refusals.specs.declared.answers.Checked.the-variants.{Accepted}
 use Rattle.sessions.specs.Opening.{openOf}
+use Rattle.rows.specs.Table.{tableShape}
 use Rattle.encoding.specs.Sessions.{sessionIn, oneUser}
 use Rattle.abi.specs.Sessions.{openedInto, openAnswer, setLabelAnswer, setRowLabelAnswer}
 use Rattle.abi.specs.Tables.{readAnswer, updateAnswer}
 use Rattle.isolation.specs.Calls.{LentAs, last, other, Call, opening, settingLabel, settingRowLabel, onRows, reading, updating}
-use Rattle.isolation.specs.Claim.{listAtMaximum, Premises, HiddenKept}
+use Rattle.isolation.specs.Claim.{listAtMaximum, ownCalls, started, HiddenKept}
 
 -- ---- what is called
--- the session's bytes that are lent to a call: the last ones, or any other
+-- the session's bytes that are lent to a call: the last ones, or any other. The claim asks nothing of how many they are
 pub data BytesLent : Type 0 where
   lastBytes : BytesLent
   otherBytes : List ℕ → BytesLent
@@ -34,6 +36,7 @@ pub record CState : Type 0 where
   pub table : List ℕ
   pub bytes : List ℕ
 
+-- a table and the bytes that count as the last ones before any call
 abbrev pub cStarted : List ℕ → List ℕ → CState
 cStarted table bytes = record { table = table; bytes = bytes }
 
@@ -85,7 +88,8 @@ valued (cSetRowLabel lent text) = settingRowLabel (lentValued lent) text
 valued (cRead lent width buffer) = onRows (lentValued lent) width (reading buffer)
 valued (cUpdate lent width n payload) = onRows (lentValued lent) width (updating n payload)
 
--- other bytes name one user. Bytes of two users hold no session: 19 after 1, 2, 3 refuses each call on them, by image and bytes alone
+-- other bytes name one user. Bytes of two users hold no session: 19 after 1, 2, 3 refuses each call on them, whatever the table holds
+-- (`two-users-read` and the laws beside it)
 abbrev pub lentOneUser : BytesLent → Bool
 lentOneUser lastBytes = true
 lentOneUser (otherBytes bytes) = oneUser bytes
@@ -98,11 +102,13 @@ oneUserCall (cSetRowLabel lent text) = lentOneUser lent
 oneUserCall (cRead lent width buffer) = lentOneUser lent
 oneUserCall (cUpdate lent width n payload) = lentOneUser lent
 
+-- and so in each call of the sequence
 unfoldable pub oneUserCalls : List CCall → Bool
 oneUserCalls [] = true
 oneUserCalls (call ∷ calls) = oneUserCall call && oneUserCalls calls
 
--- ---- two sequences are alike: equal but for what the reads' buffers held before
+-- ---- two sequences are alike: equal but for what the reads' buffers held before. Bytes lent are equal throughout, as a refused change
+-- shows them as they were, also those that are not looked at
 abbrev pub cBufferZeroed : CCall → CCall
 cBufferZeroed (cOpen lent name) = cOpen lent name
 cBufferZeroed (cSetLabel lent text) = cSetLabel lent text
@@ -110,23 +116,28 @@ cBufferZeroed (cSetRowLabel lent text) = cSetRowLabel lent text
 cBufferZeroed (cRead lent width buffer) = cRead lent width (replicate (length buffer) 0)
 cBufferZeroed (cUpdate lent width n payload) = cUpdate lent width n payload
 
+-- equal with every buffer zeroed
 abbrev pub CAlike : List CCall → List CCall → Type 0
 CAlike calls1 calls2 = map cBufferZeroed calls1 ≡ map cBufferZeroed calls2
 
 -- ---- the claim
+-- that of isolation's Claim.antt, whose calls are that user's by value
 pub record CPremises (im : List ℕ) (u : ℕ) (table1 table2 : List ℕ) (width : ℕ) (bytes : List ℕ) (calls1 calls2 : List CCall) : Type 0 where
-  -- those of the claim by value: the tables agree on what user u could ever read, and the calls are that user's
-  pub by-value : Premises im u table1 table2 width (sessionIn bytes) (map valued calls1) (map valued calls2)
+  -- 12 refuses neither table with the row width
+  pub table1-accepted : tableShape table1 width ≡ Accepted
+  pub table2-accepted : tableShape table2 width ≡ Accepted
+  pub lists-equal : listAtMaximum im u table1 width ≡ listAtMaximum im u table2 width
+  pub calls-own : ownCalls im u (started table1 (sessionIn bytes)) width (map valued calls1) ≡ true
   -- the bytes at the start, and all others that are lent, name one user
   pub start-one-user : oneUser bytes ≡ true
   pub calls-one-user : oneUserCalls calls1 ≡ true
-  -- alike in bytes too: a refused change shows the bytes as they were, also those that are not looked at
   pub calls-alike : CAlike calls1 calls2
 
 -- the table after the sequence
 abbrev pub cTableAfter : List ℕ → List ℕ → List ℕ → List CCall → List ℕ
 cTableAfter im table bytes calls = cRun im (cStarted table bytes) calls .0 .table
 
+-- equal numbers and bytes, tables that agree again on what the user could ever read, and hidden rows as they were
 pub record CClaim (im : List ℕ) (u : ℕ) (table1 table2 : List ℕ) (width : ℕ) (bytes : List ℕ) (calls1 calls2 : List CCall) : Type 0 where
   pub seen-equal : cRun im (cStarted table1 bytes) calls1 .1 ≡ cRun im (cStarted table2 bytes) calls2 .1
   pub final-lists-equal : listAtMaximum im u (cTableAfter im table1 bytes calls1) width ≡ listAtMaximum im u (cTableAfter im table2 bytes calls2) width
