@@ -1,0 +1,94 @@
+-- An instance of the claim of the C functions: MARA's calls on the sample's two tables, her sessions in bytes. Assumes nothing.
+use Prim.Native.Nat.{ℕ, _<_}
+use mathlib.Core.Path.{_≡_, refl, ap, _∙_}
+use mathlib.Core.List.{List, [], _∷_, map}
+use native.Mathlib.Omega.{arith}
+use lib.ListN.{replicate}
+use Rattle.refusals.specs.declared.Refusal.the-variants.{NoUser, RowLabelOutside, TableShape, NoRow, RowNotWritable, SessionRules}
+use Rattle.refusals.specs.Answers.{answerOf}
+use Rattle.encoding.specs.Sessions.{sessionBytes, SessionPartsFit, Holds}
+use Rattle.encoding.proofs.ReadBack.{bytes-hold}
+use Rattle.isolation.specs.Calls.{Call, run}
+use Rattle.isolation.specs.Claim.{started}
+use Rattle.sample.specs.Pieces.{mara}
+use Rattle.sample.specs.Cooperative.{cooperative, marks}
+use Rattle.sample.specs.TwoTables.{noSession, tooLow, nameMark, textVault, textGlaze, textCrew, calls, table1, table2}
+use Rattle.sample.proofs.HiddenInstance.{premises, second-answers}
+use Rattle.claims.specs.CFunctions.{lastBytes, otherBytes, CCall, cOpen, cSetLabel, cSetRowLabel, cRead, cUpdate}
+use Rattle.claims.specs.CFunctions.{cStarted, cRun, valued, oneUserCalls, CPremises, CClaim}
+use Rattle.claims.proofs.CFunctions.{seenAll, run-simulated, c-hidden-rows}
+
+-- the bytes before any session is returned, and those of a session that 19 refuses
+abbrev noneHeld : List ℕ
+noneHeld = sessionBytes noSession
+
+abbrev lowHeld : List ℕ
+lowHeld = sessionBytes tooLow
+
+-- her calls, for two sequences that differ in what the reads' buffers held before. The opening of a name that
+-- no user has is lent other bytes, of two users
+abbrev cCalls : ℕ → List CCall
+cCalls byte =
+    cOpen lastBytes mara
+    ∷ cOpen (otherBytes (1 ∷ replicate 103 0)) nameMark
+    ∷ cRead lastBytes 6 (replicate 20 byte)
+    ∷ cUpdate lastBytes 6 2 (88 ∷ 89 ∷ [])
+    ∷ cUpdate lastBytes 6 1 (88 ∷ 89 ∷ [])
+    ∷ cSetLabel lastBytes textVault
+    ∷ cSetLabel lastBytes textGlaze
+    ∷ cRead lastBytes 4 (replicate 20 byte)
+    ∷ cRead (otherBytes lowHeld) 6 (replicate 20 byte)
+    ∷ cRead lastBytes 6 (replicate 20 byte)
+    ∷ cSetRowLabel lastBytes textCrew
+    ∷ cSetLabel lastBytes textGlaze
+    ∷ cRead lastBytes 6 (replicate 20 byte)
+    ∷ cUpdate lastBytes 6 1 (88 ∷ 89 ∷ [])
+    ∷ []
+
+-- a session of small numbers fits its bytes
+small-fits : (u l c g : ℕ) → u < 10 → l < 10 → c < 10 → g < 10 → SessionPartsFit (record { user = u; label = marks 0 0 0; row = marks l c g })
+small-fits u l c g hu hl hc hg =
+    record {
+      user = omega arith;
+      label = record { level = omega arith; compartments = omega arith; groups = omega arith };
+      row = record { level = omega arith; compartments = omega arith; groups = omega arith };
+    }
+
+none-holds : Holds noneHeld noSession
+none-holds = bytes-hold noSession (small-fits 9 0 0 0 (omega arith) (omega arith) (omega arith) (omega arith))
+
+low-holds : Holds lowHeld tooLow
+low-holds = bytes-hold tooLow (small-fits 0 1 1 4 (omega arith) (omega arith) (omega arith) (omega arith))
+
+-- by value they are the sample's calls
+calls-valued : (byte : ℕ) → map valued (cCalls byte) ≡ calls byte
+calls-valued byte = rw (low-holds .session)
+
+pub c-premises : CPremises cooperative 0 table1 table2 6 noneHeld (cCalls 1) (cCalls 255)
+unfolding oneUserCalls
+c-premises =
+    record {
+      table1-accepted = premises .table1-accepted;
+      table2-accepted = premises .table2-accepted;
+      lists-equal = premises .lists-equal;
+      calls-own = rw (calls-valued 1, none-holds .session) (premises .calls-own);
+      start-one-user = none-holds .one;
+      calls-one-user = rw (low-holds .one);
+      calls-alike = refl;
+    }
+
+-- what the theorem gives
+pub c-instance : CClaim cooperative 0 table1 table2 6 noneHeld (cCalls 1) (cCalls 255)
+c-instance = c-hidden-rows cooperative 0 table1 table2 6 noneHeld (cCalls 1) (cCalls 255) c-premises
+
+-- the numbers that she sees on the second table, known from the answers by value on the first
+pub second-numbers : map (λ (seen : ℕ × List ℕ). seen .0) (cRun cooperative (cStarted table2 noneHeld) (cCalls 255) .1)
+    ≡ 0 ∷ answerOf NoUser ∷ 3 ∷ 0 ∷ answerOf RowNotWritable ∷ 0 ∷ answerOf RowLabelOutside ∷ answerOf TableShape ∷ answerOf SessionRules ∷ 3 ∷ 0 ∷ 0 ∷ 1
+    ∷ answerOf NoRow ∷ []
+unfolding seenAll oneUserCalls
+second-numbers =
+    let ran = run-simulated cooperative (cCalls 255) (cStarted table2 noneHeld) noSession none-holds (rw (low-holds .one)) in
+    ap (map (λ (seen : ℕ × List ℕ). seen .0))
+    (ran .seen
+    ∙ ap (λ (todo : List Call). seenAll noneHeld (cCalls 255) (run cooperative (started table2 noSession) todo .1)) (calls-valued 255)
+    ∙ ap (seenAll noneHeld (cCalls 255)) second-answers)
