@@ -11,7 +11,8 @@ use Rattle.encoding.proofs.ReadBack.{bytes-hold}
 use Rattle.isolation.specs.Calls.{Call, run}
 use Rattle.isolation.specs.Claim.{started}
 use Rattle.sample.specs.Pieces.{mara}
-use Rattle.sample.specs.Cooperative.{cooperative, marks}
+use Rattle.labels.specs.Label.{marks}
+use Rattle.sample.specs.Cooperative.{cooperative}
 use Rattle.sample.specs.TwoTables.{noSession, tooLow, nameMark, textVault, textGlaze, textCrew, calls, table1, table2}
 use Rattle.sample.proofs.HiddenInstance.{premises, second-answers}
 use Rattle.claims.specs.CFunctions.{lastBytes, otherBytes, CCall, cOpen, cSetLabel, cSetRowLabel, cRead, cUpdate}

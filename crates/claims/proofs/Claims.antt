@@ -37,6 +37,8 @@ use Rattle.lines.proofs.Rest.{output-joined}
 use Rattle.isolation.specs.Calls.{Call}
 use Rattle.isolation.specs.Claim.{Premises, Claim}
 use Rattle.isolation.proofs.HiddenRows as isolation
+use Rattle.claims.specs.CFunctions.{CCall, CPremises, CClaim}
+use Rattle.claims.proofs.CFunctions as functions
 use Rattle.sample.specs.Cases.{Case, asked, proved}
 use Rattle.sample.proofs.Cases.{all-cases}
 
@@ -111,3 +113,8 @@ report-whole im parts run = output-joined run
 pub hidden-rows : (im : List ℕ) (u : ℕ) (table1 table2 : List ℕ) (width : ℕ) (start : SessionMarks) (calls1 calls2 : List Call)
     → Premises im u table1 table2 width start calls1 calls2 → Claim im u table1 table2 width start calls1 calls2
 hidden-rows = isolation.hidden-rows
+
+-- The same of the C functions, whose sessions stand in bytes: equal numbers and equal bytes.
+pub c-hidden-rows : (im : List ℕ) (u : ℕ) (table1 table2 : List ℕ) (width : ℕ) (bytes : List ℕ) (calls1 calls2 : List CCall)
+    → CPremises im u table1 table2 width bytes calls1 calls2 → CClaim im u table1 table2 width bytes calls1 calls2
+c-hidden-rows = functions.c-hidden-rows
