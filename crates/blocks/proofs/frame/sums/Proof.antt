@@ -60,14 +60,15 @@ loop-less c = omega arith
 
 loop-again : tie.Need-loop-again Inv-loop μ-loop
 loop-again c =
-    let at = c .before .before .before .before .before .before in
-    let y = ap₂ _+_ (c .before .before .before .wide .ensures .0) (c .before .wide2 .ensures .0) in (
+    let widened = c .before .before .before in
+    let at = widened .before .before .before in
+    let y = ap₂ _+_ (widened .wide .ensures .0) (c .before .wide2 .ensures .0) in (
       omega arith,
       (
         omega arith,
         (
           omega arith,
-          rw (c .times .ensures .0) (halfway-step _ (at .before .before .pre) _ _ _ _ (c .before .before .before .before .before .loop-test .taken) y (at .loop .inv .1 .1 .1)),
+          rw (c .times .ensures .0) (halfway-step _ (at .before .before .pre) _ _ _ _ (widened .before .before .loop-test .taken) y (at .loop .inv .1 .1 .1)),
         ),
       ),
     )

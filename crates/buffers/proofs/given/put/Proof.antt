@@ -23,9 +23,10 @@ same-length c = search needs
 
 returns : tie.Need-returns
 returns c =
-    let e = c .before .before .copy .ensures in
+    let copied = c .before .before in
+    let e = copied .copy .ensures in
     record {
-      bytes = put-part _ _ _ _ (c .before .before .before .before .before .before .pre) (e .1);
+      bytes = put-part _ _ _ _ (copied .before .before .before .before .pre) (e .1);
       stop = rw (e .0);
     }
 

@@ -35,7 +35,9 @@ shared-slice-read-if3-2 : tie.Need-shared-slice-read-if3-2 Inv-loop μ-loop
 shared-slice-read-if3-2 c = omega arith
 
 returns-3 : tie.Need-returns-3 Inv-loop μ-loop
-returns-3 c = before-higher _ _ _ (omega arith) (omega arith) (c .before .before .before .before .before .before .before .before .loop .inv .1) (c .if3 .taken)
+returns-3 c =
+    let compared = c .before .before .before in
+    before-higher _ _ _ (omega arith) (omega arith) (compared .before .before .before .before .before .loop .inv .1) (c .if3 .taken)
 
 add-i : tie.Need-add-i Inv-loop μ-loop
 add-i c = omega arith
@@ -44,7 +46,10 @@ loop-less : tie.Need-loop-less Inv-loop μ-loop
 loop-less c = omega arith
 
 loop-again : tie.Need-loop-again Inv-loop μ-loop
-loop-again c = (omega arith, before-step _ _ _ (omega arith) (omega arith) (c .before .before .before .before .before .before .before .before .loop .inv .1) (c .before .before .before .if2 .left) (c .if3 .left))
+loop-again c =
+    let compared = c .before .before .before in
+    let turn = compared .before .before .before .before .before in
+    (omega arith, before-step _ _ _ (omega arith) (omega arith) (turn .loop .inv .1) (compared .if2 .left) (c .if3 .left))
 
 returns-4 : tie.Need-returns-4 Inv-loop μ-loop
 returns-4 c = before-done _ _ _ (c .loop-test .left) (c .before .loop .inv .1)

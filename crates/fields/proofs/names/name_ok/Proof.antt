@@ -57,9 +57,10 @@ all-zero-requires c κs = search needs
 returns-3 : tie.Need-returns-3
 unfolding nameRule nameIn
 returns-3 c =
-    let n = getD (c .before .before .before .before .before .before .before .before .args .field .now) 0 0 in
+    let bounded = c .before .before .before .before in
+    let n = getD (bounded .before .before .before .before .args .field .now) 0 0 in
     let rest : 31 - (1 + n) ≡ 30 - n = omega arith in
-    simp (le-leb _ _ (c .before .before .before .before .before .if1 .left), le-leb _ _ (c .before .before .before .before .if2 .left), ← rest)
+    simp (le-leb _ _ (bounded .before .if1 .left), le-leb _ _ (bounded .if2 .left), ← rest)
     (simp add-sub-cancel-left at (ap₂ _&&_ (c .before .before .all-name-bytes .ensures) (c .all-zero .ensures)))
 
 pub name-ok-spec : {M : Type 1} → statement M

@@ -42,9 +42,10 @@ all-zero-requires c κs = search needs
 returns : tie.Need-returns
 unfolding headerRule
 returns c =
+    let counted = c .before .before .before .before .before in
     rw (
-      c .before .before .before .before .before .before .before .before .before .levels .ensures .0,
-      c .before .before .before .before .before .compartments .ensures .0,
+      counted .before .before .before .before .levels .ensures .0,
+      counted .compartments .ensures .0,
       c .before .before .before .before .groups .ensures .0,
       c .before .before .before .users .ensures .0,
       c .before .before .labels .ensures .0,

@@ -30,22 +30,24 @@ parent-requires c κs = search needs
 
 returns : tie.Need-returns Inv-loop μ-loop
 returns c =
-    let start = c .before .before .before .before .before .before in
+    let turn = c .before .before .before in
+    let start = turn .before .before .before in
     let im = start .args .image .now in
-    let some : 0 < c .before .before .before .loop .steps = omega arith in
+    let some : 0 < turn .loop .steps = omega arith in
     let h : c .before .parent .result < groups im = omega arith in
     let before = start .pre .1 .1 (c .before .parent .result) (omega arith) in
     let above = walk-up _ _ _ _ some (c .before .parent .ensures .0) h in
-    let met = c .before .before .before .loop .inv .1 .0 in
+    let met = turn .loop .inv .1 .0 in
     sym (above-ends _ _ _ (start .pre .1 .0) (above-trans _ met above) before)
 
 returns-2 : tie.Need-returns-2 Inv-loop μ-loop
 returns-2 c =
-    let im = c .before .before .before .before .before .before .before .args .image .now in
-    let some : 0 < c .before .before .before .before .loop .steps = omega arith in
+    let turn = c .before .before .before .before in
+    let im = turn .before .before .before .args .image .now in
+    let some : 0 < turn .loop .steps = omega arith in
     let h : groups im ≤ c .before .before .parent .result = omega arith in
     sym (walk-ended _ _ _ _ some (c .before .before .parent .ensures .0) h)
-    ∙ c .before .before .before .before .loop .inv .1 .1
+    ∙ turn .loop .inv .1 .1
 
 sub-steps : tie.Need-sub-steps Inv-loop μ-loop
 sub-steps c = omega arith
@@ -55,11 +57,12 @@ loop-less c = omega arith
 
 loop-again : tie.Need-loop-again Inv-loop μ-loop
 loop-again c =
-    let im = c .before .before .before .before .before .before .before .args .image .now in
-    let some : 0 < c .before .before .before .before .loop .steps = omega arith in
+    let turn = c .before .before .before .before in
+    let im = turn .before .before .before .args .image .now in
+    let some : 0 < turn .loop .steps = omega arith in
     let h : c .before .before .parent .result < groups im = omega arith in
     let next = c .before .before .parent .ensures .0 in
-    let inv = c .before .before .before .before .loop .inv .1 in
+    let inv = turn .loop .inv .1 in
     (h, (above-trans _ (inv .0) (walk-up _ _ _ _ some next h), sym (walk-on _ _ _ _ some next h) ∙ inv .1))
 
 returns-3 : tie.Need-returns-3 Inv-loop μ-loop

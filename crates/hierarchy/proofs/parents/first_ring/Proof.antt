@@ -32,10 +32,11 @@ ends-requires c κs = (c .before .before .before .before .pre, (omega arith, c .
 
 returns : tie.Need-returns Inv-loop μ-loop
 returns c =
-    let g = c .before .before .before .loop .g in
-    let l : g < groups (c .before .before .before .before .before .before .args .image .now) = omega arith in
+    let turn = c .before .before .before in
+    let g = turn .loop .g in
+    let l : g < groups (turn .before .before .before .args .image .now) = omega arith in
     let bad = sym (c .before .ends .ensures) ∙ not-true _ (c .if1 .taken) in
-    loop-bad _ _ _ _ l (c .before .before .before .loop .inv .1 .0) bad
+    loop-bad _ _ _ _ l (turn .loop .inv .1 .0) bad
 
 add-g : tie.Need-add-g Inv-loop μ-loop
 add-g c = omega arith
@@ -45,10 +46,11 @@ loop-less c = omega arith
 
 loop-again : tie.Need-loop-again Inv-loop μ-loop
 loop-again c =
-    let g = c .before .before .before .loop .g in
-    let l : g < groups (c .before .before .before .before .before .before .args .image .now) = omega arith in
+    let turn = c .before .before .before in
+    let g = turn .loop .g in
+    let l : g < groups (turn .before .before .before .args .image .now) = omega arith in
     let good = sym (c .before .ends .ensures) ∙ not-false _ (c .if1 .left) in
-    let inv = c .before .before .before .loop .inv .1 in
+    let inv = turn .loop .inv .1 in
     (omega arith, (loop-good _ _ _ _ l (inv .0) good, below-more _ _ (inv .1) good))
 
 returns-2 : tie.Need-returns-2 Inv-loop μ-loop

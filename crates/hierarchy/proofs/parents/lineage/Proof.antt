@@ -36,13 +36,14 @@ parent-requires c κs = search needs
 
 returns : tie.Need-returns Inv-loop μ-loop
 returns c =
-    let im = c .before .before .before .before .before .before .before .before .args .image .now in
-    let met = c .before .before .before .before .loop .met in
-    let some : 0 < c .before .before .before .before .loop .left = omega arith in
+    let turn = c .before .before .before .before in
+    let im = turn .before .before .before .before .args .image .now in
+    let met = turn .loop .met in
+    let some : 0 < turn .loop .left = omega arith in
     let h : groups im ≤ c .before .parent .result = omega arith in
     c .before .before .with .ensures
     ∙ met-ended _ _ _ _ some (c .before .parent .ensures .0) (placesOf met) h
-    ∙ c .before .before .before .before .loop .inv .1
+    ∙ turn .loop .inv .1
 
 sub-left : tie.Need-sub-left Inv-loop μ-loop
 sub-left c = omega arith
@@ -52,12 +53,13 @@ loop-less c = omega arith
 
 loop-again : tie.Need-loop-again Inv-loop μ-loop
 loop-again c =
-    let im = c .before .before .before .before .before .before .before .before .args .image .now in
-    let met = c .before .before .before .before .loop .met in
-    let some : 0 < c .before .before .before .before .loop .left = omega arith in
+    let turn = c .before .before .before .before in
+    let im = turn .before .before .before .before .args .image .now in
+    let met = turn .loop .met in
+    let some : 0 < turn .loop .left = omega arith in
     let h : c .before .parent .result < groups im = omega arith in
     let on = met-on _ _ _ _ some (c .before .parent .ensures .0) (placesOf met) h in
-    (h, rw (c .before .before .with .ensures) (on ∙ c .before .before .before .before .loop .inv .1))
+    (h, rw (c .before .before .with .ensures) (on ∙ turn .loop .inv .1))
 
 returns-2 : tie.Need-returns-2 Inv-loop μ-loop
 returns-2 c =

@@ -43,12 +43,14 @@ loop-less c = omega arith
 
 loop-again : tie.Need-loop-again Inv-loop μ-loop
 loop-again c =
-    let a = c .before .before .before .before .before .before .before .before .args in
-    let g = c .before .before .before .before .loop .g in
+    let turn = c .before .before .before .before in
+    let start = turn .before .before .before .before in
+    let a = start .args in
+    let g = turn .loop .g in
     let l : g < groups (a .image .now) = omega arith in
-    let held = c .before .before .before .before .before .before .before .before .pre .1 g l in
+    let held = start .pre .1 g l in
     let is = c .before .before .stored .ensures ∙ held in
-    let inv = c .before .before .before .before .loop .inv .1 in
+    let inv = turn .loop .inv .1 in
     let m = c .before .meets .ensures in (
       omega arith,
       ⊎-elim

@@ -36,10 +36,11 @@ lies-below-requires-3 c κs = search needs
 
 returns-3 : tie.Need-returns-3
 returns-3 c =
-    let sets = c .before .before .before .before .before .before in
+    let first = c .before .before .before .before in
+    let sets = first .before .before in
     let are = sets .before .before .before .before .group-sets .ensures in
     let rule = rule-by _ _ _ _ _ _ _ refl (are .read) (are .write) (are .default) (are .row) in
-    let yes1 = sym (c .before .before .before .before .before .lies-below .ensures) ∙ not-false _ (c .before .before .before .before .if1 .left) in
+    let yes1 = sym (first .before .lies-below .ensures) ∙ not-false _ (first .if1 .left) in
     let yes2 = sym (c .before .before .before .lies-below2 .ensures) ∙ not-false _ (c .before .before .if2 .left) in
     let no = sym (c .before .lies-below3 .ensures) ∙ not-true _ (c .if3 .taken) in
     sym (rule ∙ rw (yes1, yes2, no))
@@ -49,10 +50,11 @@ lies-below-requires-4 c κs = search needs
 
 returns-4 : tie.Need-returns-4
 returns-4 c =
-    let sets = c .before .before .before .before .before .before .before in
+    let first = c .before .before .before .before .before in
+    let sets = first .before .before in
     let are = sets .before .before .before .before .group-sets .ensures in
     let rule = rule-by _ _ _ _ _ _ _ refl (are .read) (are .write) (are .default) (are .row) in
-    let yes1 = sym (c .before .before .before .before .before .before .lies-below .ensures) ∙ not-false _ (c .before .before .before .before .before .if1 .left) in
+    let yes1 = sym (first .before .lies-below .ensures) ∙ not-false _ (first .if1 .left) in
     let yes2 = sym (c .before .before .before .before .lies-below2 .ensures) ∙ not-false _ (c .before .before .before .if2 .left) in
     let yes3 = sym (c .before .before .lies-below3 .ensures) ∙ not-false _ (c .before .if3 .left) in
     c .lies-below4 .ensures ∙ sym (rule ∙ rw (yes1, yes2, yes3))

@@ -31,10 +31,11 @@ below-ok-requires c κs =
 
 returns : tie.Need-returns Inv-loop μ-loop
 returns c =
-    let u = c .before .before .before .loop .u in
-    let l : u < users (c .before .before .before .before .before .before .args .image .now) = omega arith in
+    let turn = c .before .before .before in
+    let u = turn .loop .u in
+    let l : u < users (turn .before .before .before .args .image .now) = omega arith in
     let bad = sym (c .before .below-ok .ensures) ∙ not-true _ (c .if1 .taken) in
-    loop-bad _ _ _ _ l (c .before .before .before .loop .inv .1) bad
+    loop-bad _ _ _ _ l (turn .loop .inv .1) bad
 
 add-u : tie.Need-add-u Inv-loop μ-loop
 add-u c = omega arith
@@ -44,10 +45,11 @@ loop-less c = omega arith
 
 loop-again : tie.Need-loop-again Inv-loop μ-loop
 loop-again c =
-    let u = c .before .before .before .loop .u in
-    let l : u < users (c .before .before .before .before .before .before .args .image .now) = omega arith in
+    let turn = c .before .before .before in
+    let u = turn .loop .u in
+    let l : u < users (turn .before .before .before .args .image .now) = omega arith in
     let good = sym (c .before .below-ok .ensures) ∙ not-false _ (c .if1 .left) in
-    (omega arith, loop-good _ _ _ _ l (c .before .before .before .loop .inv .1) good)
+    (omega arith, loop-good _ _ _ _ l (turn .loop .inv .1) good)
 
 returns-2 : tie.Need-returns-2 Inv-loop μ-loop
 returns-2 c =

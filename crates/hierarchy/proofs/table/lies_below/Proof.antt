@@ -71,11 +71,12 @@ returns-2 c =
     let some = sym (first .before .before .is-empty .ensures) ∙ not-true _ (first .before .if2 .taken) in
     let found = lowest-in _ _ _ (first .first .ensures) (places-below (at .loop .rest)) some in
     let from = at .before in
-    let count = from .before .before .before .before .groups .ensures .0 in
+    let counted = from .before .before .before .before in
+    let count = counted .groups .ensures .0 in
     let all = from .before .before .before .all-below .ensures ∙ ap allBelow count in
     let yes = sym (from .before .before .within .ensures) ∙ not-false _ (from .before .if1 .left) in
     let group = below-has _ _ (at .loop .inv .0) _ (found .1) in
-    let is = c .before .before .stored .ensures ∙ from .before .before .before .before .before .before .pre .1 _ group in
+    let is = c .before .before .stored .ensures ∙ counted .before .before .pre .1 _ group in
     let apart = sym (c .before .meets .ensures) ∙ not-true _ (c .if3 .taken) in
     sym (lies-no _ _ _ _ _ is (found .1) apart) ∙ at .loop .inv .1 ∙ lies-rest _ _ _ _ _ all yes (from .difference .ensures) .1
 
@@ -101,9 +102,9 @@ loop-again c =
     let at = first .before .before .before in
     let some = sym (first .before .before .is-empty .ensures) ∙ not-true _ (first .before .if2 .taken) in
     let found = lowest-in _ _ _ (first .first .ensures) (places-below (at .loop .rest)) some in
-    let from = at .before in
+    let counted = at .before .before .before .before .before in
     let group = below-has _ _ (at .loop .inv .0) _ (found .1) in
-    let is = c .before .before .before .stored .ensures ∙ from .before .before .before .before .before .before .pre .1 _ group in
+    let is = c .before .before .before .stored .ensures ∙ counted .before .before .pre .1 _ group in
     let met = sym (c .before .before .meets .ensures) ∙ not-false _ (c .before .if3 .left) in
     let less = c .without .ensures in
     (rw less (difference-below _ _ _ (at .loop .inv .0)), rw less (lies-on _ _ _ _ _ is group met ∙ at .loop .inv .1))

@@ -32,8 +32,8 @@ loop-less c = omega arith
 
 loop-again : tie.Need-loop-again Inv-loop μ-loop
 loop-again c =
-    let l = c .before .before .before .loop in
-    bracket-up _ _ (c .before .before .before .before .before .before .pre) _ _ _ (l .inv) (omega arith) (omega arith)
+    let turn = c .before .before .before in
+    bracket-up _ _ (turn .before .before .before .pre) _ _ _ (turn .loop .inv) (omega arith) (omega arith)
     (rw (← c .before .tag .ensures) (c .if1 .taken))
 
 loop-less-2 : tie.Need-loop-less-2 Inv-loop μ-loop
@@ -41,8 +41,8 @@ loop-less-2 c = omega arith
 
 loop-again-2 : tie.Need-loop-again-2 Inv-loop μ-loop
 loop-again-2 c =
-    let l = c .before .before .before .loop in
-    bracket-down _ _ (c .before .before .before .before .before .before .pre) _ _ _ (l .inv) (omega arith) (omega arith)
+    let turn = c .before .before .before in
+    bracket-down _ _ (turn .before .before .before .pre) _ _ _ (turn .loop .inv) (omega arith) (omega arith)
     (rw (← c .before .tag .ensures) (c .if1 .left))
 
 returns : tie.Need-returns Inv-loop μ-loop

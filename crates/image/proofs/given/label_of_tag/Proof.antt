@@ -24,14 +24,16 @@ tag-requires c κs = (accepted-counted _ (c .before .before .before .before .pre
 
 returns-2 : tie.Need-returns-2
 returns-2 c =
-    let acc = c .before .before .before .before .before .before .pre in
+    let searched = c .before .before .before in
+    let acc = searched .before .before .before .pre in
     split-found _ _ acc _ (omega arith) (sym (c .before .tag .ensures) ∙ c .if2 .taken)
 
 returns-3 : tie.Need-returns-3
 returns-3 c =
-    let acc = c .before .before .before .before .before .before .pre in
-    let s = c .before .before .before .first-not-below .ensures in
-    c .before .before .before .before .labels .ensures .0
+    let searched = c .before .before .before in
+    let acc = searched .before .before .before .pre in
+    let s = searched .first-not-below .ensures in
+    searched .before .labels .ensures .0
     ∙ split-none _ _ acc _ s (λ h q. c .if2 .left (c .before .tag .ensures ∙ q))
 
 pub label-of-tag-spec : {M : Type 1} → statement M

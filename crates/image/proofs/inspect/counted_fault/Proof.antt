@@ -37,10 +37,11 @@ groups-requires c κs = header-inside _ (c .before .before .before .before .befo
 returns-2 : tie.Need-returns-2
 unfolding countedFault
 returns-2 c =
-    let im = c .before .before .before .before .before .before .before .args .image .now in
+    let rung = c .before .before in
+    let im = rung .before .before .before .before .before .args .image .now in
     let g : blocksNeeded im ≤ firstBadContent im = omega arith in
     let h : firstRing im < groups im = omega arith in
-    rw (le-ltb _ _ g, lt-ltb _ _ h, c .before .before .first-ring .ensures)
+    rw (le-ltb _ _ g, lt-ltb _ _ h, rung .first-ring .ensures)
 
 fill-requires : tie.Need-fill-requires
 fill-requires c κs = search needs
@@ -50,20 +51,23 @@ first-bad-below-requires c κs = search needs
 
 users-requires : tie.Need-users-requires
 users-requires c κs =
-    let rung = c .before .before .before .before .before in
-    header-inside _ (rung .before .before .before .before .before .before .pre .fitted)
+    let filled = c .before .before in
+    let rung = filled .before .before .before .before in
+    header-inside _ (rung .before .before .before .before .before .pre .fitted)
 
 user-fault-requires : tie.Need-user-fault-requires
 user-fault-requires c κs =
-    let tabled = c .before .before .before .before .before .before .before in
-    (tabled .before .before .before .before .before .before .pre, omega arith)
+    let filled = c .before .before .before .before in
+    let rung = filled .before .before .before .before in
+    (rung .before .before .before .before .before .pre, omega arith)
 
 returns-3 : tie.Need-returns-3
 unfolding countedFault
 returns-3 c =
     let found = c .before .before .before in
-    let tabled = found .before .before .before .before .before in
-    let im = tabled .before .before .before .before .before .before .args .image .now in
+    let filled = found .before .before in
+    let rung = filled .before .before .before .before in
+    let im = rung .before .before .before .before .before .args .image .now in
     let f : blocksNeeded im ≤ firstBadContent im = omega arith in
     let g : groups im ≤ firstRing im = omega arith in
     let h : firstBadBelow im < users im = omega arith in
@@ -72,8 +76,9 @@ returns-3 c =
 returns-4 : tie.Need-returns-4
 unfolding countedFault
 returns-4 c =
-    let tabled = c .before .before .before .before .before .before .before in
-    let im = tabled .before .before .before .before .before .before .args .image .now in
+    let filled = c .before .before .before .before in
+    let rung = filled .before .before .before .before in
+    let im = rung .before .before .before .before .before .args .image .now in
     let f : blocksNeeded im ≤ firstBadContent im = omega arith in
     let g : groups im ≤ firstRing im = omega arith in
     let h : users im ≤ firstBadBelow im = omega arith in

@@ -43,15 +43,21 @@ fit-ok-requires c κs =
 returns-3 : tie.Need-returns-3
 unfolding faultOf blockCount
 returns-3 c =
-    let im = c .before .before .before .before .before .before .before .before .args .image .now in
+    let checked = c .before .before .before in
+    let im = checked .before .before .before .before .before .args .image .now in
     let h : blockCount im ≤ firstBadBlock im = omega arith in
     let both : (headerRule im && fitRule im) ≡ (c .before .before .header-ok .result && c .before .fit-ok .result) =
     sym (ap₂ _&&_ (c .before .before .header-ok .ensures) (c .before .fit-ok .ensures)) in
-    rw (sym (c .before .before .before .before .before .before .length-ok .ensures) ∙ not-false _ (c .before .before .before .before .before .if1 .left), le-ltb _ _ h, both ∙ not-true _ (c .if3 .taken))
+    rw (
+      sym (checked .before .before .before .length-ok .ensures) ∙ not-false _ (checked .before .before .if1 .left),
+      le-ltb _ _ h,
+      both ∙ not-true _ (c .if3 .taken),
+    )
 
 counted-fault-requires : tie.Need-counted-fault-requires
 counted-fault-requires c κs =
-    let im = c .before .before .before .before .before .before .before .before .args .image .now in
+    let checked = c .before .before .before in
+    let im = checked .before .before .before .before .before .args .image .now in
     let both : (headerRule im && fitRule im) ≡ (c .before .before .header-ok .result && c .before .fit-ok .result) =
     sym (ap₂ _&&_ (c .before .before .header-ok .ensures) (c .before .fit-ok .ensures)) in
     let sound = both ∙ not-false _ (c .if3 .left) in
@@ -60,11 +66,17 @@ counted-fault-requires c κs =
 returns-4 : tie.Need-returns-4
 unfolding faultOf blockCount
 returns-4 c =
-    let im = c .before .before .before .before .before .before .before .before .before .args .image .now in
+    let checked = c .before .before .before .before in
+    let im = checked .before .before .before .before .before .args .image .now in
     let h : blockCount im ≤ firstBadBlock im = omega arith in
     let both : (headerRule im && fitRule im) ≡ (c .before .before .before .header-ok .result && c .before .before .fit-ok .result) =
     sym (ap₂ _&&_ (c .before .before .before .header-ok .ensures) (c .before .before .fit-ok .ensures)) in
-    rw (sym (c .before .before .before .before .before .before .before .length-ok .ensures) ∙ not-false _ (c .before .before .before .before .before .before .if1 .left), le-ltb _ _ h, both ∙ not-false _ (c .before .if3 .left)) (c .counted-fault .ensures)
+    rw (
+      sym (checked .before .before .before .length-ok .ensures) ∙ not-false _ (checked .before .before .if1 .left),
+      le-ltb _ _ h,
+      both ∙ not-false _ (c .before .if3 .left),
+    )
+    (c .counted-fault .ensures)
 
 pub first-fault-spec : {M : Type 1} → statement M
 first-fault-spec =

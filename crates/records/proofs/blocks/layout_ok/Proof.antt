@@ -35,24 +35,29 @@ shared-slice-read-result-2 : tie.Need-shared-slice-read-result-2
 shared-slice-read-result-2 c = search needs
 
 cast-result : tie.Need-cast-result
-cast-result c = omega (arith, c .shared-slice-known3 .given (512 * (c .before .before .before .before .before .before .args .b) + 1))
+cast-result c =
+    let held = c .before .before .before .before in
+    omega (arith, c .shared-slice-known3 .given (512 * (held .before .before .args .b) + 1))
 
 sub-result : tie.Need-sub-result
 sub-result c =
-    let p = c .before .before .before .before .before .before .before .pre in
-    let h = held-by _ _ _ (c .before .before .before .before .before .block-contents .ensures) (p .1 .0) (p .1 .1) in
+    let held = c .before .before .before .before .before in
+    let p = held .before .before .pre in
+    let h = held-by _ _ _ (held .block-contents .ensures) (p .1 .0) (p .1 .1) in
     h .ordered
 
 sub-all-zero : tie.Need-sub-all-zero
 sub-all-zero c =
-    let p = c .before .before .before .before .before .before .before .pre in
-    let h = held-by _ _ _ (c .before .before .before .before .before .block-contents .ensures) (p .1 .0) (p .1 .1) in
+    let held = c .before .before .before .before .before in
+    let p = held .before .before .pre in
+    let h = held-by _ _ _ (held .block-contents .ensures) (p .1 .0) (p .1 .1) in
     omega arith
 
 part-all-zero-start : tie.Need-part-all-zero-start
 part-all-zero-start c =
-    let p = c .before .before .before .before .before .before .before .pre in
-    let h = held-by _ _ _ (c .before .before .before .before .before .block-contents .ensures) (p .1 .0) (p .1 .1) in
+    let held = c .before .before .before .before .before in
+    let p = held .before .before .pre in
+    let h = held-by _ _ _ (held .block-contents .ensures) (p .1 .0) (p .1 .1) in
     omega arith
 
 part-all-zero-end : tie.Need-part-all-zero-end
@@ -64,10 +69,12 @@ all-zero-requires c κs = search needs
 returns : tie.Need-returns
 unfolding layoutRule
 returns c =
-    let b = c .before .before .before .before .before .before .before .before .before .args .b in
-    let e = c .before .before .before .before .before .before .before .block-contents .result .end in
+    let kinded = c .before .before .before .before in
+    let held = kinded .before .before .before in
+    let b = held .before .before .args .b in
+    let e = held .block-contents .result .end in
     let cut : 512 * b + 510 - (512 * b + e) ≡ 510 - e = omega arith in
-    rw (c .all-zero .ensures, cut, c .before .before .before .before .kind-byte .ensures, c .before .before .before .before .before .before .before .block-contents .ensures)
+    rw (c .all-zero .ensures, cut, kinded .kind-byte .ensures, held .block-contents .ensures)
 
 pub layout-ok-spec : {M : Type 1} → statement M
 layout-ok-spec =

@@ -21,7 +21,9 @@ cast-result : tie.Need-cast-result
 cast-result c = omega (arith, c .shared-slice-known3 .given 4)
 
 levels-requires : tie.Need-levels-requires
-levels-requires c κs = header-inside _ (c .before .before .before .before .before .before .pre .0 .fitted)
+levels-requires c κs =
+    let numbered = c .before .before .before in
+    header-inside _ (numbered .before .before .before .pre .0 .fitted)
 
 sub-all-zero : tie.Need-sub-all-zero
 sub-all-zero c = search needs
@@ -39,7 +41,9 @@ number8-requires : tie.Need-number8-requires
 number8-requires c κs = search needs
 
 compartments-requires : tie.Need-compartments-requires
-compartments-requires c κs = header-inside _ (c .before .before .before .before .before .before .before .before .before .before .pre .0 .fitted)
+compartments-requires c κs =
+    let grouped = c .before .before .before .before .before in
+    header-inside _ (grouped .before .before .before .before .before .pre .0 .fitted)
 
 all-below-requires-2 : tie.Need-all-below-requires-2
 all-below-requires-2 c κs = search needs
@@ -59,19 +63,21 @@ within-requires-2 c κs = search needs
 returns : tie.Need-returns
 unfolding labelShape
 returns c =
+    let counted = c .before .before .before .before .before in
+    let levelled = counted .before .before .before .before in
     rw (
-      c .before .before .before .before .before .before .before .before .before .before .before .before .before .number4 .ensures,
-      c .before .before .before .before .before .before .before .before .before .levels .ensures .0,
-      c .before .before .before .before .before .before .before .all-zero .ensures,
+      levelled .before .before .before .before .number4 .ensures,
+      levelled .levels .ensures .0,
+      counted .before .before .all-zero .ensures,
       c .before .before .before .within .ensures,
-      c .before .before .before .before .before .before .number8 .ensures,
+      counted .before .number8 .ensures,
       c .before .before .before .before .all-below2 .ensures,
-      c .before .before .before .before .before .compartments .ensures .0,
+      counted .compartments .ensures .0,
       c .within2 .ensures,
       c .before .of-word .ensures,
       c .before .before .number82 .ensures,
-      c .before .before .before .before .before .before .before .before .before .before .before .all-below .ensures,
-      c .before .before .before .before .before .before .before .before .before .before .before .before .groups .ensures .0,
+      levelled .before .before .all-below .ensures,
+      levelled .before .before .before .groups .ensures .0,
     )
 
 pub shape-ok-spec : {M : Type 1} → statement M

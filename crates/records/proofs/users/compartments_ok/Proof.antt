@@ -36,17 +36,18 @@ within-requires-5 c κs = search needs
 returns : tie.Need-returns
 unfolding userCompartmentsRule
 returns c =
+    let bounded = c .before .before .before .before .before in
     rw (
       c .before .before .before .before .within .ensures,
       c .before .before .before .within2 .ensures,
       c .before .before .within3 .ensures,
       c .before .within4 .ensures,
       c .within5 .ensures,
-      c .before .before .before .before .before .before .before .before .before .number8 .ensures,
-      c .before .before .before .before .before .before .before .before .number82 .ensures,
-      c .before .before .before .before .before .before .before .number83 .ensures,
-      c .before .before .before .before .before .before .number84 .ensures,
-      c .before .before .before .before .before .all-below .ensures,
+      bounded .before .before .before .before .number8 .ensures,
+      bounded .before .before .before .number82 .ensures,
+      bounded .before .before .number83 .ensures,
+      bounded .before .number84 .ensures,
+      bounded .all-below .ensures,
     )
 
 pub compartments-ok-spec : {M : Type 1} → statement M

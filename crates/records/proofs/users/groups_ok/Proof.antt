@@ -33,16 +33,17 @@ within-requires-4 c κs = search needs
 returns : tie.Need-returns
 unfolding userGroupsRule
 returns c =
+    let second = c .before .before .before .before in
     rw (
-      c .before .before .before .before .before .before .within .ensures,
-      c .before .before .before .before .within2 .ensures,
+      second .before .before .within .ensures,
+      second .within2 .ensures,
       c .before .before .within3 .ensures,
       c .within4 .ensures,
-      c .before .before .before .before .before .before .before .group-set .ensures,
-      c .before .before .before .before .before .group-set2 .ensures,
+      second .before .before .before .group-set .ensures,
+      second .before .group-set2 .ensures,
       c .before .before .before .group-set3 .ensures,
       c .before .group-set4 .ensures,
-      c .before .before .before .before .before .before .before .before .all-below .ensures,
+      second .before .before .before .before .all-below .ensures,
     )
 
 pub groups-ok-spec : {M : Type 1} → statement M

@@ -45,19 +45,27 @@ all-zero-requires-2 : tie.Need-all-zero-requires-2
 all-zero-requires-2 c κs = search needs
 
 levels-requires : tie.Need-levels-requires
-levels-requires c κs = header-inside _ (c .before .before .before .before .before .before .before .before .before .pre .0 .fitted)
+levels-requires c κs =
+    let named = c .before .before .before .before .before in
+    header-inside _ (named .before .before .before .before .pre .0 .fitted)
 
 levels-ok-requires : tie.Need-levels-ok-requires
 levels-ok-requires c κs = search needs
 
 compartments-requires : tie.Need-compartments-requires
-compartments-requires c κs = header-inside _ (c .before .before .before .before .before .before .before .before .before .before .before .pre .0 .fitted)
+compartments-requires c κs =
+    let zeroed = c .before .before in
+    let named = zeroed .before .before .before .before .before in
+    header-inside _ (named .before .before .before .before .pre .0 .fitted)
 
 compartments-ok-requires : tie.Need-compartments-ok-requires
 compartments-ok-requires c κs = search needs
 
 groups-requires : tie.Need-groups-requires
-groups-requires c κs = header-inside _ (c .before .before .before .before .before .before .before .before .before .before .before .before .before .pre .0 .fitted)
+groups-requires c κs =
+    let zeroed = c .before .before .before .before in
+    let named = zeroed .before .before .before .before .before in
+    header-inside _ (named .before .before .before .before .pre .0 .fitted)
 
 groups-ok-requires : tie.Need-groups-ok-requires
 groups-ok-requires c κs = search needs
@@ -65,14 +73,16 @@ groups-ok-requires c κs = search needs
 returns : tie.Need-returns
 unfolding userShape
 returns c =
+    let levelled = c .before .before .before .before in
+    let zeroed = levelled .before .before in
     rw (
-      c .before .before .before .before .before .before .before .before .before .before .before .name-ok .ensures,
-      c .before .before .before .before .before .before .before .before .all-zero .ensures,
-      c .before .before .before .before .before .before .all-zero2 .ensures,
-      c .before .before .before .before .levels-ok .ensures,
+      zeroed .before .before .before .before .before .name-ok .ensures,
+      zeroed .before .before .all-zero .ensures,
+      zeroed .all-zero2 .ensures,
+      levelled .levels-ok .ensures,
       c .before .before .compartments-ok .ensures,
       c .groups-ok .ensures,
-      c .before .before .before .before .before .levels .ensures .0,
+      levelled .before .levels .ensures .0,
       c .before .before .before .compartments .ensures .0,
       c .before .groups .ensures .0,
       rest-taken,
