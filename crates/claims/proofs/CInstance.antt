@@ -6,7 +6,8 @@ use native.Mathlib.Omega.{arith}
 use lib.ListN.{replicate}
 use Rattle.refusals.specs.declared.Refusal.the-variants.{NoUser, RowLabelOutside, TableShape, NoRow, RowNotWritable, SessionRules}
 use Rattle.refusals.specs.Answers.{answerOf}
-use Rattle.encoding.specs.Sessions.{sessionBytes, SessionPartsFit, Holds}
+use Rattle.sessions.specs.Session.{SessionMarks}
+use Rattle.encoding.specs.Sessions.{sessionBytes, SessionPartsFit}
 use Rattle.encoding.proofs.ReadBack.{bytes-hold}
 use Rattle.isolation.specs.Calls.{Call, run}
 use Rattle.isolation.specs.Claim.{started}
@@ -16,8 +17,9 @@ use Rattle.sample.specs.Cooperative.{cooperative}
 use Rattle.sample.specs.TwoTables.{noSession, tooLow, nameMark, textVault, textGlaze, textCrew, calls, table1, table2}
 use Rattle.sample.proofs.HiddenInstance.{premises, second-answers}
 use Rattle.claims.specs.CFunctions.{lastBytes, otherBytes, CCall, cOpen, cSetLabel, cSetRowLabel, cRead, cUpdate}
-use Rattle.claims.specs.CFunctions.{cStarted, cRun, valued, oneUserCalls, CPremises, CClaim}
-use Rattle.claims.proofs.CFunctions.{seenAll, run-simulated, c-hidden-rows}
+use Rattle.claims.specs.CFunctions.{cStarted, cRun, CPremises, CClaim}
+use Rattle.claims.proofs.Held.{heldAs, holds-held}
+use Rattle.claims.proofs.CFunctions.{valued, own-valued, seenAll, run-simulated, c-hidden-rows}
 
 -- the bytes before any session is returned, and those of a session that 19 refuses
 abbrev noneHeld : List ℕ
@@ -26,12 +28,11 @@ noneHeld = sessionBytes noSession
 abbrev lowHeld : List ℕ
 lowHeld = sessionBytes tooLow
 
--- her calls, for two sequences that differ in what the reads' buffers held before. The opening of a name that
--- no user has is lent other bytes, of two users
+-- her calls, for two sequences that differ in what the bytes for an opening's session and the reads' buffers held before
 abbrev cCalls : ℕ → List CCall
 cCalls byte =
-    cOpen lastBytes mara
-    ∷ cOpen (otherBytes (1 ∷ replicate 103 0)) nameMark
+    cOpen (replicate 104 byte) mara
+    ∷ cOpen (replicate 104 byte) nameMark
     ∷ cRead lastBytes 6 (replicate 20 byte)
     ∷ cUpdate lastBytes 6 2 (88 ∷ 89 ∷ [])
     ∷ cUpdate lastBytes 6 1 (88 ∷ 89 ∷ [])
@@ -55,26 +56,23 @@ small-fits u l c g hu hl hc hg =
       row = record { level = omega arith; compartments = omega arith; groups = omega arith };
     }
 
-none-holds : Holds noneHeld noSession
-none-holds = bytes-hold noSession (small-fits 9 0 0 0 (omega arith) (omega arith) (omega arith) (omega arith))
+none-held : heldAs noneHeld ≡ noSession
+none-held = holds-held noneHeld noSession (bytes-hold noSession (small-fits 9 0 0 0 (omega arith) (omega arith) (omega arith) (omega arith)))
 
-low-holds : Holds lowHeld tooLow
-low-holds = bytes-hold tooLow (small-fits 0 1 1 4 (omega arith) (omega arith) (omega arith) (omega arith))
+low-held : heldAs lowHeld ≡ tooLow
+low-held = holds-held lowHeld tooLow (bytes-hold tooLow (small-fits 0 1 1 4 (omega arith) (omega arith) (omega arith) (omega arith)))
 
 -- by value they are the sample's calls
 calls-valued : (byte : ℕ) → map valued (cCalls byte) ≡ calls byte
-calls-valued byte = rw (low-holds .session)
+calls-valued byte = rw low-held
 
 pub c-premises : CPremises cooperative 0 table1 table2 6 noneHeld (cCalls 1) (cCalls 255)
-unfolding oneUserCalls
 c-premises =
     record {
       table1-accepted = premises .table1-accepted;
       table2-accepted = premises .table2-accepted;
       lists-equal = premises .lists-equal;
-      calls-own = rw (calls-valued 1, none-holds .session) (premises .calls-own);
-      start-one-user = none-holds .one;
-      calls-one-user = rw (low-holds .one);
+      calls-own = own-valued cooperative 0 6 (cCalls 1) (cStarted table1 noneHeld) ∙ rw (calls-valued 1, none-held) (premises .calls-own);
       calls-alike = refl;
     }
 
@@ -86,10 +84,11 @@ c-instance = c-hidden-rows cooperative 0 table1 table2 6 noneHeld (cCalls 1) (cC
 pub second-numbers : map (λ (seen : ℕ × List ℕ). seen .0) (cRun cooperative (cStarted table2 noneHeld) (cCalls 255) .1)
     ≡ 0 ∷ answerOf NoUser ∷ 3 ∷ 0 ∷ answerOf RowNotWritable ∷ 0 ∷ answerOf RowLabelOutside ∷ answerOf TableShape ∷ answerOf SessionRules ∷ 3 ∷ 0 ∷ 0 ∷ 1
     ∷ answerOf NoRow ∷ []
-unfolding seenAll oneUserCalls
+unfolding seenAll
 second-numbers =
-    let ran = run-simulated cooperative (cCalls 255) (cStarted table2 noneHeld) noSession none-holds (rw (low-holds .one)) in
+    let ran = run-simulated cooperative (cCalls 255) (cStarted table2 noneHeld) in
     ap (map (λ (seen : ℕ × List ℕ). seen .0))
     (ran .seen
+    ∙ ap (λ (s : SessionMarks). seenAll noneHeld (cCalls 255) (run cooperative (started table2 s) (map valued (cCalls 255)) .1)) none-held
     ∙ ap (λ (todo : List Call). seenAll noneHeld (cCalls 255) (run cooperative (started table2 noSession) todo .1)) (calls-valued 255)
     ∙ ap (seenAll noneHeld (cCalls 255)) second-answers)

@@ -1,10 +1,11 @@
--- The main theorems of the library, each stated in full over the definitions that the contracts of the calls cite, and proved by citing
--- where it is proved. A reader who wants to know what is claimed can begin here. Assumes nothing.
+-- The main theorems of the library, each stated in full over definitions of specs (and `EveryRule`, which says the image's rules in places),
+-- and proved by citing where it is proved. A reader who wants to know what is claimed can begin here. Assumes nothing.
 use Prim.Native.Nat.{ℕ, _<_}
-use mathlib.Core.Path.{_≡_}
+use mathlib.Core.Path.{_≡_, refl}
 use mathlib.Core.Bool.{true}
 use mathlib.Core.List.{List, map, flatten}
 use mathlib.Core.Logic.{_↔_}
+use lib.ListN.{length}
 use Rattle.sets.specs.Sets.{has}
 use Rattle.header.specs.Layout.{groups, labels}
 use Rattle.hierarchy.specs.Below.{Above, below}
@@ -19,7 +20,9 @@ use Rattle.labels.specs.Label.{Marks, labelAt, labelExists}
 use Rattle.labels.specs.Parse.{read, ofText, parseOf}
 use Rattle.printing.specs.Print.{textOf}
 use Rattle.roundtrip.proofs.RoundTrip.{parse-of-print, record-reads-back}
-use Rattle.access.specs.Verdicts.{readableAtMaximum}
+use Rattle.access.specs.Rights.{Rights}
+use Rattle.access.specs.Verdicts.{mayRead, mayWrite, readableAtMaximum}
+use Rattle.access.proofs.More.{withCompaccess, compaccess-reads, compaccess-writes}
 use Rattle.sessions.specs.Session.{SessionMarks, lentAnswer}
 use Rattle.sessions.specs.Opening.{session, openOf}
 use Rattle.sessions.specs.Changes.{setLabelOf, setRowLabelOf}
@@ -28,8 +31,8 @@ use Rattle.sessions.proofs.Accepting.{lent-accepted}
 use Rattle.sessions.proofs.Existing.{session-labels-exist}
 use Rattle.sessions.proofs.Passing as passing
 use Rattle.sessions.proofs.Bounded as bounded
-use Rattle.encoding.specs.Sessions.{sessionBytes, sessionIn}
-use Rattle.encoding.proofs.ReadBack.{session-back}
+use Rattle.encoding.specs.Sessions.{sessionBytes, Holds}
+use Rattle.encoding.proofs.ReadBack.{bytes-hold}
 use Rattle.abi.proofs.Widths.{lent-widths}
 use Rattle.lines.specs.Lines.{outputOf}
 use Rattle.lines.specs.Parts.{PartsOf}
@@ -76,7 +79,7 @@ session-reads-back im s e = (
 )
 
 -- ---- sessions
--- A session that opens passes every later test (19), and so does a session whose label or row label was changed.
+-- A session that opens passes every later test (19) of that image, and so does a session whose label or row label was changed.
 pub opened-passes : (im name : List ℕ) (s : SessionMarks) → openOf im name ≡ session s → lentAnswer im s ≡ Accepted
 opened-passes = passing.opened-passes
 
@@ -86,9 +89,9 @@ label-changed-passes = passing.label-changed-passes
 pub row-label-changed-passes : (im text : List ℕ) (s t : SessionMarks) → setRowLabelOf im s text ≡ (t, Accepted) → lentAnswer im t ≡ Accepted
 row-label-changed-passes = passing.row-label-changed-passes
 
--- An accepted session that is laid down in bytes reads back as itself.
-pub session-in-bytes : (im : List ℕ) (s : SessionMarks) → lentAnswer im s ≡ Accepted → sessionIn (sessionBytes s) ≡ s
-session-in-bytes im s e = session-back s (lent-widths im s e)
+-- An accepted session that is laid down in bytes reads back as itself, and the bytes name its one user.
+pub session-in-bytes : (im : List ℕ) (s : SessionMarks) → lentAnswer im s ≡ Accepted → Holds (sessionBytes s) s
+session-in-bytes im s e = bytes-hold s (lent-widths im s e)
 
 -- ---- verdicts
 -- No session reads a row that is not readable at its user's maximum read label.
@@ -99,11 +102,18 @@ reads-within-maximum = bounded.reads-within-maximum
 pub writable-readable : (im : List ℕ) (s : SessionMarks) (tag : ℕ) → mayWriteOf im s tag ≡ Yes → mayReadOf im s tag ≡ Yes
 writable-readable = bounded.writes-readable
 
--- ---- the sample co-operative: each of the cases P1 to P16 gives what document 01 says
-pub sample-cases : map asked proved ≡ map (λ (c : Case). c .expected) proved
-sample-cases = all-cases
+-- COMPACCESS takes no row away.
+pub compaccess-adds : (im : List ℕ) (rights : Rights) (tag : ℕ)
+    → (mayRead im rights tag ≡ true → mayRead im (withCompaccess rights) tag ≡ true)
+    × (mayWrite im rights tag ≡ true → mayWrite im (withCompaccess rights) tag ≡ true)
+compaccess-adds im rights tag = (compaccess-reads rights im tag, compaccess-writes rights im tag)
 
--- ---- the report: the parts that the cursor gives, joined, are the whole output
+-- ---- the sample co-operative: each of the 16 cases P1 to P16 gives what document 01 says
+pub sample-cases : (length proved ≡ 16) × (map asked proved ≡ map (λ (c : Case). c .expected) proved)
+unfolding proved
+sample-cases = (refl, all-cases)
+
+-- ---- the report: parts as the contracts of the cursor's two calls give them, joined, are the whole output
 pub report-whole : (im : List ℕ) (parts : List (List ℕ)) → PartsOf im (outputOf im) parts → flatten parts ≡ outputOf im
 report-whole im parts run = output-joined run
 
@@ -114,7 +124,7 @@ pub hidden-rows : (im : List ℕ) (u : ℕ) (table1 table2 : List ℕ) (width : 
     → Premises im u table1 table2 width start calls1 calls2 → Claim im u table1 table2 width start calls1 calls2
 hidden-rows = isolation.hidden-rows
 
--- The same of the C functions, whose sessions stand in bytes: equal numbers and equal bytes.
+-- The same of the C functions, whose sessions stand in bytes, whatever the bytes are: equal numbers and equal bytes.
 pub c-hidden-rows : (im : List ℕ) (u : ℕ) (table1 table2 : List ℕ) (width : ℕ) (bytes : List ℕ) (calls1 calls2 : List CCall)
     → CPremises im u table1 table2 width bytes calls1 calls2 → CClaim im u table1 table2 width bytes calls1 calls2
 c-hidden-rows = functions.c-hidden-rows

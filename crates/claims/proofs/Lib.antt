@@ -1,6 +1,8 @@
 -- The main theorems.
+--     Held        the session that any bytes stand for, and the C functions on them
 --     CFunctions  hidden rows stay hidden from who calls the C functions
 --     CInstance   an instance of that on the sample
 pub mod Claims
+pub mod Held
 pub mod CFunctions
 pub mod CInstance

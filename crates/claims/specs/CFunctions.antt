@@ -4,27 +4,26 @@ use Prim.Native.Nat.{ℕ, _*_, _^_}
 use mathlib.Core.Path.{_≡_}
 use mathlib.Core.Bool.{Bool, true, cond, _&&_}
 use mathlib.Core.List.{List, [], _∷_, map}
-use lib.Dec.{ltb}
+use lib.Dec.{eqb, ltb}
 use lib.ListN.{length, take, replicate}
+use Rattle.fields.specs.Bytes.{byteAt}
 use Rattle.refusals.specs.declared.answers.Checked.the-variants.{Accepted}
-use Rattle.sessions.specs.Opening.{openOf}
 use Rattle.rows.specs.Table.{tableShape}
-use Rattle.encoding.specs.Sessions.{sessionIn, oneUser}
-use Rattle.abi.specs.Sessions.{openedInto, openAnswer, setLabelAnswer, setRowLabelAnswer}
+use Rattle.abi.specs.Sessions.{openAnswer, setLabelAnswer, setRowLabelAnswer}
 use Rattle.abi.specs.Tables.{readAnswer, updateAnswer}
-use Rattle.isolation.specs.Calls.{LentAs, last, other, Call, opening, settingLabel, settingRowLabel, onRows, reading, updating}
-use Rattle.isolation.specs.Claim.{listAtMaximum, ownCalls, started, HiddenKept}
+use Rattle.isolation.specs.Claim.{listAtMaximum, ownWidth, HiddenKept}
 
 -- ---- what is called
--- the session's bytes that are lent to a call: the last ones, or any other. The claim asks nothing of how many they are
+-- the session's bytes that are lent to a call: the last ones, or any other. The claim asks nothing of how many they are, nor that they
+-- name one user
 pub data BytesLent : Type 0 where
   lastBytes : BytesLent
   otherBytes : List ℕ → BytesLent
 
--- an opening with a user name; a change of either label with a text; a read with a width and its buffer as it was before; an update
--- with a width, n and a payload
+-- an opening with the bytes for its session as they were before and a user name; a change of either label with a text; a read with a
+-- width and its buffer as it was before; an update with a width, n and a payload
 pub data CCall : Type 0 where
-  cOpen : BytesLent → List ℕ → CCall
+  cOpen : List ℕ → List ℕ → CCall
   cSetLabel : BytesLent → List ℕ → CCall
   cSetRowLabel : BytesLent → List ℕ → CCall
   cRead : BytesLent → ℕ → List ℕ → CCall
@@ -46,15 +45,20 @@ abbrev pub bytesLent : List ℕ → BytesLent → List ℕ
 bytesLent lately lastBytes = lately
 bytesLent lately (otherBytes bytes) = bytes
 
--- the first count times width bytes of the buffer after a read; none where it is refused, which a number from 2 ^ 63 on says
-abbrev pub bytesHanded : ℕ → ℕ → List ℕ → List ℕ
-bytesHanded number width buffer = cond (ltb number (2 ^ 63)) (take (number * width) buffer) []
+-- what is handed out by a call that is done; a refused one gives a number from 2 ^ 63 on
+abbrev pub whenDone : ℕ → List ℕ → List ℕ → List ℕ
+whenDone number handed otherwise = cond (ltb number (2 ^ 63)) handed otherwise
 
--- what stands after it, and what the caller sees: the number, and beside it the session's bytes after an opening or a change, the bytes
--- that a read handed out, or nothing after an update. A refused opening writes nothing, so the last bytes stay
+-- the first count times width bytes of the buffer after a read; none where it is refused
+abbrev pub bytesHanded : ℕ → ℕ → List ℕ → List ℕ
+bytesHanded number width buffer = whenDone number (take (number * width) buffer) []
+
+-- what stands after it, and what the caller sees: the number, and beside it the session's bytes after an opening that is done or a change,
+-- the bytes that a read handed out, or nothing after an update. After a refused opening the last bytes stay
 unfoldable pub cStep : List ℕ → CState → CCall → CState × (ℕ × List ℕ)
-cStep im state (cOpen lent name) =
-    (cStarted (state .table) (openedInto (openOf im name) (state .bytes)), openAnswer im name (bytesLent (state .bytes) lent))
+cStep im state (cOpen old name) =
+    let result = openAnswer im name old in
+    (cStarted (state .table) (whenDone (result .0) (result .1) (state .bytes)), (result .0, whenDone (result .0) (result .1) []))
 cStep im state (cSetLabel lent text) =
     let result = setLabelAnswer im (bytesLent (state .bytes) lent) text in (cStarted (state .table) (result .1), result)
 cStep im state (cSetRowLabel lent text) =
@@ -74,43 +78,28 @@ cRun im state (call ∷ calls) =
     let rest = cRun im (first .0) calls in
     (rest .0, first .1 ∷ rest .1)
 
--- ---- the calls by value
--- other bytes are the session that they hold
-abbrev pub lentValued : BytesLent → LentAs
-lentValued lastBytes = last
-lentValued (otherBytes bytes) = other (sessionIn bytes)
+-- ---- the calls are that user's
+-- byte 0 names that user's place; 19 may still refuse the bytes
+abbrev pub ownBytes : ℕ → List ℕ → Bool
+ownBytes u bytes = eqb (byteAt bytes 0) u
 
--- the call of isolation's Calls.antt
-abbrev pub valued : CCall → Call
-valued (cOpen lent name) = opening name
-valued (cSetLabel lent text) = settingLabel (lentValued lent) text
-valued (cSetRowLabel lent text) = settingRowLabel (lentValued lent) text
-valued (cRead lent width buffer) = onRows (lentValued lent) width (reading buffer)
-valued (cUpdate lent width n payload) = onRows (lentValued lent) width (updating n payload)
+-- a call that works on a session gets one of that user's; a row call names the row width or one outside 5..512; an opening takes any name
+unfoldable pub cOwnCall : ℕ → CState → ℕ → CCall → Bool
+cOwnCall u state width (cOpen old name) = true
+cOwnCall u state width (cSetLabel lent text) = ownBytes u (bytesLent (state .bytes) lent)
+cOwnCall u state width (cSetRowLabel lent text) = ownBytes u (bytesLent (state .bytes) lent)
+cOwnCall u state width (cRead lent named buffer) = ownBytes u (bytesLent (state .bytes) lent) && ownWidth width named
+cOwnCall u state width (cUpdate lent named n payload) = ownBytes u (bytesLent (state .bytes) lent) && ownWidth width named
 
--- other bytes name one user. Bytes of two users hold no session: 19 after 1, 2, 3 refuses each call on them, whatever the table holds
--- (`two-users-read` and the laws beside it)
-abbrev pub lentOneUser : BytesLent → Bool
-lentOneUser lastBytes = true
-lentOneUser (otherBytes bytes) = oneUser bytes
+-- each call of the sequence is that user's, on what stands before it
+unfoldable pub cOwnCalls : List ℕ → ℕ → CState → ℕ → List CCall → Bool
+cOwnCalls im u state width [] = true
+cOwnCalls im u state width (call ∷ calls) = cOwnCall u state width call && cOwnCalls im u (cStep im state call .0) width calls
 
--- so they do where a call works on the session; an opening does not look at its bytes
-abbrev pub oneUserCall : CCall → Bool
-oneUserCall (cOpen lent name) = true
-oneUserCall (cSetLabel lent text) = lentOneUser lent
-oneUserCall (cSetRowLabel lent text) = lentOneUser lent
-oneUserCall (cRead lent width buffer) = lentOneUser lent
-oneUserCall (cUpdate lent width n payload) = lentOneUser lent
-
--- and so in each call of the sequence
-unfoldable pub oneUserCalls : List CCall → Bool
-oneUserCalls [] = true
-oneUserCalls (call ∷ calls) = oneUserCall call && oneUserCalls calls
-
--- ---- two sequences are alike: equal but for what the reads' buffers held before. Bytes lent are equal throughout, as a refused change
--- shows them as they were, also those that are not looked at
+-- ---- two sequences are alike: equal but for what the openings' bytes and the reads' buffers held before. Bytes lent to a change are
+-- equal throughout, as a refused change shows them as they were, also those that are not looked at
 abbrev pub cBufferZeroed : CCall → CCall
-cBufferZeroed (cOpen lent name) = cOpen lent name
+cBufferZeroed (cOpen old name) = cOpen (replicate (length old) 0) name
 cBufferZeroed (cSetLabel lent text) = cSetLabel lent text
 cBufferZeroed (cSetRowLabel lent text) = cSetRowLabel lent text
 cBufferZeroed (cRead lent width buffer) = cRead lent width (replicate (length buffer) 0)
@@ -121,16 +110,13 @@ abbrev pub CAlike : List CCall → List CCall → Type 0
 CAlike calls1 calls2 = map cBufferZeroed calls1 ≡ map cBufferZeroed calls2
 
 -- ---- the claim
--- that of isolation's Claim.antt, whose calls are that user's by value
+-- the premises of isolation's Claim.antt, in bytes
 pub record CPremises (im : List ℕ) (u : ℕ) (table1 table2 : List ℕ) (width : ℕ) (bytes : List ℕ) (calls1 calls2 : List CCall) : Type 0 where
   -- 12 refuses neither table with the row width
   pub table1-accepted : tableShape table1 width ≡ Accepted
   pub table2-accepted : tableShape table2 width ≡ Accepted
   pub lists-equal : listAtMaximum im u table1 width ≡ listAtMaximum im u table2 width
-  pub calls-own : ownCalls im u (started table1 (sessionIn bytes)) width (map valued calls1) ≡ true
-  -- the bytes at the start, and all others that are lent, name one user
-  pub start-one-user : oneUser bytes ≡ true
-  pub calls-one-user : oneUserCalls calls1 ≡ true
+  pub calls-own : cOwnCalls im u (cStarted table1 bytes) width calls1 ≡ true
   pub calls-alike : CAlike calls1 calls2
 
 -- the table after the sequence
