@@ -18,7 +18,7 @@ coded given result = (codeOf (given (result .0)), result .1)
 abbrev pub afterCheck : List ℕ → Refusal → Refusal
 afterCheck im r = onChecked (checkOf im) (λ q. q) r
 
--- what the session that the bytes hold is answered; 19 after 1, 2, 3 where they name two users
+-- what the session that the bytes hold is answered; 19 after 1, 2, 31 to 35 where they name two users
 abbrev pub withSession : {A : Type 0} → List ℕ → List ℕ → (Refusal → A) → (SessionMarks → A) → A
 withSession im bytes refuse answer = cond (oneUser bytes) (answer (sessionIn bytes)) (refuse (afterCheck im SessionRules))
 

@@ -2,17 +2,25 @@
 -- and proved by citing where it is proved. A reader who wants to know what is claimed can begin here. Assumes nothing.
 use Prim.Native.Nat.{ℕ, _<_}
 use mathlib.Core.Path.{_≡_, refl}
-use mathlib.Core.Bool.{true}
+use mathlib.Core.Bool.{true, false}
 use mathlib.Core.List.{List, map, flatten}
-use mathlib.Core.Logic.{_↔_}
+use mathlib.Core.Logic.{_↔_, _⊎_}
 use lib.ListN.{length}
 use Rattle.sets.specs.Sets.{has}
+use Rattle.header.specs.declared.layout.Kind.{Kind}
 use Rattle.header.specs.Layout.{groups, labels}
 use Rattle.hierarchy.specs.Below.{Above, below}
 use Rattle.hierarchy.proofs.Under.{below-true, below-above, above-below}
-use Rattle.refusals.specs.declared.answers.Checked.the-variants.{Accepted}
+use Rattle.refusals.specs.declared.answers.Checked.the-variants.{Accepted, Refused}
 use Rattle.refusals.specs.declared.answers.Verdict.the-variants.{Yes}
-use Rattle.image.specs.Check.{IsAccepted}
+use Rattle.refusals.specs.declared.Refusal.the-variants.{ImageLayout, ParentRing}
+use Rattle.image.specs.declared.faults.Fault.{Fault}
+use Rattle.image.specs.declared.faults.Fault.the-variants.{Sound}
+use Rattle.image.specs.Faults.{keyOf, keyBefore, lowest, faultsOf}
+use Rattle.image.specs.Check.{faultOf, checkOf, IsAccepted}
+use Rattle.image.specs.Exactly.{Framed, HeaderAtFault, LayoutAtFault, RingAtFault, RecordTold, recordRefusal}
+use Rattle.image.proofs.Exactly.{layout-exactly, record-exactly, ring-exactly}
+use Rattle.image.proofs.Lowest.{Among, all-among, faulty-is, lowest-among, lowest-least}
 use Rattle.image.proofs.EveryRule as image
 use Rattle.image.proofs.EveryRule.{EveryRule}
 use Rattle.image.proofs.Policy.{parents-end}
@@ -50,6 +58,30 @@ use Rattle.sample.proofs.Cases.{all-cases}
 -- layout, of each component, label and user record, of parents that end, and of a user's groups below one another.
 pub accepted-exactly : (im : List ℕ) → IsAccepted im ↔ EveryRule im
 accepted-exactly = image.accepted-exactly
+
+-- The fault that is told is one of the image's, and none of them has a lower key (1 and 2 too; the keys are in the order of the papers).
+pub told-among : (im : List ℕ) → (faultOf im ≡ Sound → ⊥) → Among (faultOf im) (faultsOf im)
+unfolding faultOf
+told-among im faulty = lowest-among (faultsOf im) (faulty-is (lowest (faultsOf im)) faulty)
+
+pub told-lowest : (im : List ℕ) (f : Fault) → Among f (faultsOf im) → keyBefore (keyOf f) (keyOf (faultOf im)) ≡ false
+unfolding faultOf
+told-lowest im f here = all-among (lowest-least (faultsOf im)) here
+
+-- 1 and 2 aside: 31 exactly if the header or the length is at fault, or a block's layout is and no lower block has a fault;
+pub layout-told-exactly : (im : List ℕ) → Framed im
+    → (checkOf im ≡ Refused ImageLayout) ↔ (HeaderAtFault im ⊎ ((b : ℕ) × LayoutAtFault im b))
+layout-told-exactly = layout-exactly
+
+-- 32 to 34 at block b and record r exactly if no lower block has a fault, b's layout is sound and r is its lowest record at fault, or, as 34
+-- and last, if the record is that of the lowest user who breaks a below rule;
+pub record-told-exactly : (im : List ℕ) → Framed im → (kind : Kind) (b r : ℕ)
+    → (checkOf im ≡ Refused (recordRefusal kind b r)) ↔ RecordTold im kind b r
+record-told-exactly = record-exactly
+
+-- 35 exactly if none of these is at fault and g is the lowest group whose parents never end.
+pub ring-told-exactly : (im : List ℕ) → Framed im → (g : ℕ) → (checkOf im ≡ Refused (ParentRing g)) ↔ RingAtFault im g
+ring-told-exactly = ring-exactly
 
 -- ---- groups
 -- Below a set lie just the groups that are in it or have an ancestor in it, at any distance. (`Above im g p`: p is g or an ancestor of g.)

@@ -46,7 +46,7 @@ held-user bytes = at (oneUser bytes)
 pub holds-held : (bytes : List ℕ) (s : SessionMarks) → Holds bytes s → heldAs bytes ≡ s
 holds-held bytes s h = rw (h .one, h .session)
 
--- 19 after 1, 2, 3
+-- 19 after 1, 2, 31 to 35
 module _ (im : List ℕ) (u : ℕ) where
   unfit-rule : IsAccepted im → sessionRule im (unfitOf u .user) (unfitOf u .label) (unfitOf u .row) ≡ false
   unfit-rule acc = at (sessionRule im (unfitOf u .user) (unfitOf u .label) (unfitOf u .row)) refl

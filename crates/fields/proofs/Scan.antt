@@ -62,6 +62,15 @@ module _ (rule : ℕ → Bool) where
       at true e m later = later (omega arith)
       at false e m later = e
 
+  -- it is the one place that is bad with none before it
+  pub bad-is : (n k i : ℕ) → k ≤ i → i < k + n → ((j : ℕ) → k ≤ j → j < i → rule j ≡ true) → rule i ≡ false → firstBad rule n k ≡ i
+  unfolding firstBad
+  bad-is zero k i low high good bad = absurd (omega arith)
+  bad-is (suc n) k i low high good bad =
+      ⊎-elim (λ e. bad-here n k (ap rule e ∙ bad) ∙ e)
+      (λ l. good-step n k (good k (le-refl k) l) ∙ bad-is n (suc k) i l (omega arith) (λ j a b. good j (omega arith) b) bad)
+      (eq-or-lt-of-le low)
+
   pub everywhere-at : (n k i : ℕ) → everywhere rule n k ≡ true → k ≤ i → i < k + n → rule i ≡ true
   everywhere-at n k i e h l = good-before n k i h (subst (λ (w : ℕ). i < w) (sym (eqb-true _ _ e)) l)
 

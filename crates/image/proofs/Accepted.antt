@@ -11,32 +11,24 @@ use Rattle.fields.specs.Scan.{firstBad}
 use Rattle.fields.proofs.Both.{both-left, both-right}
 use Rattle.fields.proofs.Scan.{good-before, all-good}
 use Rattle.blocks.specs.Blocks.{lengthRule, blockRule, blockCount, firstBadBlock}
-use Rattle.header.specs.declared.layout.Kind.{Kind}
-use Rattle.header.specs.declared.layout.Kind.the-variants as kind
-use Rattle.header.specs.Layout.{groups, users, blocksNeeded, contentsOf}
+use Rattle.header.specs.Layout.{groups, users, blocksNeeded}
 use Rattle.header.specs.Header.{headerRule, fitRule}
-use Rattle.records.specs.Rules.{layoutRule, firstBadRecord, contentRule}
+use Rattle.records.specs.Rules.{contentRule}
 use Rattle.header.specs.Limits.{Counted}
 use Rattle.records.proofs.MeaningHeader.{counted}
 use Rattle.refusals.specs.declared.Refusal.{Refusal}
 use Rattle.hierarchy.specs.Below.{endsRule, belowRule, firstRing, firstBadBelow}
 use Rattle.image.specs.declared.faults.Fault.{Fault}
-use Rattle.image.specs.declared.faults.Fault.the-variants.{Sound, Length, Block, Layout, Component, Label, User, Ring}
+use Rattle.image.specs.declared.faults.Fault.the-variants.{Sound, Length, Block, Layout, Component, Label, User, Ring, Below}
 use Rattle.refusals.specs.declared.answers.Checked.{Checked}
 use Rattle.refusals.specs.declared.answers.Checked.the-variants.{Accepted, Refused}
-use Rattle.image.specs.Check.{firstBadContent, recordFault, contentFault, userFault, countedFault, faultOf, shownAs, checkOf, IsAccepted}
+use Rattle.image.specs.Faults.{shownAs, belowFault}
+use Rattle.image.specs.Check.{faultOf, checkOf, IsAccepted}
+use Rattle.image.specs.Walk.{firstBadContent, countedFault, foundFault}
+use Rattle.image.proofs.Lowest.{isSound, content-faulty}
+use Rattle.image.proofs.Told.{found-lowest}
 
 -- ---- telling sound from faulty
-abbrev isSound : Fault → Bool
-isSound Sound = true
-isSound Length = false
-isSound (Block b) = false
-isSound (Layout b) = false
-isSound (Component b r) = false
-isSound (Label b r) = false
-isSound (User b r) = false
-isSound (Ring g) = false
-
 abbrev isAccepted : Checked → Bool
 isAccepted Accepted = true
 isAccepted (Refused r) = false
@@ -59,20 +51,7 @@ shown-sound (Component b r) e = absurd (refused _ refl e)
 shown-sound (Label b r) e = absurd (refused _ refl e)
 shown-sound (User b r) e = absurd (refused _ refl e)
 shown-sound (Ring g) e = absurd (refused _ refl e)
-
-record-faulty : (k : Kind) (b r : ℕ) → isSound (recordFault k b r) ≡ false
-record-faulty kind.Component b r = refl
-record-faulty kind.Label b r = refl
-record-faulty kind.User b r = refl
-
-content-faulty : (im : List ℕ) (b : ℕ) → isSound (contentFault im b) ≡ false
-unfolding contentFault
-content-faulty im b = at (layoutRule im b)
-  where
-    at : (t : Bool)
-        → isSound (cond t (recordFault (contentsOf im b .kind) b (firstBadRecord im b - contentsOf im b .from)) (Layout b)) ≡ false
-    at true = record-faulty (contentsOf im b .kind) b (firstBadRecord im b - contentsOf im b .from)
-    at false = refl
+shown-sound (Below b r) e = absurd (refused _ refl e)
 
 -- a choice that is sound has taken the branch that can be
 took-first : (t : Bool) (x y : Fault) → isSound y ≡ false → cond t x y ≡ Sound → (t ≡ true) × (x ≡ Sound)
@@ -94,13 +73,13 @@ pub record Keeps (im : List ℕ) : Type 0 where
   pub below : (u : ℕ) → u < users im → belowRule im u ≡ true
 
 module _ (im : List ℕ) (acc : IsAccepted im) where
-  sound : faultOf im ≡ Sound
-  unfolding checkOf
-  sound = shown-sound (faultOf im) acc
+  sound : foundFault im ≡ Sound
+  unfolding checkOf faultOf
+  sound = sym (found-lowest im) ∙ shown-sound (faultOf im) acc
 
   outer : (lengthRule im ≡ true)
       × (cond (ltb (firstBadBlock im) (blockCount im)) (Block (firstBadBlock im)) (cond (headerRule im && fitRule im) (countedFault im) (Layout 0)) ≡ Sound)
-  unfolding faultOf
+  unfolding foundFault
   outer = took-first _ _ Length refl sound
 
   framed : (ltb (firstBadBlock im) (blockCount im) ≡ false) × (cond (headerRule im && fitRule im) (countedFault im) (Layout 0) ≡ Sound)
@@ -111,12 +90,12 @@ module _ (im : List ℕ) (acc : IsAccepted im) where
 
   filled : (ltb (firstBadContent im) (blocksNeeded im) ≡ false)
       × (cond (ltb (firstRing im) (groups im)) (Ring (firstRing im))
-      (cond (ltb (firstBadBelow im) (users im)) (userFault im (firstBadBelow im)) Sound) ≡ Sound)
+      (cond (ltb (firstBadBelow im) (users im)) (belowFault im (firstBadBelow im)) Sound) ≡ Sound)
   unfolding countedFault
   filled = took-second _ _ _ (content-faulty im (firstBadContent im)) (headed .1)
 
   ringless : (ltb (firstRing im) (groups im) ≡ false)
-      × (cond (ltb (firstBadBelow im) (users im)) (userFault im (firstBadBelow im)) Sound ≡ Sound)
+      × (cond (ltb (firstBadBelow im) (users im)) (belowFault im (firstBadBelow im)) Sound ≡ Sound)
   ringless = took-second _ _ _ refl (filled .1)
 
   lowered : ltb (firstBadBelow im) (users im) ≡ false
@@ -174,8 +153,8 @@ module _ (im : List ℕ) (k : Keeps im) where
       (nothing-bad (belowRule im) 0 (users im) zero-le (λ i a b. k .below i b))
 
   pub kept-accepted : IsAccepted im
-  unfolding checkOf faultOf countedFault
-  kept-accepted = rw (k .length, no-block, k .header, k .fit, no-content, no-ring, no-below)
+  unfolding checkOf faultOf foundFault countedFault
+  kept-accepted = rw (found-lowest im, k .length, no-block, k .header, k .fit, no-content, no-ring, no-below)
 
 -- the header and the length of an accepted image are sound
 pub accepted-counted : (im : List ℕ) → IsAccepted im → Counted im

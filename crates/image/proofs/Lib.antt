@@ -1,6 +1,11 @@
 pub mod Accepted
 pub mod EveryRule
+pub mod Exactly
 mod Halves
+mod InBlocks
+pub mod Lowest
 pub mod Place
 pub mod Placed
 pub mod Policy
+mod Telling
+pub mod Told

@@ -32,7 +32,7 @@ nameOffset im class place = componentNameOffset im (componentIndex im class plac
 unfoldable pub nameLength : List ℕ → ℕ → ℕ → ℕ
 nameLength im class place = componentNameLength (componentRecord im (componentIndex im class place))
 
--- how the look-up ends: 1, 2, 3, or 18 where the policy lacks the component
+-- how the look-up ends: 1, 2, 31 to 35, or 18 where the policy lacks the component
 unfoldable pub nameAnswer : List ℕ → ℕ → ℕ → Checked
 nameAnswer im class place = onChecked (checkOf im) Refused (orRefuse (hasComponent im class place) NoComponent Accepted)
 

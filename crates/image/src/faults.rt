@@ -1,11 +1,11 @@
 // What is wrong with an image, and how it is told.
 ghost use mathlib.Core.Path.{_≡_};
-ghost use Rattle.image.specs.Check.{shownAs, recordFault};
+ghost use Rattle.image.specs.Faults.{shownAs, recordFault};
 use header::layout::Kind;
 use refusals::Refusal;
 use refusals::answers::Checked;
 
-// The first fault of an image. Document 01 tells all but the first three as 3; each names what a policy desk looks for.
+// A fault of an image: the rule that is broken, and where.
 pub enum Fault {
     // No rule is broken.
     Sound,
@@ -16,11 +16,13 @@ pub enum Fault {
     // The header (block 0), a length unfit for its counts (block 0), or the block's kind, record count or bytes outside records.
     Layout(usize),
     // A component, label or user record: its block, and its place there.
-    Component(usize, usize),
-    Label(usize, usize),
-    User(usize, usize),
+    Component(u16, u16),
+    Label(u16, u16),
+    User(u16, u16),
     // The parents of this group never end.
     Ring(usize),
+    // The groups of a user break a below rule: the block of the user's record, and its place there.
+    Below(u16, u16),
 }
 
 pub fn shown(fault: Fault) -> Checked
@@ -30,15 +32,16 @@ pub fn shown(fault: Fault) -> Checked
         Fault::Sound => Checked::Accepted,
         Fault::Length => Checked::Refused(Refusal::ImageLength),
         Fault::Block(b) => Checked::Refused(Refusal::BlockCheck(b)),
-        Fault::Layout(_) => Checked::Refused(Refusal::ImageRule),
-        Fault::Component(_, _) => Checked::Refused(Refusal::ImageRule),
-        Fault::Label(_, _) => Checked::Refused(Refusal::ImageRule),
-        Fault::User(_, _) => Checked::Refused(Refusal::ImageRule),
-        Fault::Ring(_) => Checked::Refused(Refusal::ImageRule),
+        Fault::Layout(_) => Checked::Refused(Refusal::ImageLayout),
+        Fault::Component(b, r) => Checked::Refused(Refusal::ComponentRecord(b, r)),
+        Fault::Label(b, r) => Checked::Refused(Refusal::LabelRecord(b, r)),
+        Fault::User(b, r) => Checked::Refused(Refusal::UserRecord(b, r)),
+        Fault::Ring(g) => Checked::Refused(Refusal::ParentRing(g)),
+        Fault::Below(b, r) => Checked::Refused(Refusal::UserRecord(b, r)),
     }
 }
 
-pub fn record_fault(kind: Kind, b: usize, r: usize) -> Fault
+pub fn record_fault(kind: Kind, b: u16, r: u16) -> Fault
     ensures { λ f. ⌜ f ≡ recordFault kind b r ⌝ }
 {
     match kind {

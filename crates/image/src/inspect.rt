@@ -1,9 +1,11 @@
-// The first fault of an image, in the order of document 02's request R-2.
+// The fault of an image that is told: the walk meets faults in the order of their keys, so the first is the lowest.
 ghost use Prim.Native.Nat.{_≤_, _<_};
 ghost use mathlib.Core.Path.{_≡_};
 ghost use Rattle.header.specs.Layout.{users, blocksNeeded};
 ghost use Rattle.header.specs.Limits.{Counted};
-ghost use Rattle.image.specs.Check.{firstBadContent, contentFault, userFault, countedFault, faultOf};
+ghost use Rattle.image.specs.Check.{faultOf};
+ghost use Rattle.image.specs.Faults.{belowFault};
+ghost use Rattle.image.specs.Walk.{firstBadContent, contentFault, countedFault};
 use crate::faults::Fault;
 use crate::faults::record_fault;
 use blocks::frame::first_bad_block;
@@ -44,19 +46,23 @@ fn content_fault(image: &[u8], b: usize) -> Fault
     }
     let held = block_contents(image, b);
     let kind = held.kind;
-    record_fault(kind, b, first_bad_record(image, b) - held.from)
+    let r = first_bad_record(image, b) - held.from;
+    let block = b as u16;
+    let slot = r as u16;
+    record_fault(kind, block, slot)
 }
 
 // The block and the place there of a user's record.
-fn user_fault(image: &[u8], u: usize) -> Fault
+fn below_fault(image: &[u8], u: usize) -> Fault
     requires { ⌜ Counted (now image) × (u < users (now image)) ⌝ }
-    ensures { λ r. ⌜ r ≡ userFault (now (image .entry)) u ⌝ }
+    ensures { λ r. ⌜ r ≡ belowFault (now (image .entry)) u ⌝ }
 {
     let shape = layout::shape_of(image, Kind::User);
-    Fault::User(
-        layout::record_block(shape, u),
-        layout::record_slot(shape, u),
-    )
+    let b = layout::record_block(shape, u);
+    let r = layout::record_slot(shape, u);
+    let block = b as u16;
+    let slot = r as u16;
+    Fault::Below(block, slot)
 }
 
 // The first fault once the header and the length are sound.
@@ -76,7 +82,7 @@ fn counted_fault(image: &[u8]) -> Fault
     table::fill(image, &mut lineages);
     let u = table::first_bad_below(image, &lineages);
     if u < layout::users(image) {
-        return user_fault(image, u);
+        return below_fault(image, u);
     }
     Fault::Sound
 }

@@ -10,14 +10,14 @@ ghost use Rattle.image.specs.Lookup.{nameAnswer, namePart};
 use refusals::Refusal;
 use refusals::answers::Checked;
 
-// Is the image accepted? Refusals: 1, 2 with the lowest block, 3.
+// Is the image accepted? Refusals: 1, 2 with the lowest block, 31, 32 to 34 with block and record, 35 with the lowest group.
 pub fn check(image: &[u8]) -> Checked
     ensures { λ r. ⌜ r ≡ checkOf (now (image .entry)) ⌝ }
 {
     faults::shown(inspect::first_fault(image))
 }
 
-// How the look-up of a component's name by class and place ends. Refusals: 1, 2, 3, 18.
+// How the look-up of a component's name by class and place ends. Refusals: 1, 2, 31 to 35, 18.
 pub fn name_answer(image: &[u8], class: u8, place: u8) -> Checked
     ensures { λ r. ⌜ r ≡ nameAnswer (now (image .entry)) class place ⌝ }
 {

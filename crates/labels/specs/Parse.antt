@@ -99,7 +99,7 @@ pub data Parsing : Type 0 where
   ofText : Reading Marks → Parsing
   badImage : Refusal → Parsing
 
--- 1, 2, 3 before all others
+-- 1, 2, 31 to 35 before all others
 unfoldable pub parseOf : List ℕ → List ℕ → Parsing
 parseOf im text = onChecked (checkOf im) badImage (ofText (readText im text))
 

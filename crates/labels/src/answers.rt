@@ -22,7 +22,7 @@ pub enum TextRead {
 pub enum Parsed {
     Done(Label),
     Refused(Reason),
-    // 1, 2, 3: the image is not accepted.
+    // 1, 2, 31 to 35: the image is not accepted.
     BadImage(Refusal),
 }
 

@@ -14,7 +14,7 @@ use answers::Parsed;
 use image::check;
 use refusals::answers::Checked;
 
-// The label that the text names. Refusals: 1, 2, 3 of the image; 5; then 6 or 7 with the offset of the leftmost such name.
+// The label that the text names. Refusals: 1, 2, 31 to 35 of the image; 5; then 6 or 7 with the offset of the leftmost such name.
 pub fn parse(image: &[u8], text: &[u8]) -> Parsed
     ensures { λ r. ⌜ parsingOf r ≡ parseOf (now (image .entry)) (now (text .entry)) ⌝ }
 {

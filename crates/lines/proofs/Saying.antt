@@ -11,6 +11,8 @@ use Rattle.blocks.specs.Blocks.{lengthRule}
 use Rattle.header.specs.Layout.{users, labels, userRecord, labelRecord}
 use Rattle.records.specs.Fields.{tagOf, userName}
 use Rattle.image.specs.Check.{faultOf, checkOf, IsAccepted}
+use Rattle.image.specs.Walk.{foundFault}
+use Rattle.image.proofs.Told.{found-lowest}
 use Rattle.image.proofs.Policy.{label-found, user-found}
 use Rattle.access.specs.Verdicts.{knownTag, readsLabel, writesLabel, mayRead, mayWrite}
 use Rattle.labels.specs.Label.{labelAt}
@@ -41,5 +43,5 @@ module _ (im : List ℕ) (acc : IsAccepted im) (u : ℕ) (here : u < users im) w
 
 -- input past the buffer of 65,536 bytes is refused 1, whatever else holds: the program need not read it
 pub past-buffer : (im : List ℕ) → 65536 < length im → outputOf im ≡ refusedLine ImageLength
-unfolding outputOf checkOf faultOf lengthRule
-past-buffer im h = rw (lt-leb (length im) 65536 h, and-false (ltb 0 (length im) && eqb (length im % 512) 0))
+unfolding outputOf checkOf faultOf foundFault lengthRule
+past-buffer im h = rw (found-lowest im, lt-leb (length im) 65536 h, and-false (ltb 0 (length im) && eqb (length im % 512) 0))

@@ -7,7 +7,7 @@ use lib.Dec.{eqb, ltb}
 use Rattle.io.specs.Digits.{digits}
 use Rattle.fields.specs.Scan.{firstWhere}
 use Rattle.refusals.specs.declared.Refusal.{Refusal}
-use Rattle.refusals.specs.Refusals.{numberOf, placeOf}
+use Rattle.refusals.specs.Refusals.{numberOf, valuesOf}
 use Rattle.header.specs.Layout.{users, labels, userRecord, labelRecord}
 use Rattle.records.specs.Fields.{tagOf, userName}
 use Rattle.image.specs.Check.{checkOf}
@@ -68,18 +68,38 @@ usersFrom im (suc n) u = linesFrom im u (labels im) 0 ++ usersFrom im n (suc u)
 unfoldable pub reportOf : List ℕ → List ℕ
 reportOf im = usersFrom im (users im) 0
 
--- `refused N`, and with 2 ` at block B`
+-- ---- the line of a refusal: `refused 31`, `refused 2 at block 0`, `refused 32 at block 1 record 0`, `refused 35 at group 2`
 abbrev pub refusedText : List ℕ
 refusedText = 114 ∷ 101 ∷ 102 ∷ 117 ∷ 115 ∷ 101 ∷ 100 ∷ 32 ∷ []
 
+-- ` at block `
 abbrev pub blockText : List ℕ
 blockText = 32 ∷ 97 ∷ 116 ∷ 32 ∷ 98 ∷ 108 ∷ 111 ∷ 99 ∷ 107 ∷ 32 ∷ []
 
-unfoldable pub placeText : ℕ → ℕ → List ℕ
-placeText number place = cond (eqb number 2) (blockText ++ decimal place) []
+-- ` record `
+abbrev pub recordText : List ℕ
+recordText = 32 ∷ 114 ∷ 101 ∷ 99 ∷ 111 ∷ 114 ∷ 100 ∷ 32 ∷ []
+
+-- ` at group `
+abbrev pub groupText : List ℕ
+groupText = 32 ∷ 97 ∷ 116 ∷ 32 ∷ 103 ∷ 114 ∷ 111 ∷ 117 ∷ 112 ∷ 32 ∷ []
+
+-- ` at offset `, for 6 and 7, which no image is refused with
+abbrev pub offsetText : List ℕ
+offsetText = 32 ∷ 97 ∷ 116 ∷ 32 ∷ 111 ∷ 102 ∷ 102 ∷ 115 ∷ 101 ∷ 116 ∷ 32 ∷ []
+
+-- what stands before the one value of a number: with 2 it is a block, with 35 a group, with the others an offset
+abbrev pub valueText : ℕ → List ℕ
+valueText number = cond (eqb number 2) blockText (cond (eqb number 35) groupText offsetText)
+
+-- the values returned with the number; two are a block and a record
+abbrev pub placeText : ℕ → List ℕ → List ℕ
+placeText number [] = []
+placeText number (value ∷ []) = valueText number ++ decimal value
+placeText number (block ∷ slot ∷ more) = blockText ++ decimal block ++ (recordText ++ decimal slot)
 
 unfoldable pub refusedLine : Refusal → List ℕ
-refusedLine r = refusedText ++ decimal (numberOf r) ++ placeText (numberOf r) (placeOf r) ++ (newline ∷ [])
+refusedLine r = refusedText ++ decimal (numberOf r) ++ placeText (numberOf r) (valuesOf r) ++ (newline ∷ [])
 
 -- what the program writes for an image
 unfoldable pub outputOf : List ℕ → List ℕ

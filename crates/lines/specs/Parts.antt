@@ -4,6 +4,7 @@ use mathlib.Core.Path.{_≡_}
 use mathlib.Core.Bool.{true, false, cond}
 use mathlib.Core.List.{List, [], _∷_, _++_}
 use lib.ListN.{length, take}
+use Rattle.buffers.specs.Pasting.{Written}
 use Rattle.header.specs.Layout.{users, labels}
 use Rattle.hierarchy.specs.Below.{Tabled}
 use Rattle.image.specs.Check.{IsAccepted}
@@ -76,6 +77,11 @@ pub record AtOpening (im : List ℕ) (u : ℕ) (rights : Rights) : Type 0 where
   pub accepted : IsAccepted im
   pub user : u < users im
   pub view : rights ≡ sessionRights im (defaultSession im u)
+
+-- what is told with a refusal's number is written, and is at most 31 bytes
+pub record Told (buffer : List ℕ) (at : ℕ) (text after : List ℕ) (end : ℕ) : Type 0 where
+  pub written : Written buffer at text after end
+  pub short : end ≤ at + 31
 
 -- the user's lines from the k-th label record up to `next` stand at the buffer's front: at least one, where there is one and it has
 -- room

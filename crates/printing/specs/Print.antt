@@ -65,7 +65,7 @@ unfoldable pub acceptedAnswer : List ℕ → Marks → List ℕ → Printed × L
 acceptedAnswer im m buffer =
     onChecked (printable im m buffer) (unprinted buffer) (printed.Done (length (textOf im m)), atFront (textOf im m) buffer)
 
--- 1, 2, 3 before all others
+-- 1, 2, 31 to 35 before all others
 unfoldable pub printOf : List ℕ → Marks → List ℕ → Printed × List ℕ
 printOf im m buffer = onChecked (checkOf im) (unprinted buffer) (acceptedAnswer im m buffer)
 

@@ -10,7 +10,7 @@ use image::check;
 use labels::label::Label;
 use refusals::answers::Checked;
 
-// Prints a label to the front of the buffer. Refusals: 1, 2, 3, 18, 13; a refusal leaves the buffer as it was.
+// Prints a label to the front of the buffer. Refusals: 1, 2, 31 to 35, 18, 13; a refusal leaves the buffer as it was.
 pub fn print(image: &[u8], label: Label, buffer: &mut [u8]) -> Printed
     ensures { λ r. ⌜ (r, now (buffer .exit)) ≡ printOf (now (image .entry)) (marksOf label) (now (buffer .entry)) ⌝ }
 {

@@ -28,12 +28,15 @@ classStart n i = classFirst n (classAt n i)
 unfoldable pub parentRule : ℕ → ℕ → ℕ → Bool
 parentRule class count parent = eqb parent 255 || eqb class 3 && ltb parent count
 
--- what a component record of that class must be, whatever the others are; count is the number of groups
+-- what a component record must be, whatever the others are; class is the one that the counts put at its place, so that a record of another
+-- class is at fault itself; count is the number of groups
 unfoldable pub componentShape : ℕ → ℕ → List ℕ → Bool
 componentShape class count rec =
     eqb (classOf rec) class && nameRule (componentNameField rec) && leb (numericForm rec) 9999
     && parentRule class count (parentOf rec) && allZero (drop 35 rec)
 
+-- of two records that clash the later is at fault: each of the rules below looks at records before its own. Where all before rise, the one
+-- right before is enough
 -- inside a class the numeric form rises strictly
 unfoldable pub numericRule : Counts → List (List ℕ) → ℕ → Bool
 numericRule n records i =
@@ -52,6 +55,7 @@ unfoldable pub newNameRule : Counts → List (List ℕ) → ℕ → Bool
 newNameRule n records i =
     everywhere (λ j. otherName (componentName (recordIn records i)) (recordIn records j)) (i - classStart n i) (classStart n i)
 
+-- the component at place i, among all
 unfoldable pub componentRule : Counts → List (List ℕ) → ℕ → Bool
 componentRule n records i =
     componentShape (classAt n i) (n .groups) (recordIn records i) && numericRule n records i && newNameRule n records i
@@ -67,6 +71,7 @@ labelShape n rec =
 unfoldable pub tagRule : List (List ℕ) → ℕ → Bool
 tagRule records k = eqb k 0 || ltb (tagOf (recordIn records (k - 1))) (tagOf (recordIn records k))
 
+-- the label at place k, among all
 unfoldable pub labelRule : Counts → List (List ℕ) → ℕ → Bool
 labelRule n records k = labelShape n (recordIn records k) && tagRule records k
 
@@ -100,6 +105,7 @@ userShape n rec =
 unfoldable pub userNameRule : List (List ℕ) → ℕ → Bool
 userNameRule records u = eqb u 0 || nameBefore (userName (recordIn records (u - 1))) (userName (recordIn records u))
 
+-- the user at place u, among all
 unfoldable pub userRule : Counts → List (List ℕ) → ℕ → Bool
 userRule n records u = userShape n (recordIn records u) && userNameRule records u
 

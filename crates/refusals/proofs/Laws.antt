@@ -1,41 +1,46 @@
--- What a refusal's number tells: with the values returned beside it, the whole refusal. Numbers run from 1 to 19.
+-- What a refusal's number tells: with the values returned beside it, the whole refusal. Numbers run from 1 to 35.
 -- So what an answer gives back tells the answer. Assumes nothing.
 use mathlib.Core.Path.{_≡_, refl, sym, ap, ap₂, _∙_}
-use mathlib.Core.Bool.{Bool, true, _&&_, and-eq-true-iff}
+use mathlib.Core.Bool.{Bool, true, cond, _&&_, and-eq-true-iff}
 use mathlib.Core.List.{List, [], _∷_}
-use Prim.Native.Nat.{ℕ, _-_, _≤_}
-use lib.Dec.{leb}
+use Prim.Native.Nat.{ℕ, _-_, _/_, _%_, _≤_, _<_}
+use lib.Dec.{leb, ltb}
 use lib.ListN.{getD}
 use borrow.Author.Tests.{leb-true}
 use native.Mathlib.Omega.{arith}
-use Rattle.refusals.specs.Refusals.{numberOf, valuesOf, placeOf}
+use Rattle.refusals.specs.Refusals.{numberOf, valuesOf, packedPlace}
 use Rattle.refusals.specs.Answers.{done, refused, refusalGiven, checkedGiven}
 use Rattle.refusals.specs.declared.answers.Checked.{Checked}
 use Rattle.refusals.specs.declared.answers.Checked.the-variants.{Accepted, Refused}
 use Rattle.refusals.specs.declared.Refusal.{Refusal}
-use Rattle.refusals.specs.declared.Refusal.the-variants.{ImageLength, BlockCheck, ImageRule, NoUser, TextShape, UnknownName, RepeatedName}
+use Rattle.refusals.specs.declared.Refusal.the-variants.{ImageLength, BlockCheck, ImageLayout, ComponentRecord, LabelRecord, UserRecord, ParentRing, NoUser, TextShape, UnknownName, RepeatedName}
 use Rattle.refusals.specs.declared.Refusal.the-variants.{LevelNotAllowed, CompartmentsNotAllowed, GroupsNotAllowed, RowLabelOutside, TableShape, Room}
 use Rattle.refusals.specs.declared.Refusal.the-variants.{NoRow, RowNotWritable, PayloadLength, MergeLetters, NoComponent, SessionRules}
 
--- the refusals in the table's order, each with the value p where it has one
-abbrev table : ℕ → List Refusal
-table p =
-    ImageLength ∷ BlockCheck p ∷ ImageRule ∷ NoUser ∷ TextShape ∷ UnknownName p ∷ RepeatedName p ∷ LevelNotAllowed
+-- the refusals by their numbers, 1 to 19 and then 31 to 35, each with the values p and q where it has them. No refusal has the number 3
+abbrev table : ℕ → ℕ → List Refusal
+table p q =
+    ImageLength ∷ BlockCheck p ∷ ImageLength ∷ NoUser ∷ TextShape ∷ UnknownName p ∷ RepeatedName p ∷ LevelNotAllowed
     ∷ CompartmentsNotAllowed ∷ GroupsNotAllowed ∷ RowLabelOutside ∷ TableShape ∷ Room ∷ NoRow ∷ RowNotWritable
-    ∷ PayloadLength ∷ MergeLetters ∷ NoComponent ∷ SessionRules ∷ []
+    ∷ PayloadLength ∷ MergeLetters ∷ NoComponent ∷ SessionRules
+    ∷ ImageLayout ∷ ComponentRecord p q ∷ LabelRecord p q ∷ UserRecord p q ∷ ParentRing p ∷ []
 
--- the refusal with a number and a place: the way back from `numberOf` and `placeOf`
-abbrev pub refusalOf : ℕ → ℕ → Refusal
-refusalOf n p = getD (table p) (n - 1) ImageLength
+-- the refusal with a number and values: the way back from `numberOf` and `valuesOf`
+abbrev pub refusalOf : ℕ → List ℕ → Refusal
+refusalOf n values = getD (table (getD values 0 0) (getD values 1 0)) (cond (ltb n 31) (n - 1) (n - 12)) ImageLength
 
 abbrev inRange : ℕ → Bool
-inRange n = leb 1 n && leb n 19
+inRange n = leb 1 n && leb n 35
 
--- each line of the table: it is found again by its number and place, and its number is one of the table's
-line : (r : Refusal) → (refusalOf (numberOf r) (placeOf r) ≡ r) × (inRange (numberOf r) ≡ true)
+-- each line of the table: it is found again by its number and values, and its number is in the range of the table's
+line : (r : Refusal) → (refusalOf (numberOf r) (valuesOf r) ≡ r) × (inRange (numberOf r) ≡ true)
 line ImageLength = (refl, refl)
 line (BlockCheck block) = (refl, refl)
-line ImageRule = (refl, refl)
+line ImageLayout = (refl, refl)
+line (ComponentRecord block slot) = (refl, refl)
+line (LabelRecord block slot) = (refl, refl)
+line (UserRecord block slot) = (refl, refl)
+line (ParentRing group) = (refl, refl)
 line NoUser = (refl, refl)
 line TextShape = (refl, refl)
 line (UnknownName offset) = (refl, refl)
@@ -53,22 +58,25 @@ line MergeLetters = (refl, refl)
 line NoComponent = (refl, refl)
 line SessionRules = (refl, refl)
 
-pub refusal-found : (r : Refusal) → refusalOf (numberOf r) (placeOf r) ≡ r
+pub refusal-found : (r : Refusal) → refusalOf (numberOf r) (valuesOf r) ≡ r
 refusal-found r = line r .0
 
--- number and place tell the refusal
-pub place-tells : (r s : Refusal) → numberOf r ≡ numberOf s → placeOf r ≡ placeOf s → r ≡ s
-place-tells r s n p = sym (refusal-found r) ∙ ap₂ refusalOf n p ∙ refusal-found s
-
--- and so do number and values
+-- number and values tell the refusal
 pub number-tells : (r s : Refusal) → numberOf r ≡ numberOf s → valuesOf r ≡ valuesOf s → r ≡ s
-number-tells r s n v = place-tells r s n (rw v)
+number-tells r s n v = sym (refusal-found r) ∙ ap₂ refusalOf n v ∙ refusal-found s
 
 pub number-from : (r : Refusal) → 1 ≤ numberOf r
-number-from r = leb-true 1 (numberOf r) (and-eq-true-iff (leb 1 (numberOf r)) (leb (numberOf r) 19) .0 (line r .1) .0)
+number-from r = leb-true 1 (numberOf r) (and-eq-true-iff (leb 1 (numberOf r)) (leb (numberOf r) 35) .0 (line r .1) .0)
 
-pub number-to : (r : Refusal) → numberOf r ≤ 19
-number-to r = leb-true (numberOf r) 19 (and-eq-true-iff (leb 1 (numberOf r)) (leb (numberOf r) 19) .0 (line r .1) .1)
+pub number-to : (r : Refusal) → numberOf r ≤ 35
+number-to r = leb-true (numberOf r) 35 (and-eq-true-iff (leb 1 (numberOf r)) (leb (numberOf r) 35) .0 (line r .1) .1)
+
+-- ---- block and record, as a C caller takes them from one number
+pub packed-block : (block slot : ℕ) → slot < 65536 → packedPlace block slot / 65536 ≡ block
+packed-block block slot h = omega arith
+
+pub packed-slot : (block slot : ℕ) → slot < 65536 → packedPlace block slot % 65536 ≡ slot
+packed-slot block slot h = omega arith
 
 -- ---- what is given back tells the answer
 done-refused : (value number : ℕ) (values : List ℕ) → done value ≡ refused number values → ⊥

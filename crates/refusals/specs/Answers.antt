@@ -2,14 +2,13 @@
 use Prim.Native.Nat.{ℕ, _+_, _*_, _^_, _<_}
 use mathlib.Core.Bool.{Bool, true, false, cond}
 use mathlib.Core.List.{List}
-use lib.ListN.{getD}
 use Rattle.refusals.specs.declared.Refusal.{Refusal}
 use Rattle.refusals.specs.declared.answers.Checked.{Checked}
 use Rattle.refusals.specs.declared.answers.Checked.the-variants.{Accepted, Refused}
 use Rattle.refusals.specs.declared.answers.Verdict.{Verdict}
 use Rattle.refusals.specs.declared.answers.Verdict.the-variants.{Yes, No}
 use Rattle.refusals.specs.declared.answers.Verdict.the-variants as verdict
-use Rattle.refusals.specs.Refusals.{numberOf, valuesOf}
+use Rattle.refusals.specs.Refusals.{numberOf, valuesOf, placeIn}
 
 -- what is given where an answer accepts; else what its refusal gives
 abbrev pub onChecked : {A : Type 0} → Checked → (Refusal → A) → A → A
@@ -30,7 +29,7 @@ abbrev pub verdictOf : Bool → Verdict
 verdictOf granted = cond granted Yes No
 
 -- ---- what is given back
--- the value of a call that is done; or a number of document 01's table "Numbers given back", with the values returned beside it
+-- the value of a call that is done; or the number of a refusal, with the values returned beside it
 pub data Given : Type 0 where
   done : ℕ → Given
   refused : ℕ → List ℕ → Given
@@ -50,19 +49,19 @@ verdictGiven Yes = done 1
 verdictGiven No = done 0
 verdictGiven (verdict.Refused r) = refusalGiven r
 
--- the block or the offset returned beside a number; 0 where there is none
+-- the values returned beside a number, in one number; 0 where there is none
 abbrev pub placeGiven : Given → ℕ
 placeGiven (done value) = 0
-placeGiven (refused number values) = getD values 0 0
+placeGiven (refused number values) = placeIn values
 
--- which has 32 bits in the C functions' number
+-- a place fits the 32 bits that it has in the C functions' number
 abbrev pub PlaceFits : Given → Type 0
 PlaceFits given = placeGiven given < 2 ^ 32
 
 -- the C functions' number: below 2 ^ 63 the value, else 2 ^ 63 + number × 2 ^ 32 + place
 abbrev pub codeOf : Given → ℕ
 codeOf (done value) = value
-codeOf (refused number values) = 2 ^ 63 + number * 2 ^ 32 + getD values 0 0
+codeOf (refused number values) = 2 ^ 63 + number * 2 ^ 32 + placeIn values
 
 -- that of a refusal
 abbrev pub answerOf : Refusal → ℕ

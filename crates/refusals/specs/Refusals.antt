@@ -1,10 +1,10 @@
--- The table "Numbers given back" of the scope document: each refusal's number, and the values that are returned with it.
+-- The table "Numbers given back" of the scope document, with 31 to 35 of request R-2 in place of 3: each refusal's number, and the values
+-- that are returned with it.
 -- Assumes nothing.
-use Prim.Native.Nat.{ℕ}
+use Prim.Native.Nat.{ℕ, _+_, _*_}
 use mathlib.Core.List.{List, [], _∷_}
-use lib.ListN.{getD}
 use Rattle.refusals.specs.declared.Refusal.{Refusal}
-use Rattle.refusals.specs.declared.Refusal.the-variants.{ImageLength, BlockCheck, ImageRule, NoUser, TextShape, UnknownName, RepeatedName}
+use Rattle.refusals.specs.declared.Refusal.the-variants.{ImageLength, BlockCheck, ImageLayout, ComponentRecord, LabelRecord, UserRecord, ParentRing, NoUser, TextShape, UnknownName, RepeatedName}
 use Rattle.refusals.specs.declared.Refusal.the-variants.{LevelNotAllowed, CompartmentsNotAllowed, GroupsNotAllowed, RowLabelOutside, TableShape, Room}
 use Rattle.refusals.specs.declared.Refusal.the-variants.{NoRow, RowNotWritable, PayloadLength, MergeLetters, NoComponent, SessionRules}
 
@@ -12,7 +12,11 @@ use Rattle.refusals.specs.declared.Refusal.the-variants.{NoRow, RowNotWr
 abbrev pub numberOf : Refusal → ℕ
 numberOf ImageLength = 1
 numberOf (BlockCheck block) = 2
-numberOf ImageRule = 3
+numberOf ImageLayout = 31
+numberOf (ComponentRecord block slot) = 32
+numberOf (LabelRecord block slot) = 33
+numberOf (UserRecord block slot) = 34
+numberOf (ParentRing group) = 35
 numberOf NoUser = 4
 numberOf TextShape = 5
 numberOf (UnknownName offset) = 6
@@ -30,11 +34,16 @@ numberOf MergeLetters = 17
 numberOf NoComponent = 18
 numberOf SessionRules = 19
 
--- the table's third column: the values returned with the number
+-- the values returned with the number: the table's third column, and for 32 to 35 what request R-2 says; `slot` is the record's place in
+-- its block
 abbrev pub valuesOf : Refusal → List ℕ
 valuesOf ImageLength = []
 valuesOf (BlockCheck block) = block ∷ []
-valuesOf ImageRule = []
+valuesOf ImageLayout = []
+valuesOf (ComponentRecord block slot) = block ∷ slot ∷ []
+valuesOf (LabelRecord block slot) = block ∷ slot ∷ []
+valuesOf (UserRecord block slot) = block ∷ slot ∷ []
+valuesOf (ParentRing group) = group ∷ []
 valuesOf NoUser = []
 valuesOf TextShape = []
 valuesOf (UnknownName offset) = offset ∷ []
@@ -52,6 +61,16 @@ valuesOf MergeLetters = []
 valuesOf NoComponent = []
 valuesOf SessionRules = []
 
--- the block or the offset, and 0 where the table names none
+-- ---- the values in one number, as a C function gives it
+-- a record's block and its place there
+abbrev pub packedPlace : ℕ → ℕ → ℕ
+packedPlace block slot = block * 65536 + slot
+
+-- 0 where there is no value, one value as it is, and two packed
+abbrev pub placeIn : List ℕ → ℕ
+placeIn [] = 0
+placeIn (value ∷ []) = value
+placeIn (block ∷ slot ∷ more) = packedPlace block slot
+
 abbrev pub placeOf : Refusal → ℕ
-placeOf r = getD (valuesOf r) 0 0
+placeOf r = placeIn (valuesOf r)

@@ -1,18 +1,24 @@
 // What every call answers when it does not do what was asked: one case for each number of the scope
-// document's table "Numbers given back", in the table's order. A case holds what the table says is
-// returned with the number, and nothing else.
+// document's table "Numbers given back", in the table's order, with 31 to 35 of request R-2 in place of 3. A case
+// holds what the papers say is returned with the number, and nothing else.
 pub mod answers;
 
 ghost use mathlib.Core.Path.{_≡_};
-ghost use Rattle.refusals.specs.Refusals.{numberOf, placeOf};
+ghost use Rattle.refusals.specs.Refusals.{numberOf, packedPlace, placeOf};
 
 pub enum Refusal {
     // 1: the image's length is 0, not a multiple of 512, or over 65,536.
     ImageLength,
     // 2: a block's check or place is wrong; the lowest such block.
     BlockCheck(usize),
-    // 3: any other rule of images is broken.
-    ImageRule,
+    // 31: the header, a length unfit for its counts, or a block's kind, record count or bytes outside records.
+    ImageLayout,
+    // 32, 33, 34: a component, label or user record breaks a rule; its block, and its place there.
+    ComponentRecord(u16, u16),
+    LabelRecord(u16, u16),
+    UserRecord(u16, u16),
+    // 35: the parents of a group never end; the lowest such group.
+    ParentRing(usize),
     // 4: no user of that name.
     NoUser,
     // 5: the text does not have the shape of a label's text.
@@ -52,7 +58,11 @@ pub fn number(r: Refusal) -> u8
     match r {
         Refusal::ImageLength => 1,
         Refusal::BlockCheck(_) => 2,
-        Refusal::ImageRule => 3,
+        Refusal::ImageLayout => 31,
+        Refusal::ComponentRecord(_, _) => 32,
+        Refusal::LabelRecord(_, _) => 33,
+        Refusal::UserRecord(_, _) => 34,
+        Refusal::ParentRing(_) => 35,
         Refusal::NoUser => 4,
         Refusal::TextShape => 5,
         Refusal::UnknownName(_) => 6,
@@ -72,12 +82,23 @@ pub fn number(r: Refusal) -> u8
     }
 }
 
-// The block or the offset that the table names with the number, and 0 where it names none.
+// A record's block and its place there, in one number.
+fn packed(block: u16, slot: u16) -> usize
+    ensures { λ p. ⌜ p ≡ packedPlace block slot ⌝ }
+{
+    block as usize * 65536 + slot as usize
+}
+
+// What is returned with the number, in one number; 0 where nothing is.
 pub fn place(r: Refusal) -> usize
     ensures { λ p. ⌜ p ≡ placeOf r ⌝ }
 {
     match r {
         Refusal::BlockCheck(block) => block,
+        Refusal::ComponentRecord(block, slot) => packed(block, slot),
+        Refusal::LabelRecord(block, slot) => packed(block, slot),
+        Refusal::UserRecord(block, slot) => packed(block, slot),
+        Refusal::ParentRing(group) => group,
         Refusal::UnknownName(offset) => offset,
         Refusal::RepeatedName(offset) => offset,
         _ => 0,

@@ -19,7 +19,7 @@ use Rattle.rows.specs.Table.{rowsOf, payloadLength, payloadOffset, rowRe
 unfoldable pub placeVerdict : List ℕ → Rights → List (List ℕ) → ℕ → Verdict
 placeVerdict im rights rows place = cond (ltb place (length rows)) (verdictOf (rowReadable im rights (getD rows place []))) (Refused NoRow)
 
--- ---- the answer of `masked_verdict`: 1, 2, 3, 19, 12 before all others
+-- ---- the answer of `masked_verdict`: 1, 2, 31 to 35, 19, 12 before all others
 unfoldable pub maskedVerdictOf : List ℕ → SessionMarks → List ℕ → ℕ → ℕ → Verdict
 maskedVerdictOf im s table width place =
     onChecked (tableAnswer im s table width) Refused (placeVerdict im (sessionRights im s) (rowsOf table width) place)

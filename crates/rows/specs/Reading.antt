@@ -18,7 +18,7 @@ handedOut rows buffer =
     let bytes = flatten rows in
     cond (leb (length bytes) (length buffer)) (Done (length rows), atFront bytes buffer) (Refused Room, buffer)
 
--- the answer of `read`, and the buffer after it: 1, 2, 3, 19, 12 before all others
+-- the answer of `read`, and the buffer after it: 1, 2, 31 to 35, 19, 12 before all others
 unfoldable pub readRowsOf : List ℕ → SessionMarks → List ℕ → ℕ → List ℕ → RowsRead × List ℕ
 readRowsOf im s table width buffer =
     onChecked (tableAnswer im s table width) (λ r. (Refused r, buffer))

@@ -82,6 +82,6 @@ tableRule table width = widthRule width && eqb (length table % width) 0
 abbrev pub tableShape : List ℕ → ℕ → Checked
 tableShape table width = orRefuse (tableRule table width) TableShape Accepted
 
--- what every row call asks first: 1, 2, 3, 19, then 12
+-- what every row call asks first: 1, 2, 31 to 35, 19, then 12
 unfoldable pub tableAnswer : List ℕ → SessionMarks → List ℕ → ℕ → Checked
 tableAnswer im s table width = onChecked (lentAnswer im s) Refused (tableShape table width)

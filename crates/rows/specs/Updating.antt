@@ -30,7 +30,7 @@ updateWith im rights table width n payload =
     let answer = nthRowAnswer im rights (readableRows im rights table width) width n payload in
     (answer, onChecked answer (λ r. table) (tableUpdated im rights table width n payload))
 
--- ---- the answer of `update`, and the table after it: 1, 2, 3, 19, 12 before all others
+-- ---- the answer of `update`, and the table after it: 1, 2, 31 to 35, 19, 12 before all others
 unfoldable pub updateRowOf : List ℕ → SessionMarks → List ℕ → ℕ → ℕ → List ℕ → Checked × List ℕ
 updateRowOf im s table width n payload =
     onChecked (tableAnswer im s table width) (λ r. (Refused r, table)) (updateWith im (sessionRights im s) table width n payload)

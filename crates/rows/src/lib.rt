@@ -34,7 +34,7 @@ fn table_ok(table: &[u8], width: usize) -> bool
     table.len() % width == 0
 }
 
-// What the session gives its user; or 1, 2, 3, 19, 12.
+// What the session gives its user; or 1, 2, 31 to 35, 19, 12.
 fn table_rights(image: &[u8], session: Session, table: &[u8], width: usize) -> Lent
     ensures { λ r. ⌜ TableGives (now (image .entry)) (sessionOf session) (now (table .entry)) width r ⌝ }
 {
@@ -51,7 +51,7 @@ fn table_rights(image: &[u8], session: Session, table: &[u8], width: usize) -> L
     }
 }
 
-// Copies the rows that the session may read to the front of the buffer, whole and in table order, and tells how many. Refusals: 1, 2, 3,
+// Copies the rows that the session may read to the front of the buffer, whole and in table order, and tells how many. Refusals: 1, 2, 31 to 35,
 // 19, 12, 13; the buffer is then as it was.
 pub fn read(
     image: &[u8],
@@ -69,7 +69,7 @@ pub fn read(
     }
 }
 
-// Replaces the payload of the n-th row, from 0, among those that the session may read. Refusals: 1, 2, 3, 19, 12, 16, 14, 15; the table is
+// Replaces the payload of the n-th row, from 0, among those that the session may read. Refusals: 1, 2, 31 to 35, 19, 12, 16, 14, 15; the table is
 // then as it was.
 pub fn update(
     image: &[u8],
@@ -88,7 +88,7 @@ pub fn update(
     }
 }
 
-// May the session read the row at that place, from 0, among all rows? It tells how `masked_read` ends. Refusals: 1, 2, 3, 19, 12, 14.
+// May the session read the row at that place, from 0, among all rows? It tells how `masked_read` ends. Refusals: 1, 2, 31 to 35, 19, 12, 14.
 pub fn masked_verdict(
     image: &[u8],
     session: Session,

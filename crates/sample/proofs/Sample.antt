@@ -1,5 +1,7 @@
 -- The two images of the sample co-operative are accepted: every rule is computed on them. Assumes nothing.
-use mathlib.Core.Path.{_≡_, refl}
+use Prim.Native.Nat.{ℕ}
+use mathlib.Core.Path.{_≡_, refl, ap, _∙_}
+use mathlib.Core.List.{List}
 use lib.ListN.{length}
 use Rattle.fields.specs.Bytes.{number2, number4, number8, all}
 use Rattle.fields.specs.Names.{nameByte, nameIn, nameRule, sameName, nameBefore}
@@ -11,19 +13,28 @@ use Rattle.header.specs.Header.{headerRule, fitRule}
 use Rattle.records.specs.Rules.{parentRule, componentShape, numericRule, newNameRule, componentRule, labelShape, tagRule, labelRule, userLevelsRule, userCompartmentsRule, userGroupsRule, userShape, userNameRule, userRule, ruleOf, layoutRule, firstBadRecord, contentRule, otherName}
 use Rattle.hierarchy.specs.Below.{parent, hasParent, endsWithin, endsRule, firstRing, lineageWithin, lineage, below, belowRule, firstBadBelow}
 use Rattle.refusals.specs.declared.answers.Checked.the-variants.{Accepted}
-use Rattle.image.specs.Check.{firstBadContent, contentFault, countedFault, faultOf, checkOf}
+use Rattle.image.specs.declared.faults.Fault.the-variants.{Sound}
+use Rattle.image.specs.Faults.{shownAs}
+use Rattle.image.specs.Check.{faultOf, checkOf}
+use Rattle.image.specs.Walk.{firstBadContent, contentFault, countedFault, foundFault}
+use Rattle.image.proofs.Told.{found-lowest}
 use Rattle.sample.specs.Cooperative.{cooperative, casesImage}
 
 pub sample-length : length cooperative ≡ 2048
 unfolding cooperative
 sample-length = refl
 
-both-accepted : (checkOf cooperative ≡ Accepted) × (checkOf casesImage ≡ Accepted)
-unfolding cooperative casesImage number2 number4 number8 all nameByte nameIn nameRule sameName nameBefore firstBad has allBelow within meets collect lengthRule blockAt sumA sumB checkRule placeRule blockRule blockCount firstBadBlock levels compartments groups users labels components firstBlock blocksFor blocksNeeded recordOffset recordAt contentsOf kindAt headerRule fitRule classAt classFirst parentRule componentShape numericRule otherName newNameRule componentRule labelShape tagRule labelRule userLevelsRule userCompartmentsRule userGroupsRule userShape userNameRule userRule ruleOf recordsOf listFrom layoutRule firstBadRecord contentRule parent hasParent endsWithin endsRule firstRing lineageWithin lineage below belowRule firstBadBelow firstBadContent contentFault countedFault faultOf checkOf
-both-accepted = (refl, refl)
+-- the walk over each finds no fault, so there is none
+both-sound : (foundFault cooperative ≡ Sound) × (foundFault casesImage ≡ Sound)
+unfolding cooperative casesImage number2 number4 number8 all nameByte nameIn nameRule sameName nameBefore firstBad has allBelow within meets collect lengthRule blockAt sumA sumB checkRule placeRule blockRule blockCount firstBadBlock levels compartments groups users labels components firstBlock blocksFor blocksNeeded recordOffset recordAt contentsOf kindAt headerRule fitRule classAt classFirst parentRule componentShape numericRule otherName newNameRule componentRule labelShape tagRule labelRule userLevelsRule userCompartmentsRule userGroupsRule userShape userNameRule userRule ruleOf recordsOf listFrom layoutRule firstBadRecord contentRule parent hasParent endsWithin endsRule firstRing lineageWithin lineage below belowRule firstBadBelow firstBadContent contentFault countedFault foundFault
+both-sound = (refl, refl)
+
+sound-accepted : (im : List ℕ) → foundFault im ≡ Sound → checkOf im ≡ Accepted
+unfolding checkOf faultOf
+sound-accepted im e = ap shownAs (found-lowest im ∙ e)
 
 pub sample-accepted : checkOf cooperative ≡ Accepted
-sample-accepted = both-accepted .0
+sample-accepted = sound-accepted cooperative (both-sound .0)
 
 pub cases-accepted : checkOf casesImage ≡ Accepted
-cases-accepted = both-accepted .1
+cases-accepted = sound-accepted casesImage (both-sound .1)

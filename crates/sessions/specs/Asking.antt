@@ -7,7 +7,7 @@ use Rattle.sessions.specs.Session.{SessionMarks, lentAnswer, sessionRigh
 use Rattle.refusals.specs.declared.answers.Verdict.{Verdict}
 use Rattle.refusals.specs.declared.answers.Verdict.the-variants.{Refused}
 
--- the answers of `may_read` and `may_write`: 1, 2, 3, 19 before all others
+-- the answers of `may_read` and `may_write`: 1, 2, 31 to 35, 19 before all others
 unfoldable pub mayReadOf : List ℕ → SessionMarks → ℕ → Verdict
 mayReadOf im s tag = onChecked (lentAnswer im s) Refused (verdictOf (mayRead im (sessionRights im s) tag))
 

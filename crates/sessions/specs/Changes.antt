@@ -35,7 +35,7 @@ rowLabelChange im s text =
     changeTo s (readText im text) (λ new. rowLabelAnswer (sessionRights im s) new) (λ new. withRowLabel s new)
 
 -- ---- the answers of `set_label` and `set_row_label`
--- 1, 2, 3, 19 before all others
+-- 1, 2, 31 to 35, 19 before all others
 abbrev pub afterLent : List ℕ → SessionMarks → SessionMarks × Checked → SessionMarks × Checked
 afterLent im s change = onChecked (lentAnswer im s) (λ r. (s, Refused r)) change
 

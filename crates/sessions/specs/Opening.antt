@@ -36,7 +36,7 @@ unfoldable pub openAccepted : List ℕ → List ℕ → Opening
 openAccepted im name =
     let u = userOfName im name in cond (ltb u (users im)) (session (defaultSession im u)) (refused NoUser)
 
--- 1, 2, 3 before it
+-- 1, 2, 31 to 35 before it
 unfoldable pub openOf : List ℕ → List ℕ → Opening
 openOf im name = onChecked (checkOf im) refused (openAccepted im name)
 

@@ -24,7 +24,7 @@ abbrev pub sessionOf : Session → SessionMarks
 sessionOf s = sessionMarks (s .user) (marksOf (s .label)) (marksOf (s .row))
 
 -- ---- a lent session
--- 1, 2, 3; then 19 unless the user's place exists and both labels meet their rules
+-- 1, 2, 31 to 35; then 19 unless the user's place exists and both labels meet their rules
 unfoldable pub lentAnswer : List ℕ → SessionMarks → Checked
 lentAnswer im s = onChecked (checkOf im) Refused (orRefuse (sessionRule im (s .user) (s .label) (s .row)) SessionRules Accepted)
 

@@ -3,7 +3,7 @@ use crate::session::Session;
 use refusals::Refusal;
 use refusals::answers::Checked;
 
-// 1, 2, 3, 4 where no session opens.
+// 1, 2, 31 to 35, 4 where no session opens.
 pub enum Opened {
     Done(Session),
     Refused(Refusal),

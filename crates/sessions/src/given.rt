@@ -24,7 +24,7 @@ use refusals::answers::Checked;
 
 pub enum Lent {
     At(View),
-    // 1, 2, 3, 19; a row call's 12 after them.
+    // 1, 2, 31 to 35, 19; a row call's 12 after them.
     Refused(Refusal),
 }
 

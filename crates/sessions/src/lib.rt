@@ -24,7 +24,7 @@ use refusals::answers::Verdict;
 use refusals::answers::verdict_of;
 use session::Session;
 
-// The session of the user of that name, with the default label and the default row label. Refusals: 1, 2, 3, 4.
+// The session of the user of that name, with the default label and the default row label. Refusals: 1, 2, 31 to 35, 4.
 pub fn open(image: &[u8], name: &[u8]) -> Opened
     ensures { λ r. ⌜ openingOf r ≡ openOf (now (image .entry)) (now (name .entry)) ⌝ }
 {
@@ -36,7 +36,7 @@ pub fn open(image: &[u8], name: &[u8]) -> Opened
 }
 
 impl Session {
-    // The session with the label that the text names as its session label. Refusals: 1, 2, 3, 19, 5, the leftmost name's 6 or
+    // The session with the label that the text names as its session label. Refusals: 1, 2, 31 to 35, 19, 5, the leftmost name's 6 or
     // 7, 8, 9, 10, 11; the session is then as it was.
     pub fn set_label(self, image: &[u8], text: &[u8]) -> Changed
         ensures { λ r. ⌜ changeOf r ≡ setLabelOf (now (image .entry)) (sessionOf self) (now (text .entry)) ⌝ }
@@ -67,7 +67,7 @@ impl Session {
         }
     }
 
-    // May the session read a row of that tag? Refusals: 1, 2, 3, 19.
+    // May the session read a row of that tag? Refusals: 1, 2, 31 to 35, 19.
     pub fn may_read(self, image: &[u8], tag: u32) -> Verdict
         ensures { λ r. ⌜ r ≡ mayReadOf (now (image .entry)) (sessionOf self) tag ⌝ }
     {
@@ -79,7 +79,7 @@ impl Session {
         }
     }
 
-    // May the session write a row of that tag? Refusals: 1, 2, 3, 19.
+    // May the session write a row of that tag? Refusals: 1, 2, 31 to 35, 19.
     pub fn may_write(self, image: &[u8], tag: u32) -> Verdict
         ensures { λ r. ⌜ r ≡ mayWriteOf (now (image .entry)) (sessionOf self) tag ⌝ }
     {

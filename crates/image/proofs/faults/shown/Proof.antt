@@ -1,6 +1,6 @@
 use mathlib.Core.Path.{sym, ap}
 use borrow.Author.Needs.{needs}
-use Rattle.image.specs.Check.{shownAs}
+use Rattle.image.specs.Faults.{shownAs}
 use Rattle.image.proofs.faults.shown.Statement.{statement}
 use Rattle.image.proofs.faults.shown.Tie as tie
 
@@ -16,17 +16,20 @@ enum-known-fault c = search needs
 enum-told-3 : tie.Need-enum-told-3
 enum-told-3 c = search needs
 
-enum-told-4 : tie.Need-enum-told-4
-enum-told-4 c = search needs
+enum-known-fault-2 : tie.Need-enum-known-fault-2
+enum-known-fault-2 c = search needs
 
-enum-told-5 : tie.Need-enum-told-5
-enum-told-5 c = search needs
+enum-known-fault-3 : tie.Need-enum-known-fault-3
+enum-known-fault-3 c = search needs
 
-enum-told-6 : tie.Need-enum-told-6
-enum-told-6 c = search needs
+enum-known-fault-4 : tie.Need-enum-known-fault-4
+enum-known-fault-4 c = search needs
 
-enum-told-7 : tie.Need-enum-told-7
-enum-told-7 c = search needs
+enum-known-fault-5 : tie.Need-enum-known-fault-5
+enum-known-fault-5 c = search needs
+
+enum-known-fault-6 : tie.Need-enum-known-fault-6
+enum-known-fault-6 c = search needs
 
 returns : tie.Need-returns
 returns c = search needs
@@ -41,16 +44,19 @@ returns-4 : tie.Need-returns-4
 returns-4 c = sym (ap shownAs (c .enum-told3 .given .1))
 
 returns-5 : tie.Need-returns-5
-returns-5 c = sym (ap shownAs (c .enum-told4 .given .1))
+returns-5 c = sym (ap shownAs (c .before .fault2 .given .1))
 
 returns-6 : tie.Need-returns-6
-returns-6 c = sym (ap shownAs (c .enum-told5 .given .1))
+returns-6 c = sym (ap shownAs (c .before .fault3 .given .1))
 
 returns-7 : tie.Need-returns-7
-returns-7 c = sym (ap shownAs (c .enum-told6 .given .1))
+returns-7 c = sym (ap shownAs (c .before .fault4 .given .1))
 
 returns-8 : tie.Need-returns-8
-returns-8 c = sym (ap shownAs (c .enum-told7 .given .1))
+returns-8 c = sym (ap shownAs (c .before .fault5 .given .1))
+
+returns-9 : tie.Need-returns-9
+returns-9 c = sym (ap shownAs (c .before .fault6 .given .1))
 
 pub shown-spec : {M : Type 1} → statement M
 shown-spec =
@@ -60,10 +66,11 @@ shown-spec =
     enum-told-2
     enum-known-fault
     enum-told-3
-    enum-told-4
-    enum-told-5
-    enum-told-6
-    enum-told-7
+    enum-known-fault-2
+    enum-known-fault-3
+    enum-known-fault-4
+    enum-known-fault-5
+    enum-known-fault-6
     returns
     returns-2
     returns-3
@@ -71,4 +78,5 @@ shown-spec =
     returns-5
     returns-6
     returns-7
-    returns-8)
+    returns-8
+    returns-9)

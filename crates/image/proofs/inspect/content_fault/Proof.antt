@@ -1,12 +1,15 @@
 use Prim.Native.Nat.{ℕ, _≤_}
-use mathlib.Core.Path.{sym, _∙_}
+use mathlib.Core.Path.{sym, _∙_, ap}
+use native.Mathlib.Omega.{arith}
 use mathlib.Core.List.{List}
 use borrow.Author.Needs.{needs}
 use borrow.Author.Tests.{not-true, not-false}
 use Rattle.fields.proofs.Scan.{bad-from}
+use Rattle.header.specs.declared.layout.Contents.{Contents}
 use Rattle.header.specs.Layout.{contentsOf}
 use Rattle.records.specs.Rules.{firstBadRecord}
-use Rattle.image.specs.Check.{contentFault}
+use Rattle.image.specs.Walk.{contentFault}
+use Rattle.image.proofs.Place.{blocks-few, slot-few}
 use Rattle.image.proofs.inspect.content_fault.Statement.{statement}
 use Rattle.image.proofs.inspect.content_fault.Tie as tie
 
@@ -28,8 +31,26 @@ block-contents-requires c κs = search needs
 first-bad-record-requires : tie.Need-first-bad-record-requires
 first-bad-record-requires c κs = search needs
 
-sub-record-fault : tie.Need-sub-record-fault
-sub-record-fault c = rw (c .before .before .block-contents .ensures, c .before .first-bad-record .ensures) (from-first _ _)
+sub-r : tie.Need-sub-r
+sub-r c = rw (c .before .before .block-contents .ensures, c .before .first-bad-record .ensures) (from-first _ _)
+
+-- block and record fit 16 bits
+cast-block : tie.Need-cast-block
+cast-block c =
+    let judged = c .before .before .before in
+    let start = judged .before .before .before in
+    omega (arith, start .pre .1 .1, blocks-few (start .args .image .now) (start .pre .0))
+
+cast-slot : tie.Need-cast-slot
+cast-slot c =
+    let judged = c .before .before .before in
+    let start = judged .before .before .before in
+    omega (
+      arith,
+      c .before .first-bad-record .ensures,
+      ap (λ (h : Contents). h .from) (c .before .before .block-contents .ensures),
+      slot-few (start .args .image .now) (start .args .b),
+    )
 
 record-fault-requires : tie.Need-record-fault-requires
 record-fault-requires c κs = search needs
@@ -52,6 +73,8 @@ content-fault-spec =
     returns
     block-contents-requires
     first-bad-record-requires
-    sub-record-fault
+    sub-r
+    cast-block
+    cast-slot
     record-fault-requires
     returns-2)

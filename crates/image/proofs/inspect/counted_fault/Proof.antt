@@ -6,7 +6,7 @@ use Rattle.fields.proofs.Scan.{bad-from}
 use Rattle.header.specs.Layout.{blocksNeeded, groups, users}
 use Rattle.header.proofs.Inside.{header-inside}
 use Rattle.hierarchy.specs.Below.{firstRing, firstBadBelow}
-use Rattle.image.specs.Check.{countedFault, firstBadContent}
+use Rattle.image.specs.Walk.{countedFault, firstBadContent}
 use Rattle.image.proofs.inspect.counted_fault.Statement.{statement}
 use Rattle.image.proofs.inspect.counted_fault.Tie as tie
 
@@ -55,8 +55,8 @@ users-requires c κs =
     let rung = filled .before .before .before .before in
     header-inside _ (rung .before .before .before .before .before .pre .fitted)
 
-user-fault-requires : tie.Need-user-fault-requires
-user-fault-requires c κs =
+below-fault-requires : tie.Need-below-fault-requires
+below-fault-requires c κs =
     let filled = c .before .before .before .before in
     let rung = filled .before .before .before .before in
     (rung .before .before .before .before .before .pre, omega arith)
@@ -71,7 +71,7 @@ returns-3 c =
     let f : blocksNeeded im ≤ firstBadContent im = omega arith in
     let g : groups im ≤ firstRing im = omega arith in
     let h : firstBadBelow im < users im = omega arith in
-    rw (le-ltb _ _ f, le-ltb _ _ g, lt-ltb _ _ h, c .user-fault .ensures, found .first-bad-below .ensures)
+    rw (le-ltb _ _ f, le-ltb _ _ g, lt-ltb _ _ h, c .below-fault .ensures, found .first-bad-below .ensures)
 
 returns-4 : tie.Need-returns-4
 unfolding countedFault
@@ -98,6 +98,6 @@ counted-fault-spec =
     fill-requires
     first-bad-below-requires
     users-requires
-    user-fault-requires
+    below-fault-requires
     returns-3
     returns-4)

@@ -6,7 +6,7 @@ use Rattle.fields.specs.Scan.{firstBad}
 use Rattle.fields.proofs.Scan.{loop-bad, loop-good, loop-end}
 use Rattle.records.specs.Rules.{contentRule}
 use Rattle.header.proofs.Inside.{header-inside}
-use Rattle.image.specs.Check.{firstBadContent}
+use Rattle.image.specs.Walk.{firstBadContent}
 use Rattle.image.proofs.inspect.first_bad_content.Statement.{statement}
 use Rattle.image.proofs.inspect.first_bad_content.Tie as tie
 

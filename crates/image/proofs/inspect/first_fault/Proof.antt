@@ -10,6 +10,8 @@ use Rattle.blocks.proofs.Meaning.{length-means}
 use Rattle.header.specs.Header.{headerRule, fitRule}
 use Rattle.records.proofs.MeaningHeader.{counted}
 use Rattle.image.specs.Check.{faultOf}
+use Rattle.image.specs.Walk.{foundFault}
+use Rattle.image.proofs.Told.{found-lowest}
 use Rattle.image.proofs.inspect.first_fault.Statement.{statement}
 use Rattle.image.proofs.inspect.first_fault.Tie as tie
 
@@ -17,18 +19,23 @@ length-ok-requires : tie.Need-length-ok-requires
 length-ok-requires c κs = search needs
 
 returns : tie.Need-returns
-unfolding faultOf
-returns c = rw (sym (c .before .length-ok .ensures) ∙ not-true _ (c .if1 .taken))
+unfolding faultOf foundFault
+returns c = rw (found-lowest _, sym (c .before .length-ok .ensures) ∙ not-true _ (c .if1 .taken))
 
 first-bad-block-requires : tie.Need-first-bad-block-requires
 first-bad-block-requires c κs = length-means _ (sym (c .before .length-ok .ensures) ∙ not-false _ (c .if1 .left)) .whole
 
 returns-2 : tie.Need-returns-2
-unfolding faultOf blockCount
+unfolding faultOf foundFault blockCount
 returns-2 c =
     let im = c .before .before .before .before .before .args .image .now in
     let h : firstBadBlock im < blockCount im = omega arith in
-    rw (sym (c .before .before .before .length-ok .ensures) ∙ not-false _ (c .before .before .if1 .left), lt-ltb _ _ h, c .before .first-bad-block .ensures)
+    rw (
+      found-lowest _,
+      sym (c .before .before .before .length-ok .ensures) ∙ not-false _ (c .before .before .if1 .left),
+      lt-ltb _ _ h,
+      c .before .first-bad-block .ensures,
+    )
 
 header-ok-requires : tie.Need-header-ok-requires
 header-ok-requires c κs =
@@ -41,7 +48,7 @@ fit-ok-requires c κs =
     omega arith
 
 returns-3 : tie.Need-returns-3
-unfolding faultOf blockCount
+unfolding faultOf foundFault blockCount
 returns-3 c =
     let checked = c .before .before .before in
     let im = checked .before .before .before .before .before .args .image .now in
@@ -49,6 +56,7 @@ returns-3 c =
     let both : (headerRule im && fitRule im) ≡ (c .before .before .header-ok .result && c .before .fit-ok .result) =
     sym (ap₂ _&&_ (c .before .before .header-ok .ensures) (c .before .fit-ok .ensures)) in
     rw (
+      found-lowest _,
       sym (checked .before .before .before .length-ok .ensures) ∙ not-false _ (checked .before .before .if1 .left),
       le-ltb _ _ h,
       both ∙ not-true _ (c .if3 .taken),
@@ -64,7 +72,7 @@ counted-fault-requires c κs =
     counted im (both-left (headerRule im) (fitRule im) sound) (both-right (headerRule im) (fitRule im) sound)
 
 returns-4 : tie.Need-returns-4
-unfolding faultOf blockCount
+unfolding faultOf foundFault blockCount
 returns-4 c =
     let checked = c .before .before .before .before in
     let im = checked .before .before .before .before .before .args .image .now in
@@ -72,6 +80,7 @@ returns-4 c =
     let both : (headerRule im && fitRule im) ≡ (c .before .before .before .header-ok .result && c .before .before .fit-ok .result) =
     sym (ap₂ _&&_ (c .before .before .before .header-ok .ensures) (c .before .before .fit-ok .ensures)) in
     rw (
+      found-lowest _,
       sym (checked .before .before .before .length-ok .ensures) ∙ not-false _ (checked .before .before .if1 .left),
       le-ltb _ _ h,
       both ∙ not-false _ (c .before .if3 .left),
