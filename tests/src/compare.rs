@@ -1,5 +1,5 @@
-//! What two programs are compared by: the model's result as an answer, the seeds, and how often each
-//! answer came.
+//! What two programs are compared by: the model's result as an answer, the seeds, and how often
+//! each answer came.
 
 use crate::ffi::Answer;
 use crate::model::Refusal;
@@ -49,6 +49,9 @@ impl Tally {
         }
     }
 }
+
+/// The refusals of an image, which every call gives that is lent one.
+pub const OF_IMAGES: [&str; 7] = ["1", "2", "31", "32", "33", "34", "35"];
 
 /// How often each answer came to each call: "done", or "yes" and "no", or the refusal's number.
 #[derive(Debug, Default)]

@@ -1,10 +1,10 @@
 //! Tests of the compiled library against a second implementation, the model, which follows
-//! document 01 and shares no code with the library.
+//! document 01 with request R-2 of document 02 and shares no code with the library.
 //!
 //! - `model`: the rules of an image, of label text, of sessions, of verdicts, of tables and of two
 //!   labels, as the document states them.
 //! - `builder`: well-formed policies and their images.
-//! - `damage`: for each rule of an image, a change that breaks it.
+//! - `damage`: for each rule of an image, a change that breaks it; and pairs of such changes.
 //! - `cases`: images by seed, for comparing.
 //! - `texts`: label texts and labels by seed, for comparing.
 //! - `walk`: calls on sessions by seed, for comparing.

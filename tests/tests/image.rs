@@ -1,20 +1,26 @@
 //! The compiled `brawnesk_check` and `brawnesk_name` against the model.
 //!
-//! A wrong answer names its seed; `BRAWNESK_SEED=<seed> cargo test --release` compares that image alone.
+//! A wrong answer names its seed; `BRAWNESK_SEED=<seed> cargo test --release` compares that image
+//! alone.
 
 use brawnesk_tests::builder::{full, sample, to_image};
-use brawnesk_tests::cases::{Case, Kind};
+use brawnesk_tests::cases::{Case, DamageTally, Kind};
 use brawnesk_tests::compare::{expected, Tally};
 use brawnesk_tests::ffi::{self, Answer};
 use brawnesk_tests::model::{self, Refusal};
 use brawnesk_tests::rng::Rng;
 use brawnesk_tests::vectors;
 
-const CASES: u64 = 26_000;
+const CASES: u64 = 54_000;
+
+/// How many damaged images there are at least that 31 to 35 refuse, half of them with several
+/// faults.
+const DAMAGED: usize = 40_000;
 
 #[derive(Default)]
 struct Seen {
     answers: Tally,
+    damaged: DamageTally,
     large: usize,
 }
 
@@ -48,21 +54,27 @@ fn questions(case: &Case, rng: &mut Rng) -> Vec<(u8, u8)> {
     (0..3).map(|_| (class(rng), place(rng))).collect()
 }
 
+/// Number and place of both are the same: block and record of 32 to 34, the group of 35.
 fn compare(seed: u64, seen: &mut Seen) {
     let case = Case::new(seed);
     let kind = case.kind;
     let image = &case.image;
     let answer = ffi::check(image);
-    let wanted = expected(model::check(image).map(|()| 0));
+    let checked = model::check(image);
+    let wanted = expected(checked.map(|()| 0));
     assert_eq!(answer, wanted, "check of {kind:?}, seed {seed}");
-    if let Some(damage) = case.expected {
-        let refusal = expected(Err(damage.refusal()));
+    if let Some(refusal) = case.expected() {
+        let refusal = expected(Err(refusal));
         assert_eq!(answer, refusal, "damage of {kind:?}, seed {seed}");
     }
     seen.answers.add(answer);
+    seen.damaged.add(&case, answer);
     for (class, place) in questions(&case, &mut Rng::new(!seed)) {
         let answer = ffi::name(image, class, place);
-        let wanted = expected_name(image, class, place);
+        let wanted = match checked {
+            Ok(()) => expected_name(image, class, place),
+            Err(refusal) => expected(Err(refusal)),
+        };
         assert_eq!(
             answer, wanted,
             "name {class}, {place} of {kind:?}, seed {seed}"
@@ -82,8 +94,10 @@ fn the_library_agrees_with_the_model() {
         compare(seed, &mut seen);
     }
     println!("answers {:?}, large images {}", seen.answers, seen.large);
-    let least = [(0, 4_000), (1, 1_000), (2, 1_000), (3, 10_000), (18, 4_000)];
+    println!("{:?}", seen.damaged);
+    let least = [(0, 4_000), (1, 1_000), (2, 1_000), (18, 4_000)];
     seen.answers.assert_least(&least);
+    seen.damaged.assert_varied(DAMAGED, 300);
     assert!(seen.large >= 300, "{} large images", seen.large);
 }
 
@@ -157,7 +171,7 @@ fn lengths_are_judged_first() {
         assert_eq!(ffi::check(&vec![0; length]), expected(Err(Refusal::Length)));
     }
     // Zeros have right checks; each block but the first has a wrong place.
-    assert_eq!(ffi::check(&[0; 512]), expected(Err(Refusal::Image)));
+    assert_eq!(ffi::check(&[0; 512]), expected(Err(Refusal::Layout)));
     assert_eq!(ffi::check(&[0; 65_536]), expected(Err(Refusal::Block(1))));
 }
 

@@ -1,9 +1,9 @@
-//! The model by itself: what it accepts, and the order of its faults.
+//! The model by itself: what it accepts, and what it is compared on.
 
-use brawnesk_tests::builder::{full, random, sample, to_image, Policy, Sizes};
+use brawnesk_tests::builder::{full, random, sample, to_image, Sizes};
+use brawnesk_tests::cases::{Case, DamageTally};
 use brawnesk_tests::compare::expected;
-use brawnesk_tests::damage::{Damage, Draft, Expected};
-use brawnesk_tests::model::{check, first_fault, name, Fault, Refusal};
+use brawnesk_tests::model::{check, faults, name, Fault, Refusal};
 use brawnesk_tests::rng::Rng;
 use brawnesk_tests::vectors;
 
@@ -54,70 +54,104 @@ fn random_parents_are_varied() {
     assert!(lower > 500 && higher > 500 && deepest == 64);
 }
 
-/// Damages a policy twice, last what is to be found first: mending a block's check or writing a
-/// record anew could undo earlier damage. Gives what is to be found.
-fn twice(policy: &Policy, seed: u64, damages: [Damage; 2]) -> Option<(Expected, Vec<u8>)> {
-    let mut rng = Rng::new(seed);
-    let mut draft = Draft::new(policy.clone());
-    damages[1].apply(&mut draft, &mut rng)?;
-    let first = damages[0].apply(&mut draft, &mut rng)?;
-    Some((first, draft.image))
+/// The images for comparing go everywhere.
+#[test]
+fn cases_are_varied() {
+    let mut tally = DamageTally::default();
+    for seed in 0..16_000 {
+        let case = Case::new(seed);
+        let checked = check(&case.image);
+        if let Some(refusal) = case.expected() {
+            assert_eq!(checked, Err(refusal), "{:?}, seed {seed}", case.kind);
+        }
+        tally.add(&case, expected(checked.map(|()| 0)));
+    }
+    println!("{tally:?}");
+    tally.assert_varied(10_000, 75);
 }
 
-/// Of two kinds of damage the first is found, wherever the second stands.
-#[test]
-fn faults_come_in_order() {
-    let policy = random(Sizes::medium(&mut Rng::new(5)), &mut Rng::new(5));
-    for damages in [
-        [Damage::CheckA, Damage::HeaderKind],
-        [Damage::BlockPlace, Damage::BlockExtra],
-        [Damage::HeaderUnused, Damage::Class],
-        [Damage::CountUnfit, Damage::NameByte],
-        [Damage::NameRepeated, Damage::TagZero],
-        [Damage::NumberEqual, Damage::UserUnused],
-        [Damage::LabelUnused, Damage::Privilege128],
-        [Damage::LabelUnused, Damage::RingOfTwo],
-        [Damage::UserNameRest, Damage::RingLong],
-        [Damage::UserUnused, Damage::WriteGroup],
-        [Damage::RingLong, Damage::DefaultGroup],
-    ] {
-        let mut tried = 0;
-        for seed in 0..200 {
-            let Some((first, image)) = twice(&policy, seed, damages) else {
-                continue;
-            };
-            tried += 1;
-            let refused = check(&image);
-            assert_eq!(refused, Err(first.refusal()), "{damages:?}, seed {seed}");
-            if let Expected::Fault(fault) = first {
-                assert_eq!(first_fault(&image), Some(fault), "{damages:?}, seed {seed}");
-            }
-        }
-        assert!(tried >= 20, "{damages:?} tried {tried} times");
+/// The stage of a fault, its block or group, and its record counted from 1, or 0 without one.
+type Parts = [usize; 3];
+
+/// The right order.
+fn key(fault: &Fault) -> Parts {
+    match *fault {
+        Fault::Layout { block } => [0, block, 0],
+        Fault::Record { block, record, .. } => [0, block, 1 + record],
+        Fault::Ring { group } => [1, group, 0],
+        Fault::Below { block, record } => [2, block, 1 + record],
     }
 }
 
-/// In one block the shape comes first; of two records the lower one.
+/// An order by name, made from the right one.
+type Order = (&'static str, fn(Parts) -> Parts);
+
+/// Orders that a program might go by and that are wrong.
+const WRONG: [Order; 9] = [
+    ("35 first", |[stage, place, record]| {
+        [(stage + 2) % 3, place, record]
+    }),
+    ("below before 35", |[stage, place, record]| {
+        [(3 - stage) % 3, place, record]
+    }),
+    (
+        "below with a user's other rules",
+        |[stage, place, record]| [stage % 2, place, record],
+    ),
+    ("31 of all blocks first", |[stage, place, record]| {
+        [stage, place + 1_000 * record.min(1), record]
+    }),
+    ("31 last in its block", |[stage, place, record]| {
+        [stage, place, record.wrapping_sub(1)]
+    }),
+    (
+        "the lowest record of all blocks",
+        |[stage, place, record]| [stage, record, place],
+    ),
+    ("the highest record of a block", |[stage, place, record]| {
+        [stage, place, record.min(1) * (1_000 - record)]
+    }),
+    ("the highest block or group", |[stage, place, record]| {
+        [stage, 1_000 - place, record]
+    }),
+    ("labels and users before components", |key| match key {
+        [0, 1, record] => [0, 1_000, record],
+        key => key,
+    }),
+];
+
+/// Each wrong order tells another fault for many of the images for comparing, and the right one for
+/// none.
 #[test]
-fn faults_in_one_block_come_in_order() {
-    let mut image = to_image(&sample());
-    let damage = |image: &mut Vec<u8>, at: usize| {
-        image[at] = 7;
-        brawnesk_tests::builder::layout::seal(image, at / 512);
-    };
-    damage(&mut image, 512 + 4 + 5 * 40 + 39);
-    let component = |record| Some(Fault::Component { block: 1, record });
-    assert_eq!(first_fault(&image), component(5));
-    damage(&mut image, 512 + 4 + 2 * 40 + 39);
-    assert_eq!(first_fault(&image), component(2));
-    damage(&mut image, 512 + 509);
-    assert_eq!(first_fault(&image), Some(Fault::Block { block: 1 }));
+fn wrong_orders_are_found() {
+    let mut found = [0; WRONG.len()];
+    for seed in 0..8_000 {
+        let image = Case::new(seed).image;
+        let Err(refusal) = check(&image) else {
+            continue;
+        };
+        if refusal.number() < 31 {
+            continue;
+        }
+        let faults = faults(&image);
+        let told = |key: &dyn Fn(&Fault) -> Parts| {
+            let lowest = faults.iter().min_by_key(|fault| key(fault));
+            lowest.map(|fault| fault.refusal())
+        };
+        assert_eq!(told(&key), Some(refusal), "seed {seed}");
+        for ((_, order), found) in WRONG.iter().zip(&mut found) {
+            *found += usize::from(told(&|fault| order(key(fault))) != Some(refusal));
+        }
+    }
+    let found: Vec<_> = WRONG.iter().map(|(name, _)| name).zip(found).collect();
+    println!("{found:?}");
+    assert!(found.iter().all(|(_, times)| *times >= 25), "{found:?}");
 }
 
 #[test]
 fn vectors_of_images() {
     let cases = vectors::images();
-    assert!(cases.len() >= 15, "{} cases", cases.len());
+    assert!(cases.len() >= 45, "{} cases", cases.len());
     for case in cases {
         let answer = expected(check(&case.image).map(|()| 0));
         assert_eq!(answer, case.answer, "{}", case.line);

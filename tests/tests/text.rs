@@ -1,6 +1,7 @@
 //! The compiled `brawnesk_parse` and `brawnesk_print` against the model.
 //!
-//! A wrong answer names its seed; `BRAWNESK_SEED=<seed> cargo test --release` compares that seed alone.
+//! A wrong answer names its seed; `BRAWNESK_SEED=<seed> cargo test --release` compares that seed
+//! alone.
 
 use brawnesk_tests::builder::{sample, to_image, Policy};
 use brawnesk_tests::cases::Case;
@@ -98,8 +99,8 @@ fn labels_are_printed_alike() {
     assert_least(&tally, &[(0, 5_000), (13, 1_000), (18, 4_000)]);
 }
 
-/// Every length of a buffer from none to two more than is needed. A lacking component comes before a
-/// lack of room.
+/// Every length of a buffer from none to two more than is needed. A lacking component comes before
+/// a lack of room.
 #[test]
 fn every_length_of_a_buffer() {
     let mut tally = Tally::default();
@@ -154,7 +155,7 @@ fn assert_reads_back(image: &[u8], label: &[u8; LABEL], case: &str) -> usize {
 #[test]
 fn damaged_images() {
     let mut tally = Tally::default();
-    for seed in seeds(0..6_000) {
+    for seed in seeds(0..10_000) {
         let case = format!("seed {seed}");
         let image = Case::new(seed).image;
         let mut rng = Rng::new(!seed);
@@ -170,7 +171,8 @@ fn damaged_images() {
         tally.add(parsed);
         tally.add(printed);
     }
-    assert_least(&tally, &[(1, 500), (2, 500), (3, 4_000)]);
+    let numbers = [1, 2, 31, 32, 33, 34, 35];
+    assert_least(&tally, &numbers.map(|number| (number, 500)));
 }
 
 #[test]

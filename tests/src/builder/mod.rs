@@ -77,7 +77,7 @@ impl Policy {
         let mut found = set;
         loop {
             let mut next = found;
-            for (place, group) in self.groups.iter().enumerate() {
+            for (place, group) in self.groups.iter().enumerate().take(64) {
                 if group.parent.is_some_and(|parent| found >> parent & 1 == 1) {
                     next |= 1 << place;
                 }

@@ -34,6 +34,17 @@ impl Sizes {
         }
     }
 
+    /// One to three blocks of each kind.
+    pub fn several_blocks(rng: &mut Rng) -> Sizes {
+        Sizes {
+            levels: rng.range(1, 8),
+            compartments: rng.range(0, 12),
+            groups: rng.range(2, 16),
+            users: rng.range(2, 9),
+            labels: rng.range(10, 50),
+        }
+    }
+
     /// Several blocks of each kind, at most.
     pub fn medium(rng: &mut Rng) -> Sizes {
         Sizes {

@@ -4,22 +4,43 @@ use super::{Draft, Expected};
 use crate::builder::layout::{seal, Run, BLOCK};
 use crate::rng::Rng;
 
+/// A byte of a block, and likely values for it.
+type Byte = (usize, &'static [u8]);
+
+const KIND: Byte = (0, &[0, 67, 76, 80, 85]);
+const RECORDS: Byte = (1, &[0, 3, 12, 21]);
+
 /// Any block but the header.
-fn record_block(draft: &Draft, rng: &mut Rng) -> Option<usize> {
+pub fn record_block(draft: &Draft, rng: &mut Rng) -> Option<usize> {
     (draft.blocks() > 1).then(|| rng.range(1, draft.blocks() - 1))
 }
 
 pub fn kind(draft: &mut Draft, rng: &mut Rng) -> Option<Expected> {
-    change(draft, rng, 0, &[0, 67, 76, 80, 85])
+    let block = record_block(draft, rng)?;
+    change(draft, rng, block, KIND)
 }
 
 pub fn records(draft: &mut Draft, rng: &mut Rng) -> Option<Expected> {
-    change(draft, rng, 1, &[0, 3, 12, 21])
+    let block = record_block(draft, rng)?;
+    change(draft, rng, block, RECORDS)
+}
+
+/// Any of this file's damage that one block alone can have.
+pub fn any_of(draft: &mut Draft, rng: &mut Rng, block: usize) -> Option<Expected> {
+    match rng.index(3) {
+        0 => change(draft, rng, block, KIND),
+        1 => change(draft, rng, block, RECORDS),
+        _ => after_records_of(draft, rng, block).or_else(|| change(draft, rng, block, KIND)),
+    }
 }
 
 /// One of the likely values or any, but not the one that stands there.
-fn change(draft: &mut Draft, rng: &mut Rng, byte: usize, likely: &[u8]) -> Option<Expected> {
-    let block = record_block(draft, rng)?;
+fn change(
+    draft: &mut Draft,
+    rng: &mut Rng,
+    block: usize,
+    (byte, likely): Byte,
+) -> Option<Expected> {
     let at = block * BLOCK + byte;
     let old = draft.get(at);
     let value = *rng.pick(likely);
@@ -29,7 +50,7 @@ fn change(draft: &mut Draft, rng: &mut Rng, byte: usize, likely: &[u8]) -> Optio
         value
     };
     draft.write(at, &[value]);
-    Expected::block(block)
+    Expected::layout(block)
 }
 
 /// Two blocks of different kinds change places; places and checks are mended.
@@ -44,7 +65,7 @@ pub fn kind_order(draft: &mut Draft, rng: &mut Rng) -> Option<Expected> {
     first[4..].swap_with_slice(&mut second[4..]);
     seal(&mut draft.image, low);
     seal(&mut draft.image, high);
-    Expected::block(low)
+    Expected::layout(low)
 }
 
 /// The header counts one record more or less than there are, in as many blocks. With fewer groups
@@ -70,7 +91,7 @@ pub fn records_by_header(draft: &mut Draft, rng: &mut Rng) -> Option<Expected> {
     let new = if is_less { count - 1 } else { count + 1 };
     let bytes = (new as u16).to_le_bytes();
     draft.write(at, if at == 7 { &bytes[..1] } else { &bytes });
-    Expected::block(run.first + run.blocks() - 1)
+    Expected::layout(run.first + run.blocks() - 1)
 }
 
 /// The last record of a full block moves to the front of the next, short one: all records are
@@ -93,12 +114,16 @@ pub fn unpacked(draft: &mut Draft, rng: &mut Rng) -> Option<Expected> {
     draft.write(last - BLOCK + 1, &[in_block as u8 - 1]);
     draft.put(last + 4, &[record, moved].concat());
     draft.write(last + 1, &[run.in_last() as u8 + 1]);
-    Expected::block(run.first + blocks - 2)
+    Expected::layout(run.first + blocks - 2)
 }
 
 /// A byte that isn't zero after the records, in an unused slot or behind the last slot.
 pub fn after_records(draft: &mut Draft, rng: &mut Rng) -> Option<Expected> {
     let block = record_block(draft, rng)?;
+    after_records_of(draft, rng, block)
+}
+
+fn after_records_of(draft: &mut Draft, rng: &mut Rng, block: usize) -> Option<Expected> {
     let runs = draft.policy.runs();
     let run = runs
         .iter()
@@ -111,5 +136,5 @@ pub fn after_records(draft: &mut Draft, rng: &mut Rng) -> Option<Expected> {
     let at = rng.with_ends(end, 509);
     let value = rng.nonzero();
     draft.write(block * BLOCK + at, &[value]);
-    Expected::block(block)
+    Expected::layout(block)
 }

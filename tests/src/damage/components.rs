@@ -1,30 +1,30 @@
-//! Damage to a component's rules (32 at its record) and to the ends of parents (35).
+//! Damage to a component's rules (32 at its record).
 
-use super::{Draft, Expected};
-use crate::builder::layout::RecordAt;
+use super::{places, Draft, Expected};
+use crate::builder::layout::{RecordAt, COMPONENTS};
 use crate::builder::Policy;
 use crate::rng::Rng;
 
 pub fn any(draft: &Draft, rng: &mut Rng) -> Option<RecordAt> {
-    let place = rng.place(0, draft.policy.components())?;
-    Some(draft.policy.component_at(place))
+    let [components, ..] = draft.policy.runs();
+    Some(components.at(places::any(&components, rng)?))
 }
 
-/// A component and an earlier one of its class, the one before it or any.
-fn pair(policy: &Policy, rng: &mut Rng, next: bool) -> Option<(RecordAt, RecordAt)> {
+/// An earlier component, the one before or any, and a later one of its class.
+pub fn pair(policy: &Policy, rng: &mut Rng, next: bool) -> Option<(RecordAt, RecordAt)> {
     let (levels, compartments) = (policy.levels.len(), policy.compartments.len());
     let (first, count) = *rng.pick(&[
         (0, levels),
         (levels, compartments),
         (levels + compartments, policy.groups.len()),
     ]);
-    if count < 2 {
-        return None;
-    }
-    let later = rng.range(1, count - 1);
-    let earlier = if next { later - 1 } else { rng.index(later) };
-    let at = |place| policy.component_at(first + place);
-    Some((at(earlier), at(later)))
+    let later = places::later(first, count, COMPONENTS.in_block, rng)?;
+    let earlier = if next {
+        later - 1
+    } else {
+        rng.range(first, later - 1)
+    };
+    Some((policy.component_at(earlier), policy.component_at(later)))
 }
 
 pub fn class(draft: &mut Draft, rng: &mut Rng) -> Option<Expected> {
@@ -130,43 +130,4 @@ pub fn unused(draft: &mut Draft, rng: &mut Rng) -> Option<Expected> {
     let byte = rng.with_ends(35, 39);
     let value = rng.nonzero();
     draft.break_record(at, byte, &[value])
-}
-
-pub fn ring_of_one(draft: &mut Draft, rng: &mut Rng) -> Option<Expected> {
-    ring(draft, rng, 1)
-}
-
-pub fn ring_of_two(draft: &mut Draft, rng: &mut Rng) -> Option<Expected> {
-    ring(draft, rng, 2)
-}
-
-pub fn ring_long(draft: &mut Draft, rng: &mut Rng) -> Option<Expected> {
-    let count = draft.policy.groups.len();
-    let length = if rng.once_in(3) {
-        count
-    } else {
-        rng.range(3, count.max(3))
-    };
-    ring(draft, rng, length.max(3))
-}
-
-/// Gives some groups each other as parents, so that a walk from them never ends. Nor does one from
-/// any group under them.
-fn ring(draft: &mut Draft, rng: &mut Rng, length: usize) -> Option<Expected> {
-    let count = draft.policy.groups.len().min(64);
-    if count < length {
-        return None;
-    }
-    let mut order: Vec<usize> = (0..count).collect();
-    rng.shuffle(&mut order);
-    for at in 0..length {
-        let (group, parent) = (order[at], order[(at + 1) % length] as u8);
-        draft.policy.groups[group].parent = Some(parent);
-        draft.write(draft.policy.group_at(group).offset + 34, &[parent]);
-    }
-    let ring = order[..length]
-        .iter()
-        .fold(0, |set, &group| set | 1 << group);
-    let endless = draft.policy.below(ring);
-    Expected::ring(endless.trailing_zeros() as usize)
 }

@@ -2,12 +2,14 @@
 
 use crate::builder::layout::{seal, RecordAt, BLOCK};
 use crate::builder::{to_image, Policy};
-use crate::model::{Fault, Refusal};
+use crate::model::{Fault, Kind, Refusal};
 
 /// What a damaged image is refused with, if it was well-formed before.
 #[derive(Clone, Copy, Debug, PartialEq, Eq)]
 pub enum Expected {
+    /// By 1 or 2.
     Refused(Refusal),
+    /// By 31 to 35.
     Fault(Fault),
 }
 
@@ -15,7 +17,7 @@ impl Expected {
     pub fn refusal(self) -> Refusal {
         match self {
             Expected::Refused(refusal) => refusal,
-            Expected::Fault(_) => Refusal::Image,
+            Expected::Fault(fault) => fault.refusal(),
         }
     }
 
@@ -27,21 +29,30 @@ impl Expected {
         Some(Expected::Refused(Refusal::Block(block)))
     }
 
-    pub fn block(block: usize) -> Option<Expected> {
-        Some(Expected::Fault(Fault::Block { block }))
+    pub fn layout(block: usize) -> Option<Expected> {
+        Some(Expected::Fault(Fault::Layout { block }))
     }
 
     pub fn record(at: RecordAt) -> Option<Expected> {
-        let RecordAt { block, record, .. } = at;
-        Some(Expected::Fault(match at.kind {
-            67 => Fault::Component { block, record },
-            76 => Fault::Label { block, record },
-            _ => Fault::User { block, record },
+        let kind = match at.kind {
+            67 => Kind::Component,
+            76 => Kind::Label,
+            _ => Kind::User,
+        };
+        Some(Expected::Fault(Fault::Record {
+            kind,
+            block: at.block,
+            record: at.record,
         }))
     }
 
     pub fn ring(group: usize) -> Option<Expected> {
         Some(Expected::Fault(Fault::Ring { group }))
+    }
+
+    pub fn below(at: RecordAt) -> Option<Expected> {
+        let RecordAt { block, record, .. } = at;
+        Some(Expected::Fault(Fault::Below { block, record }))
     }
 }
 

@@ -25,7 +25,7 @@ pub fn unused(draft: &mut Draft, rng: &mut Rng) -> Option<Expected> {
 fn change(draft: &mut Draft, rng: &mut Rng, at: usize) -> Option<Expected> {
     let value = rng.byte_but(draft.get(at));
     draft.write(at, &[value]);
-    Expected::block(0)
+    Expected::layout(0)
 }
 
 // Counts outside their limits, in images that fit these counts.
@@ -117,7 +117,7 @@ fn no_rights() -> User {
 
 fn rebuilt(draft: &mut Draft) -> Option<Expected> {
     draft.rebuild();
-    Expected::block(0)
+    Expected::layout(0)
 }
 
 // A length that does not fit the counts.
@@ -125,13 +125,13 @@ fn rebuilt(draft: &mut Draft) -> Option<Expected> {
 pub fn block_missing(draft: &mut Draft, _: &mut Rng) -> Option<Expected> {
     let length = draft.image.len().checked_sub(BLOCK)?;
     draft.image.truncate(length);
-    Expected::block(0)
+    Expected::layout(0)
 }
 
 pub fn block_extra(draft: &mut Draft, rng: &mut Rng) -> Option<Expected> {
     let kind = *rng.pick(&[0, 67, 76, 80, 85]);
     draft.push_block(kind);
-    Expected::block(0)
+    Expected::layout(0)
 }
 
 /// A count, within its limit or over it, that needs another number of blocks.
@@ -160,5 +160,5 @@ pub fn count_unfit(draft: &mut Draft, rng: &mut Rng) -> Option<Expected> {
     }
     let bytes = (new as u16).to_le_bytes();
     draft.write(at, if at < 8 { &bytes[..1] } else { &bytes });
-    Expected::block(0)
+    Expected::layout(0)
 }

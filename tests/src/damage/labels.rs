@@ -1,12 +1,17 @@
 //! Damage to a label's rules (33 at its record).
 
-use super::{Draft, Expected};
-use crate::builder::layout::RecordAt;
+use super::{places, Draft, Expected};
+use crate::builder::layout::{RecordAt, LABELS};
 use crate::rng::Rng;
 
 fn any(draft: &Draft, rng: &mut Rng) -> Option<RecordAt> {
-    let place = rng.place(0, draft.policy.labels.len())?;
-    Some(draft.policy.label_at(place))
+    let [_, labels, _] = draft.policy.runs();
+    Some(labels.at(places::any(&labels, rng)?))
+}
+
+/// The place of a label that has one before it.
+fn later(draft: &Draft, rng: &mut Rng) -> Option<usize> {
+    places::later(0, draft.policy.labels.len(), LABELS.in_block, rng)
 }
 
 pub fn tag_zero(draft: &mut Draft, rng: &mut Rng) -> Option<Expected> {
@@ -21,13 +26,13 @@ pub fn tag_over(draft: &mut Draft, rng: &mut Rng) -> Option<Expected> {
 }
 
 pub fn tag_equal(draft: &mut Draft, rng: &mut Rng) -> Option<Expected> {
-    let place = rng.place(1, draft.policy.labels.len())?;
+    let place = later(draft, rng)?;
     let tag = draft.policy.labels[place - 1].tag;
     draft.break_record(draft.policy.label_at(place), 0, &tag.to_le_bytes())
 }
 
 pub fn tag_lower(draft: &mut Draft, rng: &mut Rng) -> Option<Expected> {
-    let place = rng.place(1, draft.policy.labels.len())?;
+    let place = later(draft, rng)?;
     let before = draft.policy.labels[place - 1].tag as usize;
     let tag = (before > 1).then(|| rng.range(1, before - 1))? as u32;
     draft.break_record(draft.policy.label_at(place), 0, &tag.to_le_bytes())

@@ -1,34 +1,50 @@
 //! Damage to well-formed images: for each rule of an image at least one change that breaks it and,
-//! where the rule allows it, nothing else. Checks are mended where the rule isn't the check itself.
+//! where the rule allows it, nothing else; and pairs of faults by which one is told and not the
+//! other. Checks are mended where the rule isn't the check itself.
 
 mod blocks;
+mod combined;
 mod components;
 mod draft;
 mod header;
 mod labels;
 mod lengths;
 mod names;
+mod places;
+mod rings;
 mod users;
 
 pub use draft::{Draft, Expected};
 
 use crate::rng::Rng;
+use combined::{COMPONENTS, LABELS, USERS};
 use users::Inclusion;
 
-/// The kinds of damage: for each file, the kind and the function that does it, with what else the
-/// function is told. The function gives what a well-formed image is then refused with, or nothing,
-/// and changes nothing, where the image lacks what it needs.
+/// Kinds of damage: for each file and the number that a well-formed image is then refused with, the
+/// kind and the function that does it, with what else the function is told. The function gives the
+/// refusal with its values, or nothing, and changes nothing, where the image lacks what it needs.
 macro_rules! damages {
-    ($($file:ident { $($kind:ident => $function:ident $(($told:expr))?,)* })*) => {
+    (
+        $(#[$about:meta])*
+        $name:ident:
+        $($number:literal $file:ident { $($kind:ident => $function:ident $(($told:expr))?,)* })*
+    ) => {
+        $(#[$about])*
         #[derive(Clone, Copy, Debug, PartialEq, Eq, PartialOrd, Ord)]
-        pub enum Damage { $($($kind,)*)* }
+        pub enum $name { $($($kind,)*)* }
 
-        impl Damage {
-            pub const ALL: &'static [Damage] = &[$($(Damage::$kind,)*)*];
+        impl $name {
+            pub const ALL: &'static [$name] = &[$($($name::$kind,)*)*];
+
+            pub fn number(self) -> u32 {
+                match self {
+                    $($($name::$kind)|* => $number,)*
+                }
+            }
 
             pub fn apply(self, draft: &mut Draft, rng: &mut Rng) -> Option<Expected> {
                 match self {
-                    $($(Damage::$kind => $file::$function(draft, rng $(, $told)?),)*)*
+                    $($($name::$kind => $file::$function(draft, rng $(, $told)?),)*)*
                 }
             }
         }
@@ -36,11 +52,15 @@ macro_rules! damages {
 }
 
 damages! {
-    lengths {
+    /// One fault.
+    Damage:
+    1 lengths {
         Empty => empty,
         Cut => cut,
         Extended => extended,
         OverLong => over_long,
+    }
+    2 lengths {
         CheckA => check_a,
         CheckB => check_b,
         CheckA255 => check_a_255,
@@ -49,7 +69,7 @@ damages! {
         BlockPlace => place,
         BlocksExchanged => exchanged,
     }
-    header {
+    31 header {
         HeaderKind => kind,
         HeaderRecords => records,
         Edition => edition,
@@ -64,7 +84,7 @@ damages! {
         BlockExtra => block_extra,
         CountUnfit => count_unfit,
     }
-    blocks {
+    31 blocks {
         BlockKind => kind,
         BlockKindOrder => kind_order,
         BlockRecords => records,
@@ -72,22 +92,10 @@ damages! {
         BlockUnpacked => unpacked,
         BlockAfterRecords => after_records,
     }
-    components {
+    32 components {
         Class => class,
         ClassOrder => class_order,
         ClassByHeader => class_by_header,
-    }
-    names {
-        NameEmpty => empty(names::component),
-        NameLong => long(names::component),
-        NameByte => bad_byte(names::component),
-        NameRest => rest(names::component),
-        UserNameEmpty => empty(names::user),
-        UserNameLong => long(names::user),
-        UserNameByte => bad_byte(names::user),
-        UserNameRest => rest(names::user),
-    }
-    components {
         NameRepeated => name_repeated,
         NumberOver => number_over,
         NumberEqual => number_equal,
@@ -96,11 +104,14 @@ damages! {
         CompartmentParent => compartment_parent,
         GroupParentMissing => group_parent_missing,
         ComponentUnused => unused,
-        RingOfOne => ring_of_one,
-        RingOfTwo => ring_of_two,
-        RingLong => ring_long,
     }
-    labels {
+    32 names {
+        NameEmpty => empty(names::component),
+        NameLong => long(names::component),
+        NameByte => bad_byte(names::component),
+        NameRest => rest(names::component),
+    }
+    33 labels {
         TagZero => tag_zero,
         TagOver => tag_over,
         TagEqual => tag_equal,
@@ -110,7 +121,13 @@ damages! {
         LabelGroupMissing => group_missing,
         LabelUnused => unused,
     }
-    users {
+    34 names {
+        UserNameEmpty => empty(names::user),
+        UserNameLong => long(names::user),
+        UserNameByte => bad_byte(names::user),
+        UserNameRest => rest(names::user),
+    }
+    34 users {
         UserNameEqual => name_equal,
         UserNameLower => name_lower,
         UserNameBegins => name_begins,
@@ -128,46 +145,77 @@ damages! {
         DefaultCompartment => compartment(Inclusion::DefaultInRead),
         RowCompartmentByDefault => compartment(Inclusion::RowInDefault),
         RowCompartmentByWrite => compartment(Inclusion::RowInWrite),
+        UserUnused => unused,
+    }
+    35 rings {
+        RingOfOne => of_one,
+        RingOfTwo => of_two,
+        RingLong => long,
+        LowerLeadsIntoRing => lower_leads_in,
+    }
+    34 users {
         WriteGroup => group(Inclusion::WriteInRead),
         DefaultGroup => group(Inclusion::DefaultInRead),
         RowGroupByDefault => group(Inclusion::RowInDefault),
         RowGroupByWrite => group(Inclusion::RowInWrite),
-        UserUnused => unused,
+    }
+}
+
+impl Damage {
+    /// Whether no fault after block 0 is told beside this one. Such kinds stand first.
+    pub fn hides_the_rest(self) -> bool {
+        self < Damage::BlockKind
+    }
+
+    /// Whether any fault of a block or record is told before this one. Such kinds stand last.
+    pub fn comes_late(self) -> bool {
+        self >= Damage::RingOfOne
+    }
+}
+
+damages! {
+    /// Two faults.
+    Combined:
+    31 combined {
+        ComponentWithLayout => with_layout(COMPONENTS),
+        LabelWithLayout => with_layout(LABELS),
+        UserWithLayout => with_layout(USERS),
+        ComponentAfterLayout => after_layout(COMPONENTS),
+        LabelAfterLayout => after_layout(LABELS),
+        UserAfterLayout => after_layout(USERS),
+        LayoutAndRing => layout_and_ring,
+        LayoutAndBelow => layout_and_below,
+    }
+    32 combined {
+        TwoComponents => two_in_block(COMPONENTS),
+        ComponentsApart => two_blocks(COMPONENTS),
+        ComponentBeforeLayout => before_layout(COMPONENTS),
+        ComponentAndRing => record_and_ring(COMPONENTS),
+        ClassAndClash => class_and_clash,
+        ParentMissingAndRing => parent_missing_and_ring,
+    }
+    33 combined {
+        TwoLabels => two_in_block(LABELS),
+        LabelsApart => two_blocks(LABELS),
+        LabelBeforeLayout => before_layout(LABELS),
+        LabelAndRing => record_and_ring(LABELS),
+        LabelAndBelow => label_and_below,
+    }
+    34 combined {
+        TwoUsers => two_in_block(USERS),
+        UsersApart => two_blocks(USERS),
+        UserBeforeLayout => before_layout(USERS),
+        UserAndRing => record_and_ring(USERS),
+        BelowAndLaterUser => below_and_later_user,
+        TwoBelow => two_below,
+    }
+    35 combined {
+        RingAndBelow => ring_and_below,
+    }
+    35 rings {
+        TwoRings => two,
     }
 }
 
 #[cfg(test)]
-mod tests {
-    use super::*;
-    use crate::builder::{random, Sizes};
-    use crate::model::{check, first_fault};
-
-    /// Each kind applies often, and the model then finds exactly what the damage says.
-    #[test]
-    fn each_damage_is_refused_as_expected() {
-        for &damage in Damage::ALL {
-            let mut applied = 0;
-            for seed in 0..400 {
-                let mut rng = Rng::new(seed);
-                let sizes = match seed {
-                    0..=9 => Sizes::any(&mut rng),
-                    10..=99 => Sizes::medium(&mut rng),
-                    _ => Sizes::small(&mut rng),
-                };
-                let mut draft = Draft::new(random(sizes, &mut rng));
-                let Some(expected) = damage.apply(&mut draft, &mut rng) else {
-                    assert_eq!(check(&draft.image), Ok(()), "{damage:?}, seed {seed}");
-                    continue;
-                };
-                applied += 1;
-                let refused = check(&draft.image);
-                assert_eq!(refused, Err(expected.refusal()), "{damage:?}, seed {seed}");
-                if let Expected::Fault(fault) = expected {
-                    let found = first_fault(&draft.image);
-                    assert_eq!(found, Some(fault), "{damage:?}, seed {seed}");
-                }
-            }
-            assert!(applied >= 25, "{damage:?} applied {applied} times");
-        }
-    }
-}
+mod tests;

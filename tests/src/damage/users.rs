@@ -1,13 +1,22 @@
-//! Damage to a user's rules (34 at its record).
+//! Damage to a user's rules (34 at its record), those by below among them.
 
-use super::{Draft, Expected};
-use crate::builder::layout::RecordAt;
+use super::{places, Draft, Expected};
+use crate::builder::layout::{RecordAt, USERS};
 use crate::builder::{user_record, Policy, Rights, User};
 use crate::rng::Rng;
 
 pub fn any(draft: &Draft, rng: &mut Rng) -> Option<RecordAt> {
-    let place = rng.place(0, draft.policy.users.len())?;
-    Some(draft.policy.user_at(place))
+    Some(draft.policy.user_at(any_place(draft, rng)?))
+}
+
+fn any_place(draft: &Draft, rng: &mut Rng) -> Option<usize> {
+    let [.., users] = draft.policy.runs();
+    places::any(&users, rng)
+}
+
+/// The place of a user who has one before.
+fn later(draft: &Draft, rng: &mut Rng) -> Option<usize> {
+    places::later(0, draft.policy.users.len(), USERS.in_block, rng)
 }
 
 /// Writes the record of a user as the policy now has it.
@@ -17,13 +26,13 @@ fn rewrite(draft: &mut Draft, place: usize) -> Option<Expected> {
 }
 
 pub fn name_equal(draft: &mut Draft, rng: &mut Rng) -> Option<Expected> {
-    let place = rng.place(1, draft.policy.users.len())?;
+    let place = later(draft, rng)?;
     rename(draft, place, draft.policy.users[place - 1].name.clone())
 }
 
 /// A name with one byte lower than the name before it has there.
 pub fn name_lower(draft: &mut Draft, rng: &mut Rng) -> Option<Expected> {
-    let place = rng.place(1, draft.policy.users.len())?;
+    let place = later(draft, rng)?;
     let before = draft.policy.users[place - 1].name.as_bytes();
     let at = rng.index(before.len());
     let mut name = before.to_vec();
@@ -38,7 +47,7 @@ pub fn name_lower(draft: &mut Draft, rng: &mut Rng) -> Option<Expected> {
 
 /// A name that begins the name before it.
 pub fn name_begins(draft: &mut Draft, rng: &mut Rng) -> Option<Expected> {
-    let place = rng.place(1, draft.policy.users.len())?;
+    let place = later(draft, rng)?;
     let before = &draft.policy.users[place - 1].name;
     let length = (before.len() > 1).then(|| rng.range(1, before.len() - 1))?;
     rename(draft, place, before[..length].to_string())
@@ -119,7 +128,7 @@ fn place_missing(
     count: usize,
     rights: fn(&mut User) -> &mut Rights,
 ) -> Option<Expected> {
-    let user = rng.place(0, draft.policy.users.len())?;
+    let user = any_place(draft, rng)?;
     if count >= 64 {
         return None;
     }
@@ -143,6 +152,13 @@ pub enum Inclusion {
 }
 
 impl Inclusion {
+    pub const ALL: [Inclusion; 4] = [
+        Inclusion::WriteInRead,
+        Inclusion::DefaultInRead,
+        Inclusion::RowInDefault,
+        Inclusion::RowInWrite,
+    ];
+
     /// Which of read, write, default and row have a place, where only this rule is broken.
     fn broken(self, bit: u64) -> [u64; 4] {
         match self {
@@ -156,7 +172,7 @@ impl Inclusion {
 
 /// Puts one compartment into some of read, write, default and row, and takes it from the others.
 pub fn compartment(draft: &mut Draft, rng: &mut Rng, rule: Inclusion) -> Option<Expected> {
-    let user = rng.place(0, draft.policy.users.len())?;
+    let user = any_place(draft, rng)?;
     let count = draft.policy.compartments.len().min(64);
     let bit = 1 << rng.place(0, count)?;
     let [read, write, default, row] = rule.broken(bit);
@@ -168,10 +184,20 @@ pub fn compartment(draft: &mut Draft, rng: &mut Rng, rule: Inclusion) -> Option<
     rewrite(draft, user)
 }
 
-/// Puts one group into some of the sets. From the others it goes with its ancestors, and what they
-/// then no longer reach goes too, so that no other rule is broken.
+/// Breaks a rule by below for any user.
 pub fn group(draft: &mut Draft, rng: &mut Rng, rule: Inclusion) -> Option<Expected> {
-    let place = rng.place(0, draft.policy.users.len())?;
+    let place = any_place(draft, rng)?;
+    group_of(draft, rng, rule, place)
+}
+
+/// Puts one group into some of a user's sets. From the others it goes with its ancestors, and what
+/// they then no longer reach goes too, so that no other rule is broken.
+pub fn group_of(
+    draft: &mut Draft,
+    rng: &mut Rng,
+    rule: Inclusion,
+    place: usize,
+) -> Option<Expected> {
     let count = draft.policy.groups.len().min(64);
     let group = rng.place(0, count)?;
     let policy: &Policy = &draft.policy;
@@ -190,7 +216,8 @@ pub fn group(draft: &mut Draft, rng: &mut Rng, rule: Inclusion) -> Option<Expect
         default: new_default,
         row: keep(old.row, row) & both | row,
     };
-    rewrite(draft, place)
+    rewrite(draft, place)?;
+    Expected::below(draft.policy.user_at(place))
 }
 
 pub fn unused(draft: &mut Draft, rng: &mut Rng) -> Option<Expected> {

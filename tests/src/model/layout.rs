@@ -2,7 +2,8 @@
 
 pub const BLOCK: usize = 512;
 
-#[derive(Clone, Copy, PartialEq, Eq)]
+/// The kinds of records.
+#[derive(Clone, Copy, Debug, PartialEq, Eq)]
 pub enum Kind {
     Component,
     Label,
@@ -41,10 +42,15 @@ impl Run {
         self.in_block.min(self.count - before)
     }
 
+    /// The block of the record at a place, and the record's place there.
+    pub fn at(&self, place: usize) -> (usize, usize) {
+        (self.first + place / self.in_block, place % self.in_block)
+    }
+
     /// The offset in the image of the record at a place.
     pub fn offset(&self, place: usize) -> usize {
-        let block = self.first + place / self.in_block;
-        block * BLOCK + 4 + place % self.in_block * self.size
+        let (block, record) = self.at(place);
+        block * BLOCK + 4 + record * self.size
     }
 }
 
@@ -84,6 +90,11 @@ impl Counts {
             3 => Some((self.levels + self.compartments, self.groups)),
             _ => None,
         }
+    }
+
+    /// All records, in the order of their kinds.
+    pub fn runs(&self) -> [Run; 3] {
+        [self.components(), self.labels(), self.users()]
     }
 
     pub fn components(&self) -> Run {

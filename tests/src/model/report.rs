@@ -1,12 +1,12 @@
-//! The report program: it "reads an image from standard input into a 65,536-byte buffer and writes, by
-//! user and then tag, the verdicts at the opened session".
+//! The report program: it "reads an image from standard input into a 65,536-byte buffer and writes,
+//! by user and then tag, the verdicts at the opened session".
 
 use super::layout::{u32_at, Image};
 use super::records::name_of;
 use super::{accepted, may_read, may_write, open, Refusal};
 
-/// All that the program writes for an input. "Input past the buffer is refused 1", as is an image of
-/// that length.
+/// All that the program writes for an input. "Input past the buffer is refused 1", as is an image
+/// of that length.
 pub fn report(input: &[u8]) -> String {
     match accepted(input) {
         Ok(image) => (0..image.counts.users().count)
@@ -16,11 +16,16 @@ pub fn report(input: &[u8]) -> String {
     }
 }
 
-/// "A refused image gives one line, as `refused 3` or `refused 2 at block 0`."
+/// "A refused image gives one line", with the block, the record or the group that the number tells.
 fn refused(refusal: Refusal) -> String {
+    let number = refusal.number();
     match refusal {
-        Refusal::Block(block) => format!("refused 2 at block {block}\n"),
-        _ => format!("refused {}\n", refusal.number()),
+        Refusal::Block(block) => format!("refused {number} at block {block}\n"),
+        Refusal::Record { block, record, .. } => {
+            format!("refused {number} at block {block} record {record}\n")
+        }
+        Refusal::Ring(group) => format!("refused {number} at group {group}\n"),
+        _ => format!("refused {number}\n"),
     }
 }
 

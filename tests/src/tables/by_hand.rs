@@ -1,5 +1,6 @@
 //! Row calls on the sample co-operative with answers by hand.
 
+use crate::builder::layout::{seal, BLOCK};
 use crate::builder::{sample, to_image};
 use crate::ffi::{Answer, SESSION};
 use crate::row_calls::{Lent, RowCall};
@@ -136,23 +137,44 @@ fn masked_reading(ask: Ask) {
     }
 }
 
+/// The sample's image with another byte in a block, and the block's check mended.
+fn changed(block: usize, at: usize, byte: u8) -> Vec<u8> {
+    let mut image = to_image(&sample());
+    image[block * BLOCK + at] = byte;
+    seal(&mut image, block);
+    image
+}
+
+/// Images of the sample, each with the refusal that every call gives to a broken session. Block 1
+/// holds the components, block 2 the labels and block 3 the user.
+fn images() -> Vec<(Vec<u8>, Answer)> {
+    let whole = to_image(&sample());
+    let mut unsound = whole.clone();
+    unsound[600] ^= 1;
+    vec![
+        (whole[..511].to_vec(), refused(1, 0)),
+        (unsound, refused(2, 1)),
+        (whole[..1_024].to_vec(), refused(31, 0)),
+        (changed(2, 509, 1), refused(31, 0)),
+        (changed(1, 4 + 8 * 40 + 35, 1), refused(32, 65_536 + 8)),
+        (changed(2, 4 + 24 + 4, 3), refused(33, 2 * 65_536 + 1)),
+        (changed(3, 4 + 31, 128), refused(34, 3 * 65_536)),
+        // The third group is its own parent.
+        (changed(1, 4 + 7 * 40 + 34, 2), refused(35, 2)),
+        // MARA's write group is SOUTH, which isn't below NORTH.
+        (changed(3, 4 + 80, 8), refused(34, 3 * 65_536)),
+        (whole, refused(19, 0)),
+    ]
+}
+
 /// At first all is wrong; then one thing after the other is mended.
 fn refusals_in_order(ask: Ask) {
-    let whole = to_image(&sample());
-    let mut changed = whole.clone();
-    changed[600] ^= 1;
-    let images: [(&[u8], Answer); 4] = [
-        (&whole[..511], refused(1, 0)),
-        (&changed, refused(2, 1)),
-        (&whole[..1_024], refused(3, 0)),
-        (&whole, refused(19, 0)),
-    ];
     let mut broken = lent(0);
     broken.session[12] = 0;
-    for (image, answer) in images {
+    for (image, answer) in images() {
         for call in calls(5) {
             let mut given = broken.clone();
-            assert_eq!(ask(image, &call, &mut given), answer, "{call:?}");
+            assert_eq!(ask(&image, &call, &mut given), answer, "{call:?}");
             assert_eq!(given.difference(&broken), None, "{call:?}");
         }
     }

@@ -48,7 +48,7 @@ pub fn each_row_call(seed: u64, count: usize, mut see: impl FnMut(&Step)) {
         if walk.rng.once_in(CALLS_EACH) {
             table = Table::new(&mut walk);
         }
-        let image = walk.image();
+        let image = walk.image(images.len());
         let session = walk.session();
         let width = table.call_width(&mut walk.rng);
         let readable = readable(&own, &session, &table.bytes, width);

@@ -102,12 +102,14 @@ fn place_of(class: &[Component], name: &str) -> usize {
     place.unwrap_or_else(|| panic!("no {name} in its class"))
 }
 
-/// The refusal that NUMBER or NUMBER@PLACE stands for.
+/// The refusal that NUMBER, NUMBER@PLACE or NUMBER@BLOCK.RECORD stands for.
 fn read_refusal(text: &str) -> Option<Answer> {
     let (number, place) = text.split_once('@').unwrap_or((text, "0"));
+    let (block, record) = place.split_once('.').unwrap_or(("0", place));
+    let [block, record] = [block, record].map(|it| it.parse::<u32>().ok());
     Some(Answer::Refused {
         number: number.parse().ok()?,
-        place: place.parse().ok()?,
+        place: block? * 65_536 + record?,
     })
 }
 

@@ -6,7 +6,7 @@ use crate::builder::Policy;
 use std::collections::BTreeSet;
 
 /// All files that are run. The sample's comes last.
-const FILES: [&str; 10] = [
+const FILES: [&str; 11] = [
     include_str!("../../vectors/reading.txt"),
     include_str!("../../vectors/privileges.txt"),
     include_str!("../../vectors/writing.txt"),
@@ -16,6 +16,7 @@ const FILES: [&str; 10] = [
     include_str!("../../vectors/two_labels.txt"),
     include_str!("../../vectors/relabelling.txt"),
     include_str!("../../vectors/inverse_groups.txt"),
+    include_str!("../../vectors/places.txt"),
     SAMPLE,
 ];
 

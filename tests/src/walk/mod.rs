@@ -1,5 +1,5 @@
-//! Calls on sessions by seed. A seed names a policy and a walk through its users' sessions: they are
-//! opened, changed and asked, whole and broken, with the policy's image and with damaged ones.
+//! Calls on sessions by seed. A seed names a policy and a walk through its users' sessions: they
+//! are opened, changed and asked, whole and broken, with the policy's image and with damaged ones.
 
 mod breaks;
 mod bytes;
@@ -44,7 +44,7 @@ pub fn each_call(seed: u64, count: usize, mut see: impl FnMut(&Step)) {
     let images = walk.images();
     let checked: Vec<_> = images.iter().map(|image| model::accepted(image)).collect();
     for _ in 0..count {
-        let image = walk.image();
+        let image = walk.image(images.len());
         let lent = walk.session();
         let call = walk.call(&lent);
         let mut session = lent;
@@ -106,24 +106,26 @@ impl Walk {
         answer
     }
 
-    /// The policy's image, and damaged ones that are refused by 1, by 2 and by 3.
+    /// The policy's image, and damaged ones: for each number that refuses an image one, where the
+    /// policy has what such damage needs.
     pub fn images(&mut self) -> Vec<Vec<u8>> {
         let mut images = vec![to_image(&self.policy)];
-        for number in 1..=3 {
-            images.push(damaged(&self.policy, number, &mut self.rng));
+        for number in [1, 2, 31, 32, 33, 34, 35] {
+            images.extend(damaged(&self.policy, number, &mut self.rng));
         }
         images
     }
 
-    pub fn image(&mut self) -> usize {
+    /// Which of so many images is lent: mostly the first.
+    pub fn image(&mut self, count: usize) -> usize {
         match self.rng.index(16) {
-            0 => self.rng.range(1, 3),
+            0 => self.rng.range(1, count - 1),
             _ => 0,
         }
     }
 
-    /// Mostly one that was handed out; some are broken then, or given to another user. Bytes that are
-    /// not looked at often hold anything.
+    /// Mostly one that was handed out; some are broken then, or given to another user. Bytes that
+    /// are not looked at often hold anything.
     pub fn session(&mut self) -> [u8; SESSION] {
         let rng = &mut self.rng;
         if self.sessions.is_empty() || rng.once_in(40) {
@@ -247,15 +249,14 @@ impl Walk {
     }
 }
 
-/// Kinds of damage are tried until one is refused with the number.
-fn damaged(policy: &Policy, number: u32, rng: &mut Rng) -> Vec<u8> {
-    loop {
-        let mut draft = Draft::new(policy.clone());
-        let expected = rng.pick(Damage::ALL).apply(&mut draft, rng);
-        if expected.is_some_and(|expected| expected.refusal().number() == number) {
-            return draft.image;
-        }
-    }
+/// The kinds of damage that the number refuses are tried in any order until one can be done.
+fn damaged(policy: &Policy, number: u32, rng: &mut Rng) -> Option<Vec<u8>> {
+    let kinds = Damage::ALL.iter().filter(|it| it.number() == number);
+    let mut kinds: Vec<&Damage> = kinds.collect();
+    rng.shuffle(&mut kinds);
+    let mut draft = Draft::new(policy.clone());
+    let done = kinds.iter().find_map(|it| it.apply(&mut draft, rng));
+    done.map(|_| draft.image)
 }
 
 /// Zeros or random bytes, often with the place of a user.

@@ -1,0 +1,98 @@
+//! The numbers that calls refuse with.
+
+use super::layout::Kind;
+
+/// What the calls refuse, with the values that belong to the number.
+#[derive(Clone, Copy, Debug, PartialEq, Eq)]
+pub enum Refusal {
+    /// 1: length 0, not a multiple of 512, over 65,536.
+    Length,
+    /// 2: a block's check or place is wrong; the lowest such block.
+    Block(usize),
+    /// 31: the header, a length unfit for its counts, or a block's kind, record count or bytes
+    /// outside records.
+    Layout,
+    /// 32, 33, 34: a component, a label or a user is at fault; its block, and its place there.
+    Record {
+        kind: Kind,
+        block: usize,
+        record: usize,
+    },
+    /// 35: a ring of parents; the lowest group whose parents never end.
+    Ring(usize),
+    /// 4: no user of that name.
+    User,
+    /// 5: a text isn't of the shape of label text.
+    Text,
+    /// 6: a name isn't in its class; its offset.
+    NameUnknown(usize),
+    /// 7: a name came before in its list; its offset.
+    NameRepeated(usize),
+    /// 8: a new label's level is not allowed.
+    Level,
+    /// 9: its compartments are not.
+    Compartments,
+    /// 10: its groups are not.
+    Groups,
+    /// 11: the row label would stand outside the new write sets or above the new level.
+    RowLabel,
+    /// 12: a width isn't 5..512, or the table's length isn't a multiple of it.
+    Width,
+    /// 13: the result is longer than its buffer.
+    Room,
+    /// 14: no row n.
+    Row,
+    /// 15: row n isn't writable.
+    RowWrite,
+    /// 16: a payload's length isn't width minus 4.
+    Payload,
+    /// 17: merge letters aren't three of those allowed.
+    Letters,
+    /// 18: a lent label, or a class and place, names a component that the policy lacks.
+    Component,
+    /// 19: a lent session breaks its rules for that image.
+    Session,
+}
+
+impl Refusal {
+    pub fn number(self) -> u32 {
+        match self {
+            Refusal::Length => 1,
+            Refusal::Block(_) => 2,
+            Refusal::Layout => 31,
+            Refusal::Record { kind, .. } => match kind {
+                Kind::Component => 32,
+                Kind::Label => 33,
+                Kind::User => 34,
+            },
+            Refusal::Ring(_) => 35,
+            Refusal::User => 4,
+            Refusal::Text => 5,
+            Refusal::NameUnknown(_) => 6,
+            Refusal::NameRepeated(_) => 7,
+            Refusal::Level => 8,
+            Refusal::Compartments => 9,
+            Refusal::Groups => 10,
+            Refusal::RowLabel => 11,
+            Refusal::Width => 12,
+            Refusal::Room => 13,
+            Refusal::Row => 14,
+            Refusal::RowWrite => 15,
+            Refusal::Payload => 16,
+            Refusal::Letters => 17,
+            Refusal::Component => 18,
+            Refusal::Session => 19,
+        }
+    }
+
+    /// The place in an answer of the C functions, which have one number for block and record.
+    pub fn place(self) -> usize {
+        match self {
+            Refusal::Block(block) => block,
+            Refusal::Record { block, record, .. } => block * 65_536 + record,
+            Refusal::Ring(group) => group,
+            Refusal::NameUnknown(offset) | Refusal::NameRepeated(offset) => offset,
+            _ => 0,
+        }
+    }
+}
