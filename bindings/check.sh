@@ -1,7 +1,8 @@
 #!/usr/bin/env bash
-# The bindings: the archive exports just what the C header and the Rust crate declare, which say the same of what is lent; the crate's
-# tests pass; both report loops and the other C examples print what is stored; valgrind finds no error in any of these programs; and
-# examples/calls.c calls every function and has every line of the examples in docs/CALLS.md. Needs target/staticlib/libabi.a.
+# The bindings: the archive exports just what the C header and the Rust crate declare, which say the same of what is lent and of each
+# refusal; the crate's tests pass; both report loops and the other C examples print what is stored; valgrind finds no error in any of
+# these programs; and examples/calls.c calls every function and has every line of the examples in docs/CALLS.md. Needs
+# target/staticlib/libabi.a.
 set -eu -o pipefail
 cd "$(dirname "$0")/.."
 unset BRAWNESK_LIB_DIR
@@ -37,8 +38,13 @@ if [ -n "$valgrind" ]; then
     CARGO_TARGET_X86_64_UNKNOWN_LINUX_GNU_RUNNER="$valgrind --errors-for-leak-kinds=definite --show-leak-kinds=definite" \
         cargo test --release --offline --quiet --tests
 fi
-cargo build --release --offline --quiet --example report_loop
+cargo build --release --offline --quiet --example report_loop --example messages
 cd ../..
+
+# The header and the crate have the same words for each number from 0 to 255. The header is C++ too, which a C++ compiler sees if there is one.
+gcc -std=c99 -Wall -Wextra -Werror -Iinclude bindings/messages.c -o target/messages
+diff <(target/messages) <(target/cargo/release/examples/messages)
+if command -v g++ >/dev/null; then g++ -x c++ -std=c++11 -Wall -Wextra -Werror -fsyntax-only -Iinclude bindings/messages.c; fi
 
 for example in check report_loop calls; do
     gcc -std=c99 -Wall -Wextra -Werror -Iinclude examples/$example.c target/staticlib/libabi.a -o target/$example
@@ -61,12 +67,33 @@ done
 target/calls sample/cooperative.img | diff - sample/calls.out
 run target/calls sample/cooperative.img | diff - <(cat sample/calls.out; echo "exit 0")
 run target/check sample/cooperative.img | diff - <(cat sample/cooperative.out; echo "exit 0")
-# refusals of both: 1,000 bytes are no whole blocks
-test "$(run target/calls <(head -c 1000 sample/cooperative.img))" = $'check: refused 1\nexit 1'
-test "$(run target/check <(head -c 1000 sample/cooperative.img))" = $'refused 1\nexit 1'
+# A refused image on standard input. Both programs tell the refusal as the report does, with its words on standard error (check) or after
+# it (calls).
+refused_image() {
+    local line=$1 number=${1#refused } words
+    words=$(target/messages | sed -n "s/^${number%% *} //p")
+    cat >target/refused.img
+    diff <(run target/check target/refused.img 2>target/refused.txt) <(printf '%s\nexit 1\n' "$line")
+    diff target/refused.txt <(echo "$words")
+    diff <(run target/calls target/refused.img) <(printf 'check: %s: %s\nexit 1\n' "$line" "$words")
+}
+# The sample with another byte at an offset. In a block's check 0 and 255 count the same.
+with_byte() {
+    head -c "$1" sample/cooperative.img
+    printf "$2"
+    tail -c +$(($1 + 2)) sample/cooperative.img
+}
+head -c 1000 sample/cooperative.img | refused_image 'refused 1'
+head -c 1024 sample/cooperative.img | refused_image 'refused 31'
+with_byte 600 X | refused_image 'refused 2 at block 1'
+with_byte 12 '\377' | refused_image 'refused 31'
+with_byte 551 '\377' | refused_image 'refused 32 at block 1 record 0'
+with_byte 1057 '\377' | refused_image 'refused 33 at block 2 record 1'
+with_byte 1576 '\377' | refused_image 'refused 34 at block 3 record 0'
+with_byte 750 '\0' | refused_image 'refused 35 at group 0'
 
-grep -o 'brawnesk_[a-z0-9_]*(' examples/calls.c | tr -d '(' | grep -vx 'brawnesk_\(refused\|number\|place\)' | sort -u |
-    same_names examples/calls.c
+grep -o 'brawnesk_[a-z0-9_]*(' examples/calls.c | tr -d '(' |
+    grep -vx 'brawnesk_\(refused\|number\|place\|block\|record\|message\)' | sort -u | same_names examples/calls.c
 # The lines of the C examples in docs/CALLS.md: indented blocks before the report program that are no declaration and no command.
 quoted=$(sed '/^## The report program/,$d' docs/CALLS.md | awk '
     !/^    / { block = 0; next }

@@ -20,15 +20,33 @@ static void tell(const char *call, uint64_t answer) {
         printf("%s: %" PRIu64 "\n", call, answer);
 }
 
+static void explain(uint64_t answer) {
+    unsigned number = brawnesk_number(answer);
+    printf("check: refused %u", number);
+    if (number == BRAWNESK_BLOCK_CHECK)
+        printf(" at block %u", (unsigned)brawnesk_place(answer));
+    else if (number >= BRAWNESK_COMPONENT_RECORD && number <= BRAWNESK_USER_RECORD)
+        printf(" at block %u record %u", (unsigned)brawnesk_block(answer), (unsigned)brawnesk_record(answer));
+    else if (number == BRAWNESK_PARENT_RING)
+        printf(" at group %u", (unsigned)brawnesk_place(answer));
+    printf(": %s\n", brawnesk_message(number));
+}
+
 static int check(void) {
     uint64_t answer = brawnesk_check(image, length);
-    if (!brawnesk_refused(answer))
-        puts("check: accepted");
-    else if (brawnesk_number(answer) == 2)
-        printf("check: refused 2 at block %u\n", (unsigned)brawnesk_place(answer));
+    if (brawnesk_refused(answer))
+        explain(answer);
     else
-        printf("check: refused %u\n", brawnesk_number(answer));
+        puts("check: accepted");
     return !brawnesk_refused(answer);
+}
+
+/* A wrong byte in record 1 of block 1, among the unused ones. It is 255, which counts as 0 does in a block's check: 2 does not refuse it. */
+static void wrong_byte(void) {
+    uint8_t *unused = image + 512 + 4 + 40 + 35;
+    *unused = 255;
+    check();
+    *unused = 0;
 }
 
 static void name(void) {
@@ -164,6 +182,7 @@ int main(int argc, char **argv) {
     fclose(file);
     if (!check())
         return 1;
+    wrong_byte();
     name();
     texts();
     sessions();

@@ -1,8 +1,9 @@
 /* Brawnesk: may this session read or write a row of a shared store?
  *
  * Every function answers one 64-bit number. Below 2^63 the call is done and the number is its value. Otherwise it is refused:
- * 2^63 + number * 2^32 + place, where number is the refusal and place the block (refusal 2) or offset (6 and 7) it names.
- * A refusal changes no lent byte.
+ * 2^63 + number * 2^32 + place, where number is the refusal and place what it names: a block (refusal 2), an offset (6 and 7), a record as
+ * block * 65,536 + its place in the block (32 to 34) or a group (35), each from 0; 0 for every other refusal. A refusal changes no lent byte.
+ * The refusals are listed, and an answer is taken apart, at the end of this header.
  *
  * Lending. What a call writes overlaps nothing else that is lent to it; parts that are only read may overlap each other. Nobody changes
  * what is lent during the call. A slice's length is below 2^63. A pointer to an empty slice may not be null. A buffer that a call only
@@ -18,11 +19,15 @@
 extern "C" {
 #endif
 
-/* Is the policy image accepted? Done: 0. Refusals: 1 length, 2 check or place of a block (its place), 3 any other rule. */
+/* Is the policy image accepted? Done: 0. Refusals: 1 length, 2 check or place of a block (the lowest such block), then 31 to 35:
+ * 31 the header, a length unfit for its counts, or a block's kind, record count or bytes outside records; 32 a component record, 33 a
+ * label record, 34 a user record (its block, and its place there); 35 the parents of a group never end (the lowest such group).
+ * The lowest block decides among 31 to 34, in it 31 first and then the lowest record; of two records that clash the later is at fault.
+ * 35 comes after all these; the rules that a user's groups lie below others come last, as 34. */
 uint64_t brawnesk_check(const uint8_t *image, size_t image_length);
 
 /* Where the name of a component stands: class 1 level, 2 compartment, 3 group; place counts from 0 in its class.
- * Done: its offset in the image + 65,536 * its length. Refusals: 1, 2, 3, 18 no such component. */
+ * Done: its offset in the image + 65,536 * its length. Refusals: 1, 2, 31 to 35, 18 no such component. */
 uint64_t brawnesk_name(const uint8_t *image, size_t image_length, uint8_t component_class, uint8_t place);
 
 /* A label is 48 bytes: byte 4 the level's place; 8..15 the compartments and 16..47 the groups, as little-endian sets with bit p
@@ -31,11 +36,11 @@ uint64_t brawnesk_name(const uint8_t *image, size_t image_length, uint8_t compon
 enum { BRAWNESK_LABEL = 48 };
 
 /* The label that a text names: LEVEL, LEVEL:list, LEVEL:list:list or LEVEL::list. Done: 0, and the label's 48 bytes are written.
- * Refusals: 1, 2, 3, 5 the text's shape, then the leftmost name refused by 6 not in its class or 7 repeated (its offset). */
+ * Refusals: 1, 2, 31 to 35, 5 the text's shape, then the leftmost name refused by 6 not in its class or 7 repeated (its offset). */
 uint64_t brawnesk_parse(const uint8_t *image, size_t image_length, const uint8_t *text, size_t text_length, uint8_t *label);
 
-/* A label's text, at the front of the buffer; later bytes stay. Done: its length. Refusals: 1, 2, 3, 18 the label names a
- * component that the policy lacks, 13 the text is longer than the buffer. */
+/* A label's text, at the front of the buffer; later bytes stay. Done: its length. Refusals: 1, 2, 31 to 35, 18 the label
+ * names a component that the policy lacks, 13 the text is longer than the buffer. */
 uint64_t brawnesk_print(const uint8_t *image, size_t image_length, const uint8_t *label, uint8_t *text, size_t text_length);
 
 /* A session is 104 bytes: byte 0 the user's place; byte 1 the same again (otherwise 19); 8..55 the session label; 56..103 the row
@@ -43,35 +48,35 @@ uint64_t brawnesk_print(const uint8_t *image, size_t image_length, const uint8_t
 enum { BRAWNESK_SESSION = 104 };
 
 /* Opens a session for the user of that name, with the default label and the default row label. Done: 0, and the session's 104 bytes
- * are written. Refusals: 1, 2, 3, 4 no user of that name. */
+ * are written. Refusals: 1, 2, 31 to 35, 4 no user of that name. */
 uint64_t brawnesk_open(const uint8_t *image, size_t image_length, const uint8_t *name, size_t name_length, uint8_t *session);
 
 /* Gives the session the session label, or the row label, that a text names. Done: 0, and the session's 104 bytes are written.
- * Refusals: 1, 2, 3, 19 the session breaks its rules for that image, 5, then the leftmost name refused by 6 or 7 (its offset), then 8
- * level, 9 compartments, 10 groups not allowed; a new session label also 11 the row label would stand outside it. */
+ * Refusals: 1, 2, 31 to 35, 19 the session breaks its rules for that image, 5, then the leftmost name refused by 6 or 7 (its offset),
+ * then 8 level, 9 compartments, 10 groups not allowed; a new session label also 11 the row label would stand outside it. */
 uint64_t brawnesk_set_label(const uint8_t *image, size_t image_length, uint8_t *session, const uint8_t *text, size_t text_length);
 uint64_t brawnesk_set_row_label(const uint8_t *image, size_t image_length, uint8_t *session, const uint8_t *text, size_t text_length);
 
-/* May the session read, or write, a row of that tag? Done: 1 yes, 0 no. Refusals: 1, 2, 3, 19. */
+/* May the session read, or write, a row of that tag? Done: 1 yes, 0 no. Refusals: 1, 2, 31 to 35, 19. */
 uint64_t brawnesk_may_read(const uint8_t *image, size_t image_length, const uint8_t *session, uint32_t tag);
 uint64_t brawnesk_may_write(const uint8_t *image, size_t image_length, const uint8_t *session, uint32_t tag);
 
 /* A table is a run of rows of one width, 5 to 512 bytes: the tag in 4 bytes, little-endian, and then the payload. */
 
 /* Copies the rows that the session may read, whole and in order, to the front of the buffer; later bytes stay. Done: how many rows.
- * Refusals: 1, 2, 3, 19, 12 the width is not 5 to 512 or the table's length no multiple of it, 13 the rows are longer than the
- * buffer. */
+ * Refusals: 1, 2, 31 to 35, 19, 12 the width is not 5 to 512 or the table's length no multiple of it, 13 the rows are longer than
+ * the buffer. */
 uint64_t brawnesk_read(const uint8_t *image, size_t image_length, const uint8_t *session, const uint8_t *table, size_t table_length,
                        size_t width, uint8_t *out, size_t out_length);
 
 /* Replaces the payload of row n, counted from 0 among the rows that the session may read now, and no other byte. Done: 0.
- * Refusals: 1, 2, 3, 19, 12, 16 the payload's length is not the width minus 4, 14 no row n, 15 row n is not writable. */
+ * Refusals: 1, 2, 31 to 35, 19, 12, 16 the payload's length is not the width minus 4, 14 no row n, 15 row n is not writable. */
 uint64_t brawnesk_update(const uint8_t *image, size_t image_length, const uint8_t *session, uint8_t *table, size_t table_length,
                          size_t width, size_t n, const uint8_t *payload, size_t payload_length);
 
 /* The payload or the mask, for the row at that place, counted from 0 among all rows? Done: 1 the payload, which stands at
  * place * width + 4 of the table, width - 4 bytes; 0 the mask. The mask's bytes are not looked at.
- * Refusals: 1, 2, 3, 19, 12, 14 no row at that place. */
+ * Refusals: 1, 2, 31 to 35, 19, 12, 14 no row at that place. */
 uint64_t brawnesk_masked(const uint8_t *image, size_t image_length, const uint8_t *session, const uint8_t *table, size_t table_length,
                          size_t width, size_t place, const uint8_t *mask, size_t mask_length);
 
@@ -83,9 +88,54 @@ uint64_t brawnesk_strictly_dominates(const uint8_t *label1, const uint8_t *label
  * N none, for the compartments and for the groups. Done: 0, and the 48 bytes of merged are written. Refusal: 17 other letters. */
 uint64_t brawnesk_merge(const uint8_t *label1, const uint8_t *label2, const uint8_t *letters, size_t letters_length, uint8_t *merged);
 
+/* The refusals: number, name, and what is wrong in words. The enum and brawnesk_message are made of this list. */
+#define BRAWNESK_REFUSALS(REFUSAL) \
+    REFUSAL(1, BRAWNESK_IMAGE_LENGTH, "the image's length is 0, is not a multiple of 512, or is over 65,536 bytes") \
+    REFUSAL(2, BRAWNESK_BLOCK_CHECK, "the block's check is wrong, or the place stored in it is not where it stands") \
+    REFUSAL(4, BRAWNESK_NO_USER, "no user has that name") \
+    REFUSAL(5, BRAWNESK_TEXT_SHAPE, "the text is too long, or is not LEVEL, LEVEL:list, LEVEL:list:list or LEVEL::list") \
+    REFUSAL(6, BRAWNESK_UNKNOWN_NAME, "a name in the text is not in its class: level, compartment or group") \
+    REFUSAL(7, BRAWNESK_REPEATED_NAME, "a name in the text stands earlier in the same list") \
+    REFUSAL(8, BRAWNESK_LEVEL_NOT_ALLOWED, "the level of the new label is not allowed") \
+    REFUSAL(9, BRAWNESK_COMPARTMENTS_NOT_ALLOWED, "the compartments of the new label are not allowed") \
+    REFUSAL(10, BRAWNESK_GROUPS_NOT_ALLOWED, "the groups of the new label are not allowed") \
+    REFUSAL(11, BRAWNESK_ROW_LABEL_OUTSIDE, "the row label would be above the new level, or outside the new write compartments or groups") \
+    REFUSAL(12, BRAWNESK_TABLE_SHAPE, "the row width is not 5 to 512, or the table's length is not a multiple of it") \
+    REFUSAL(13, BRAWNESK_ROOM, "the result is longer than the buffer for it") \
+    REFUSAL(14, BRAWNESK_NO_ROW, "there is no row of that number") \
+    REFUSAL(15, BRAWNESK_ROW_NOT_WRITABLE, "the session may not write that row") \
+    REFUSAL(16, BRAWNESK_PAYLOAD_LENGTH, "the payload's length is not the row width minus 4") \
+    REFUSAL(17, BRAWNESK_MERGE_LETTERS, "the merge letters are not three, or one is not allowed at its place") \
+    REFUSAL(18, BRAWNESK_NO_COMPONENT, "the policy lacks a level, compartment or group that the call names") \
+    REFUSAL(19, BRAWNESK_SESSION_RULES, "the session breaks its rules for this image") \
+    REFUSAL(31, BRAWNESK_IMAGE_LAYOUT, "the header, the length for its counts, or a block's kind, record count or bytes outside records are wrong") \
+    REFUSAL(32, BRAWNESK_COMPONENT_RECORD, \
+            "the component's class, name, numeric form, parent or unused bytes are wrong, its name repeats, or its numeric form does not rise") \
+    REFUSAL(33, BRAWNESK_LABEL_RECORD, "the label's tag, level, compartments, groups or unused bytes are wrong, or its tag does not rise") \
+    REFUSAL(34, BRAWNESK_USER_RECORD, \
+            "the user's name, privileges, levels, compartments, groups or unused bytes are wrong, or its name does not rise") \
+    REFUSAL(35, BRAWNESK_PARENT_RING, "the group's parents never end: they come back to a group that they passed")
+
+#define BRAWNESK_NAMED(number, name, words) name = number,
+enum { BRAWNESK_REFUSALS(BRAWNESK_NAMED) };
+#undef BRAWNESK_NAMED
+
+/* An answer taken apart. Only a refused one has a number and a place. */
 static inline int brawnesk_refused(uint64_t answer) { return answer >> 63 != 0; }
 static inline unsigned brawnesk_number(uint64_t answer) { return (unsigned)(answer >> 32 & 0x7fffffff); }
 static inline uint32_t brawnesk_place(uint64_t answer) { return (uint32_t)answer; }
+
+/* The record that 32, 33 or 34 names: its block, and its place in the block, both from 0. Ask for them of no other number. */
+static inline uint32_t brawnesk_block(uint64_t answer) { return brawnesk_place(answer) / 65536; }
+static inline uint32_t brawnesk_record(uint64_t answer) { return brawnesk_place(answer) % 65536; }
+
+/* What is wrong, in words, by the refusal's number. Any number may be asked for. */
+#define BRAWNESK_SAID(number, name, words) case name: return words;
+static inline const char *brawnesk_message(unsigned number) {
+    switch (number) { BRAWNESK_REFUSALS(BRAWNESK_SAID) }
+    return "a refusal that this program does not know";
+}
+#undef BRAWNESK_SAID
 
 #ifdef __cplusplus
 }

@@ -19,7 +19,7 @@ mod text;
 mod two_labels;
 mod verdicts;
 
-use brawnesk_tests::model::{Fault, Refusal};
+use brawnesk_tests::model::{Kind, Refusal};
 use groups::Ancestors;
 use records::{component_holds, label_holds, user_holds, Earlier};
 
@@ -57,10 +57,7 @@ pub fn check(image: &[u8]) -> Result<(), Refusal> {
             return Err(Refusal::Block(place));
         }
     }
-    match first_fault(blocks) {
-        Some(_) => Err(Refusal::Image),
-        None => Ok(()),
-    }
+    first_fault(blocks).map_or(Ok(()), Err)
 }
 
 /// How often each byte of a block counts in the second sum: as often as sums are taken from it on.
@@ -87,9 +84,10 @@ fn sums(block: &Block) -> [u8; 2] {
     [(a % 255) as u8, (b % 255) as u8]
 }
 
-fn first_fault(blocks: &[Block]) -> Option<Fault> {
+/// The first fault where neither 1 nor 2 refuses the image, as its refusal: one of 31 to 35.
+fn first_fault(blocks: &[Block]) -> Option<Refusal> {
     let Some(counts) = header(blocks) else {
-        return Some(Fault::Block { block: 0 });
+        return Some(Refusal::Layout);
     };
     let components = (counts.levels + counts.compartments + counts.groups).div_ceil(12);
     let labels = counts.labels.div_ceil(21);
@@ -102,7 +100,7 @@ fn first_fault(blocks: &[Block]) -> Option<Fault> {
     }
     match Ancestors::read(blocks, &counts) {
         Ok(ancestors) => below_fault(blocks, &counts, first_user, &ancestors),
-        Err(group) => Some(Fault::Ring { group }),
+        Err(group) => Some(Refusal::Ring(group)),
     }
 }
 
@@ -138,49 +136,49 @@ fn records<const SIZE: usize>(block: &Block, kind: u8, count: usize) -> Option<&
     holds.then_some(records.as_chunks().0)
 }
 
-fn component_fault(blocks: &[Block], counts: &Counts) -> Option<Fault> {
+fn component_fault(blocks: &[Block], counts: &Counts) -> Option<Refusal> {
     let total = counts.levels + counts.compartments + counts.groups;
     let mut earlier = Earlier::new();
     for (at, first) in (0..total).step_by(12).enumerate() {
         let block = at + 1;
         let Some(records) = records(&blocks[block], 67, (total - first).min(12)) else {
-            return Some(Fault::Block { block });
+            return Some(Refusal::Layout);
         };
         for (record, bytes) in records.iter().enumerate() {
             if !component_holds(bytes, first + record, counts, &mut earlier) {
-                return Some(Fault::Component { block, record });
+                return Some(at_fault(Kind::Component, block, record));
             }
         }
     }
     None
 }
 
-fn label_fault(blocks: &[Block], counts: &Counts, first_block: usize) -> Option<Fault> {
+fn label_fault(blocks: &[Block], counts: &Counts, first_block: usize) -> Option<Refusal> {
     let mut before = 0;
     for (at, first) in (0..counts.labels).step_by(21).enumerate() {
         let block = first_block + at;
         let Some(records) = records(&blocks[block], 76, (counts.labels - first).min(21)) else {
-            return Some(Fault::Block { block });
+            return Some(Refusal::Layout);
         };
         for (record, bytes) in records.iter().enumerate() {
             if !label_holds(bytes, counts, &mut before) {
-                return Some(Fault::Label { block, record });
+                return Some(at_fault(Kind::Label, block, record));
             }
         }
     }
     None
 }
 
-fn user_fault(blocks: &[Block], counts: &Counts, first_block: usize) -> Option<Fault> {
+fn user_fault(blocks: &[Block], counts: &Counts, first_block: usize) -> Option<Refusal> {
     let mut before: &[u8] = &[];
     for (at, first) in (0..counts.users).step_by(3).enumerate() {
         let block = first_block + at;
         let Some(records) = records(&blocks[block], 85, (counts.users - first).min(3)) else {
-            return Some(Fault::Block { block });
+            return Some(Refusal::Layout);
         };
         for (record, bytes) in records.iter().enumerate() {
             if !user_holds(bytes, counts, before) {
-                return Some(Fault::User { block, record });
+                return Some(at_fault(Kind::User, block, record));
             }
             before = &bytes[1..][..usize::from(bytes[0])];
         }
@@ -193,13 +191,18 @@ fn below_fault(
     counts: &Counts,
     first_block: usize,
     ancestors: &Ancestors,
-) -> Option<Fault> {
+) -> Option<Refusal> {
     let broken = (0..counts.users).find(|user| {
         let record = &blocks[first_block + user / 3][4 + user % 3 * 128..][..128];
         !ancestors.user_holds(record)
     });
-    broken.map(|user| Fault::User {
-        block: first_block + user / 3,
-        record: user % 3,
-    })
+    broken.map(|user| at_fault(Kind::User, first_block + user / 3, user % 3))
+}
+
+fn at_fault(kind: Kind, block: usize, record: usize) -> Refusal {
+    Refusal::Record {
+        kind,
+        block,
+        record,
+    }
 }

@@ -44,8 +44,7 @@ impl Lent {
         let record = policy.user(session.user.into());
         let lent = Lent {
             session,
-            ancestors: Ancestors::read(policy.blocks, &policy.counts)
-                .map_err(|_| Refusal::Image)?,
+            ancestors: Ancestors::read(policy.blocks, &policy.counts).map_err(Refusal::Ring)?,
             privileges: record[31],
             maximum: record[32],
             minimum: record[33],

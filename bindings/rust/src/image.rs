@@ -35,13 +35,21 @@ impl<'a> Image<'a> {
         (self.0.as_ptr(), self.0.len())
     }
 
-    /// Is the image accepted? Refusals: 1 length, 2 check or place of a block, 3 any other rule. The
-    /// calls that are lent an image give these three first.
+    /// Is the image accepted? Refusals: 1 length, 2 check or place of a block, then 31 to 35: 31 the
+    /// header, a length unfit for its counts, or a block's kind, record count or bytes outside
+    /// records; 32 a component record, 33 a label record, 34 a user record; 35 the parents of a group
+    /// never end. The lowest block decides among 31 to 34, in it 31 first and then the lowest record;
+    /// of two records that clash the later is at fault. 35 comes after all these; the rules that a
+    /// user's groups lie below others come last, as 34. The calls that are lent an image give 1, 2 and
+    /// 31 to 35 first.
     ///
     /// ```
     /// # use brawnesk::{Image, Refusal};
     /// let mut bytes = std::fs::read("../../sample/cooperative.img")?;
     /// assert_eq!(Image::new(&bytes).check(), Ok(()));
+    /// bytes[512 + 4 + 40 + 35] = 255; // unused; in a block's check 255 counts as 0
+    /// let refusal = Refusal::ComponentRecord { block: 1, record: 1 };
+    /// assert_eq!(Image::new(&bytes).check(), Err(refusal));
     /// bytes[600] = b'X';
     /// assert_eq!(Image::new(&bytes).check(), Err(Refusal::BlockCheck(1)));
     /// # Ok::<(), std::io::Error>(())
@@ -53,7 +61,7 @@ impl<'a> Image<'a> {
     }
 
     /// The name of the component of that class and place, counted from 0 in its class: the part of
-    /// the image that holds it. Refusals: 1, 2, 3, 18 no such component.
+    /// the image that holds it. Refusals: 1, 2, 31 to 35, 18 no such component.
     ///
     /// ```
     /// # use brawnesk::{Class, Image, Refusal};
@@ -71,8 +79,8 @@ impl<'a> Image<'a> {
     }
 
     /// The label that a text names: `LEVEL`, `LEVEL:list`, `LEVEL:list:list` or `LEVEL::list`.
-    /// Refusals: 1, 2, 3, 5 the text's shape, then the leftmost name refused by 6 not in its class or
-    /// 7 repeated.
+    /// Refusals: 1, 2, 31 to 35, 5 the text's shape, then the leftmost name refused by 6 not in its
+    /// class or 7 repeated.
     ///
     /// ```
     /// # use brawnesk::{Image, Refusal};
@@ -92,8 +100,8 @@ impl<'a> Image<'a> {
     }
 
     /// A label's text, at the front of the buffer; later bytes stay. 4,096 bytes are always enough.
-    /// Refusals: 1, 2, 3, 18 the policy lacks what the label names, 13 the text is longer than the
-    /// buffer.
+    /// Refusals: 1, 2, 31 to 35, 18 the policy lacks what the label names, 13 the text is longer than
+    /// the buffer.
     ///
     /// ```
     /// # use brawnesk::{Image, Refusal};
@@ -113,7 +121,7 @@ impl<'a> Image<'a> {
     }
 
     /// Opens a session for the user of that name, with the default label and the default row label.
-    /// Refusals: 1, 2, 3, 4 no user of that name.
+    /// Refusals: 1, 2, 31 to 35, 4 no user of that name.
     ///
     /// ```
     /// # use brawnesk::{Image, Refusal};

@@ -12,8 +12,11 @@
 //! | `brawnesk_read`, `brawnesk_update`, `brawnesk_masked` | [`Session::read`], [`Session::update`], [`Session::masked`] |
 //! | `brawnesk_dominates`, `brawnesk_strictly_dominates` | [`Label::dominates`], [`Label::strictly_dominates`] |
 //! | `brawnesk_merge` | [`Label::merge`] |
+//! | the inline functions that take an answer apart | [`decode`], [`Refusal::number`], [`Refusal::place`], [`Refusal::message`] |
 //!
-//! **Refusals.** A call that can be refused gives a [`Refusal`]. A refusal changes no lent byte.
+//! **Refusals.** A call that can be refused gives a [`Refusal`]: its number, what is returned beside it,
+//! and what is wrong in words. A refusal changes no lent byte. A number that this crate does not know is
+//! [`Refusal::Unknown`].
 //!
 //! **Every call that is lent an image checks it.** An [`Image`] is only a borrow; it does not say that
 //! the bytes were checked.

@@ -3,18 +3,22 @@
 use std::error::Error;
 use std::fmt::{self, Display, Formatter};
 
-/// Why a call was not done: a case for each number of the scope paper's table, with what the table
-/// says is returned beside the number.
+/// Why a call was not done: a case for each number that the C header lists, with what is returned
+/// beside the number, and one case for any other number.
 ///
 /// ```
 /// use brawnesk::{Image, Refusal};
 ///
-/// let refusal = Image::new(&[]).check().unwrap_err();
-/// assert_eq!(refusal, Refusal::ImageLength);
+/// let mut bytes = std::fs::read("../../sample/cooperative.img")?;
+/// bytes[1_024 + 4 + 5] = 255; // unused; in a block's check 255 counts as 0
+/// let refusal = Image::new(&bytes).check().unwrap_err();
+/// assert_eq!(refusal, Refusal::LabelRecord { block: 2, record: 0 });
 /// assert_eq!(
 ///     refusal.to_string(),
-///     "refused 1: length 0, not a multiple of 512, over 65,536",
+///     "refused 33 at block 2 record 0: the label's tag, level, compartments, groups or unused \
+///      bytes are wrong, or its tag does not rise",
 /// );
+/// # Ok::<(), std::io::Error>(())
 /// ```
 #[derive(Clone, Copy, Debug, PartialEq, Eq, Hash)]
 #[non_exhaustive]
@@ -23,8 +27,6 @@ pub enum Refusal {
     ImageLength,
     /// 2: a block's check or place is wrong; the lowest such block.
     BlockCheck(u32),
-    /// 3: any other rule of images is broken.
-    ImageRule,
     /// 4: no user of that name.
     NoUser,
     /// 5: the text does not have the shape of a label's text.
@@ -57,16 +59,50 @@ pub enum Refusal {
     NoComponent,
     /// 19: a lent session breaks its rules for that image.
     SessionRules,
+    /// 31: the header, a length unfit for its counts, or a block's kind, record count or bytes
+    /// outside records.
+    ImageLayout,
+    /// 32: a component record is at fault.
+    ComponentRecord {
+        /// Its block, from 0.
+        block: u16,
+        /// Its place in the block, from 0.
+        record: u16,
+    },
+    /// 33: a label record is at fault.
+    LabelRecord {
+        /// Its block, from 0.
+        block: u16,
+        /// Its place in the block, from 0.
+        record: u16,
+    },
+    /// 34: a user record is at fault.
+    UserRecord {
+        /// Its block, from 0.
+        block: u16,
+        /// Its place in the block, from 0.
+        record: u16,
+    },
+    /// 35: the parents of a group never end; the lowest such group's place.
+    ParentRing(u32),
+    /// A number that this crate does not know: it was made for another version of the library.
+    /// [`Refusal::new`] and [`decode`] give it for no number above.
+    Unknown {
+        /// The number.
+        number: u32,
+        /// The place of the answer, whatever it means.
+        place: u32,
+    },
 }
 
 impl Refusal {
-    /// The refusal of that number, with that block or offset; none where the table has no such number.
-    /// A number that returns nothing else has no use for the place.
-    pub fn new(number: u32, place: u32) -> Option<Refusal> {
-        Some(match number {
+    /// The refusal of that number, with the place of a C answer. A number that returns nothing else
+    /// has no use for the place. 32, 33 and 34 have block * 65,536 + record there.
+    pub fn new(number: u32, place: u32) -> Refusal {
+        let (block, record) = ((place >> 16) as u16, place as u16);
+        match number {
             1 => Refusal::ImageLength,
             2 => Refusal::BlockCheck(place),
-            3 => Refusal::ImageRule,
             4 => Refusal::NoUser,
             5 => Refusal::TextShape,
             6 => Refusal::UnknownName(place),
@@ -83,58 +119,123 @@ impl Refusal {
             17 => Refusal::MergeLetters,
             18 => Refusal::NoComponent,
             19 => Refusal::SessionRules,
-            _ => return None,
-        })
+            31 => Refusal::ImageLayout,
+            32 => Refusal::ComponentRecord { block, record },
+            33 => Refusal::LabelRecord { block, record },
+            34 => Refusal::UserRecord { block, record },
+            35 => Refusal::ParentRing(place),
+            _ => Refusal::Unknown { number, place },
+        }
     }
 
-    /// The number in the table.
+    /// The number.
     pub fn number(self) -> u32 {
         self.entry().0
     }
 
-    /// The block or offset that the table names with the number.
+    /// What is wrong, in the words that the C function `brawnesk_message` has for the number.
+    pub fn message(self) -> &'static str {
+        self.entry().1
+    }
+
+    /// The place of a C answer, where the number has one: a block, an offset, a group, or
+    /// block * 65,536 + record. That of an unknown number is as it came.
     pub fn place(self) -> Option<u32> {
         match self {
             Refusal::BlockCheck(place)
             | Refusal::UnknownName(place)
-            | Refusal::RepeatedName(place) => Some(place),
+            | Refusal::RepeatedName(place)
+            | Refusal::ParentRing(place)
+            | Refusal::Unknown { place, .. } => Some(place),
+            Refusal::ComponentRecord { block, record }
+            | Refusal::LabelRecord { block, record }
+            | Refusal::UserRecord { block, record } => {
+                Some(u32::from(block) * 65_536 + u32::from(record))
+            }
             _ => None,
         }
     }
 
-    /// The number, and when it is given, in the paper's words.
+    /// The number, and what is wrong in words.
     fn entry(self) -> (u32, &'static str) {
         match self {
-            Refusal::ImageLength => (1, "length 0, not a multiple of 512, over 65,536"),
-            Refusal::BlockCheck(_) => (2, "a block's check or place is wrong"),
-            Refusal::ImageRule => (3, "any other image rule is broken"),
-            Refusal::NoUser => (4, "no user of that name"),
-            Refusal::TextShape => (5, "text isn't of the shape of label text"),
-            Refusal::UnknownName(_) => (6, "a name isn't in its class"),
-            Refusal::RepeatedName(_) => (7, "a name came before in its list"),
-            Refusal::LevelNotAllowed => (8, "level not allowed"),
-            Refusal::CompartmentsNotAllowed => (9, "compartments not allowed"),
-            Refusal::GroupsNotAllowed => (10, "groups not allowed"),
+            Refusal::ImageLength => (
+                1,
+                "the image's length is 0, is not a multiple of 512, or is over 65,536 bytes",
+            ),
+            Refusal::BlockCheck(_) => (
+                2,
+                "the block's check is wrong, or the place stored in it is not where it stands",
+            ),
+            Refusal::NoUser => (4, "no user has that name"),
+            Refusal::TextShape => (
+                5,
+                "the text is too long, or is not LEVEL, LEVEL:list, LEVEL:list:list or LEVEL::list",
+            ),
+            Refusal::UnknownName(_) => (
+                6,
+                "a name in the text is not in its class: level, compartment or group",
+            ),
+            Refusal::RepeatedName(_) => (7, "a name in the text stands earlier in the same list"),
+            Refusal::LevelNotAllowed => (8, "the level of the new label is not allowed"),
+            Refusal::CompartmentsNotAllowed => {
+                (9, "the compartments of the new label are not allowed")
+            }
+            Refusal::GroupsNotAllowed => (10, "the groups of the new label are not allowed"),
             Refusal::RowLabelOutside => (
                 11,
-                "row label would stand outside the new write sets or above the new level",
+                "the row label would be above the new level, or outside the new write \
+                 compartments or groups",
             ),
-            Refusal::TableShape => (12, "width not 5..512, or length not a multiple of it"),
-            Refusal::Room => (13, "the result is longer than its buffer"),
-            Refusal::NoRow => (14, "no row n"),
-            Refusal::RowNotWritable => (15, "row n isn't writable"),
-            Refusal::PayloadLength => (16, "payload length isn't width minus 4"),
-            Refusal::MergeLetters => (17, "merge letters aren't three of those allowed"),
+            Refusal::TableShape => (
+                12,
+                "the row width is not 5 to 512, or the table's length is not a multiple of it",
+            ),
+            Refusal::Room => (13, "the result is longer than the buffer for it"),
+            Refusal::NoRow => (14, "there is no row of that number"),
+            Refusal::RowNotWritable => (15, "the session may not write that row"),
+            Refusal::PayloadLength => (16, "the payload's length is not the row width minus 4"),
+            Refusal::MergeLetters => (
+                17,
+                "the merge letters are not three, or one is not allowed at its place",
+            ),
             Refusal::NoComponent => (
                 18,
-                "a lent label, or a class and place, names a component the policy lacks",
+                "the policy lacks a level, compartment or group that the call names",
             ),
-            Refusal::SessionRules => (19, "a lent session breaks its rules for that image"),
+            Refusal::SessionRules => (19, "the session breaks its rules for this image"),
+            Refusal::ImageLayout => (
+                31,
+                "the header, the length for its counts, or a block's kind, record count or \
+                 bytes outside records are wrong",
+            ),
+            Refusal::ComponentRecord { .. } => (
+                32,
+                "the component's class, name, numeric form, parent or unused bytes are wrong, its \
+                 name repeats, or its numeric form does not rise",
+            ),
+            Refusal::LabelRecord { .. } => (
+                33,
+                "the label's tag, level, compartments, groups or unused bytes are wrong, or its \
+                 tag does not rise",
+            ),
+            Refusal::UserRecord { .. } => (
+                34,
+                "the user's name, privileges, levels, compartments, groups or unused bytes are \
+                 wrong, or its name does not rise",
+            ),
+            Refusal::ParentRing(_) => (
+                35,
+                "the group's parents never end: they come back to a group that they passed",
+            ),
+            Refusal::Unknown { number, .. } => {
+                (number, "a refusal that this program does not know")
+            }
         }
     }
 }
 
-/// As `refused 2 at block 0: ` and when that is given, in the paper's words.
+/// As `refused 32 at block 1 record 0: ` and what is wrong.
 impl Display for Refusal {
     fn fmt(&self, formatter: &mut Formatter) -> fmt::Result {
         let (number, words) = self.entry();
@@ -144,6 +245,12 @@ impl Display for Refusal {
             Refusal::UnknownName(offset) | Refusal::RepeatedName(offset) => {
                 write!(formatter, " at offset {offset}")?
             }
+            Refusal::ComponentRecord { block, record }
+            | Refusal::LabelRecord { block, record }
+            | Refusal::UserRecord { block, record } => {
+                write!(formatter, " at block {block} record {record}")?
+            }
+            Refusal::ParentRing(group) => write!(formatter, " at group {group}")?,
             _ => (),
         }
         write!(formatter, ": {words}")
@@ -155,25 +262,23 @@ impl Error for Refusal {}
 const REFUSED: u64 = 1 << 63;
 
 /// An answer of a C function taken apart. Below 2^63 it is the value; from there on it is
-/// 2^63 + number * 2^32 + place.
+/// 2^63 + number * 2^32 + place, and a number that this crate does not know is
+/// [`Refusal::Unknown`].
 ///
 /// ```
 /// use brawnesk::{decode, Refusal};
 ///
 /// assert_eq!(decode(7), Ok(7));
 /// assert_eq!(decode((1 << 63) + (2 << 32) + 126), Err(Refusal::BlockCheck(126)));
+/// assert_eq!(
+///     decode((1 << 63) + (99 << 32) + 5),
+///     Err(Refusal::Unknown { number: 99, place: 5 }),
+/// );
 /// ```
-///
-/// # Panics
-///
-/// Where the table has no such number: the library is then another than this crate was made for.
 pub fn decode(answer: u64) -> Result<u64, Refusal> {
     if answer < REFUSED {
         return Ok(answer);
     }
-    let number = ((answer - REFUSED) >> 32) as u32;
-    match Refusal::new(number, answer as u32) {
-        Some(refusal) => Err(refusal),
-        None => panic!("no refusal has the number {number}"),
-    }
+    let number = (answer - REFUSED) >> 32;
+    Err(Refusal::new(number as u32, answer as u32))
 }

@@ -9,8 +9,8 @@ impl Session {
     /// Copies the rows that the session may read, whole and in order, to the front of the buffer, and
     /// hands them out from there, `len()` of them; later bytes stay. A table is a run of rows of one
     /// width, 5 to 512 bytes: the tag in 4 bytes, little-endian, and then the payload. A buffer as
-    /// long as the table is always enough. Refusals: 1, 2, 3, 19, 12 the width is not 5 to 512 or the
-    /// table's length no multiple of it, 13 the rows are longer than the buffer.
+    /// long as the table is always enough. Refusals: 1, 2, 31 to 35, 19, 12 the width is not 5 to 512
+    /// or the table's length no multiple of it, 13 the rows are longer than the buffer.
     ///
     /// ```
     /// # use brawnesk::Image;
@@ -41,8 +41,8 @@ impl Session {
     }
 
     /// Replaces the payload of row `n`, counted from 0 among the rows that the session may read now,
-    /// and no other byte. Refusals: 1, 2, 3, 19, 12, 16 the payload's length is not the width minus
-    /// 4, 14 no row `n`, 15 row `n` is not writable.
+    /// and no other byte. Refusals: 1, 2, 31 to 35, 19, 12, 16 the payload's length is not the width
+    /// minus 4, 14 no row `n`, 15 row `n` is not writable.
     ///
     /// ```
     /// # use brawnesk::{Image, Refusal};
@@ -75,8 +75,8 @@ impl Session {
     }
 
     /// The payload of the row at that place, counted from 0 among all rows, if the session may read
-    /// it, and otherwise the mask: a part of the table, or the mask as it was lent. Refusals: 1, 2, 3,
-    /// 19, 12, 14 no row at that place.
+    /// it, and otherwise the mask: a part of the table, or the mask as it was lent. Refusals: 1, 2,
+    /// 31 to 35, 19, 12, 14 no row at that place.
     ///
     /// ```
     /// # use brawnesk::Image;

@@ -55,9 +55,9 @@ impl Session {
     }
 
     /// Gives the session the session label that a text names; a refusal leaves it as it was.
-    /// Refusals: 1, 2, 3, 19 the session breaks its rules for that image, 5, then the leftmost name
-    /// refused by 6 or 7, then 8 level, 9 compartments, 10 groups not allowed, 11 the row label would
-    /// stand outside it.
+    /// Refusals: 1, 2, 31 to 35, 19 the session breaks its rules for that image, 5, then the leftmost
+    /// name refused by 6 or 7, then 8 level, 9 compartments, 10 groups not allowed, 11 the row label
+    /// would stand outside it.
     ///
     /// ```
     /// # use brawnesk::{Image, Refusal};
@@ -100,7 +100,7 @@ impl Session {
         Ok(())
     }
 
-    /// May the session read a row of that tag? Refusals: 1, 2, 3, 19.
+    /// May the session read a row of that tag? Refusals: 1, 2, 31 to 35, 19.
     ///
     /// ```
     /// # use brawnesk::{Image, Verdict};
@@ -116,7 +116,7 @@ impl Session {
         Ok(Verdict::of(decode(answer)?))
     }
 
-    /// May the session write a row of that tag? Refusals: 1, 2, 3, 19.
+    /// May the session write a row of that tag? Refusals: 1, 2, 31 to 35, 19.
     ///
     /// ```
     /// # use brawnesk::{Image, Verdict};

@@ -3,7 +3,7 @@
 mod common;
 
 use brawnesk::{Class, Image, Label, Refusal, Session, Verdict, LABEL, SESSION};
-use common::{mara, sample};
+use common::{faulty, mara, sample};
 
 #[test]
 fn the_sample_is_accepted() {
@@ -14,7 +14,10 @@ fn the_sample_is_accepted() {
 #[test]
 fn damaged_images_are_refused() {
     let mut bytes = sample();
-    assert_eq!(Image::new(&bytes[..1_024]).check(), Err(Refusal::ImageRule));
+    assert_eq!(
+        Image::new(&bytes[..1_024]).check(),
+        Err(Refusal::ImageLayout)
+    );
     assert_eq!(
         Image::new(&bytes[..1_000]).check(),
         Err(Refusal::ImageLength)
@@ -25,23 +28,24 @@ fn damaged_images_are_refused() {
     assert_eq!(Image::new(&bytes).check(), Err(Refusal::BlockCheck(0)));
 }
 
-/// Also one without any byte.
+/// Also one without any byte. Nothing else that a call refuses comes before.
 #[test]
 fn every_call_checks_the_image() {
     let bytes = sample();
     let mut session = mara(Image::new(&bytes));
     let label = session.label();
-    let length = Refusal::ImageLength;
-    for image in [Image::new(&[]), Image::new(&bytes[..511])] {
-        assert_eq!(image.check(), Err(length));
-        assert_eq!(image.name(Class::Level, 0), Err(length));
-        assert_eq!(image.parse("CREW"), Err(length));
-        assert_eq!(image.print(label, &mut [0; 9]), Err(length));
-        assert_eq!(image.open("MARA"), Err(length));
-        assert_eq!(session.set_label(image, "CREW"), Err(length));
-        assert_eq!(session.set_row_label(image, "CREW"), Err(length));
-        assert_eq!(session.may_read(image, 10), Err(length));
-        assert_eq!(session.may_write(image, 10), Err(length));
+    let lengths = [0, 511].map(|length| (bytes[..length].into(), Refusal::ImageLength));
+    for (bytes, refusal) in lengths.into_iter().chain(faulty()) {
+        let image = Image::new(&bytes);
+        assert_eq!(image.check(), Err(refusal));
+        assert_eq!(image.name(Class::Level, 99), Err(refusal));
+        assert_eq!(image.parse(""), Err(refusal));
+        assert_eq!(image.print(label, &mut []), Err(refusal));
+        assert_eq!(image.open("NOBODY"), Err(refusal));
+        assert_eq!(session.set_label(image, ""), Err(refusal));
+        assert_eq!(session.set_row_label(image, ""), Err(refusal));
+        assert_eq!(session.may_read(image, 10), Err(refusal));
+        assert_eq!(session.may_write(image, 10), Err(refusal));
     }
     assert_eq!(session, mara(Image::new(&bytes)));
 }

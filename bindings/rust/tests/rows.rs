@@ -4,7 +4,7 @@
 mod common;
 
 use brawnesk::{Image, Refusal, Session, SESSION};
-use common::{mara, sample, table};
+use common::{faulty, mara, sample, table};
 
 const WIDTH: usize = 16;
 
@@ -137,6 +137,23 @@ fn refused_updates() {
         let answer = session.update(image, &mut lent, width, n, payload);
         assert_eq!(answer, Err(refusal));
         assert_eq!(lent, table(), "{refusal}");
+    }
+}
+
+/// Nothing else that a call refuses comes before.
+#[test]
+fn faulty_images_are_refused() {
+    let broken = Session([0; SESSION]);
+    for (bytes, refusal) in faulty() {
+        let image = Image::new(&bytes);
+        let (mut lent, mut buffer) = (table(), [b'.'; 47]);
+        let rows = broken.read(image, &lent, 0, &mut buffer);
+        assert_eq!(rows.expect_err("refused"), refusal);
+        let answer = broken.update(image, &mut lent, 0, 9, b"");
+        assert_eq!(answer, Err(refusal));
+        let answer = broken.masked(image, &lent, 0, 9, b"hidden");
+        assert_eq!(answer, Err(refusal));
+        assert_eq!((lent, buffer), (table(), [b'.'; 47]));
     }
 }
 
