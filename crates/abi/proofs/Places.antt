@@ -1,10 +1,9 @@
 -- The place that a refusal tells fits its 32 bits, for each call on sessions, for prints and for merges. Assumes nothing.
 use Prim.Native.Nat.{ℕ}
-use mathlib.Core.Path.{_≡_, refl, _∙_, subst}
-use mathlib.Core.Bool.{Bool, true, false, cond}
+use mathlib.Core.Path.{_≡_, refl, subst}
+use mathlib.Core.Bool.{Bool, true, false, cond, _&&_}
 use mathlib.Core.List.{List}
 use native.Mathlib.Omega.{arith}
-use mir.Val.{boolByte}
 use lib.Dec.{leb, ltb}
 use lib.ListN.{length}
 use Rattle.refusals.specs.declared.Refusal.{Refusal}
@@ -13,7 +12,7 @@ use Rattle.refusals.specs.declared.Refusal.the-variants.{LevelNotAllowed, Compa
 use Rattle.refusals.specs.declared.answers.Checked.{Checked}
 use Rattle.refusals.specs.declared.answers.Checked.the-variants.{Accepted, Refused}
 use Rattle.refusals.specs.declared.answers.Verdict.the-variants as verdict
-use Rattle.refusals.specs.Answers.{onChecked, orRefuse, verdictOf, refusalGiven, checkedGiven, verdictGiven, codeOf, PlaceFits}
+use Rattle.refusals.specs.Answers.{onChecked, orRefuse, verdictOf, refusalGiven, checkedGiven, verdictGiven, PlaceFits}
 use Rattle.buffers.specs.Pasting.{atFront}
 use Rattle.sets.specs.Sets.{within}
 use Rattle.header.specs.Layout.{users, userRecord}
@@ -32,7 +31,7 @@ use Rattle.access.specs.Rights.{Rights, between, rightsAt}
 use Rattle.access.specs.NewLabels.{sessionGroupsRule, rowGroupsRule, rowInside, sessionLabelAnswer, rowLabelAnswer, sessionRule}
 use Rattle.access.specs.Verdicts.{mayRead, mayWrite}
 use Rattle.dominance.specs.TwoLabels as two
-use Rattle.dominance.specs.TwoLabels.{Merging, lettersRule, mergedLabel, mergeOf}
+use Rattle.dominance.specs.TwoLabels.{comparedAnswer, dominatesOf, strictlyDominatesOf, Merging, lettersRule, mergedLabel, mergeOf}
 use Rattle.sessions.specs.Session.{SessionMarks, lentAnswer, sessionRights}
 use Rattle.sessions.specs.Opening.{Opening, session, refused, defaultSession, openAccepted, openOf}
 use Rattle.sessions.specs.Changes.{changeIf, changeTo, afterLent, withLabel, withRowLabel, labelChange, rowLabelChange, setLabelOf, setRowLabelOf}
@@ -145,25 +144,37 @@ pub verdict-fits : (granted : Bool) → PlaceFits (verdictGiven (verdictOf grant
 verdict-fits true = omega arith
 verdict-fits false = omega arith
 
--- a truth value of the code as a verdict's number
-pub byte-verdict : (granted : Bool) → boolByte granted ≡ codeOf (verdictGiven (verdictOf granted))
-byte-verdict true = refl
-byte-verdict false = refl
-
-asked-fits : (im : List ℕ) (s : SessionMarks) (granted : Bool) → PlaceFits (verdictGiven (onChecked (lentAnswer im s) verdict.Refused (verdictOf granted)))
-asked-fits im s granted = at (lentAnswer im s) refl
-  where
-    at : (c : Checked) → lentAnswer im s ≡ c → PlaceFits (verdictGiven (onChecked c verdict.Refused (verdictOf granted)))
-    at Accepted d = verdict-fits granted
-    at (Refused q) d = lent-fits im s q d
+-- a verdict after an answer whose refusals fit
+after-fits : (c : Checked) → ((r : Refusal) → c ≡ Refused r → PlaceFits (refusalGiven r)) → (granted : Bool)
+    → PlaceFits (verdictGiven (onChecked c verdict.Refused (verdictOf granted)))
+after-fits Accepted fits granted = verdict-fits granted
+after-fits (Refused q) fits granted = fits q refl
 
 pub may-read-fits : (im : List ℕ) (s : SessionMarks) (tag : ℕ) → PlaceFits (verdictGiven (mayReadOf im s tag))
 unfolding mayReadOf
-may-read-fits im s tag = asked-fits im s (mayRead im (sessionRights im s) tag)
+may-read-fits im s tag = after-fits (lentAnswer im s) (lent-fits im s) (mayRead im (sessionRights im s) tag)
 
 pub may-write-fits : (im : List ℕ) (s : SessionMarks) (tag : ℕ) → PlaceFits (verdictGiven (mayWriteOf im s tag))
 unfolding mayWriteOf
-may-write-fits im s tag = asked-fits im s (mayWrite im (sessionRights im s) tag)
+may-write-fits im s tag = after-fits (lentAnswer im s) (lent-fits im s) (mayWrite im (sessionRights im s) tag)
+
+-- ---- dominance
+compared-fits : (im : List ℕ) (a b : Marks) (r : Refusal) → comparedAnswer im a b ≡ Refused r → PlaceFits (refusalGiven r)
+unfolding comparedAnswer
+compared-fits im a b r e =
+    subst (λ (c : Checked). PlaceFits (checkedGiven c)) e (after-check-fits im _ (at (labelExists im a && labelExists im b)))
+  where
+    at : (t : Bool) → PlaceFits (checkedGiven (orRefuse t NoComponent Accepted))
+    at true = omega arith
+    at false = omega arith
+
+pub dominates-fits : (im : List ℕ) (a b : Marks) → PlaceFits (verdictGiven (dominatesOf im a b))
+unfolding dominatesOf
+dominates-fits im a b = after-fits (comparedAnswer im a b) (compared-fits im a b) (two.dominates im a b)
+
+pub strictly-dominates-fits : (im : List ℕ) (a b : Marks) → PlaceFits (verdictGiven (strictlyDominatesOf im a b))
+unfolding strictlyDominatesOf
+strictly-dominates-fits im a b = after-fits (comparedAnswer im a b) (compared-fits im a b) (two.strictlyDominates im a b)
 
 -- ---- prints
 pub print-fits : (im : List ℕ) (m : Marks) (buffer : List ℕ) → PlaceFits (printedGiven (printOf im m buffer .0))

@@ -23,6 +23,7 @@ use Rattle.image.proofs.Accepted.{accepted-counted}
 use Rattle.labels.specs.Label.{labelExists}
 use Rattle.printing.specs.declared.answers.Printed.the-variants as printed
 use Rattle.printing.specs.Print.{unprinted, acceptedAnswer, printOf}
+use Rattle.dominance.specs.TwoLabels.{comparedAnswer, dominatesOf, strictlyDominatesOf}
 use Rattle.access.specs.NewLabels.{sessionRule}
 use Rattle.sessions.specs.Session.{SessionMarks, lentAnswer}
 use Rattle.sessions.specs.Changes.{setLabelOf, setRowLabelOf}
@@ -39,6 +40,7 @@ use Rattle.encoding.proofs.Wide.{word-then-large}
 use Rattle.abi.specs.Answers.{coded, afterCheck, withSession}
 use Rattle.abi.specs.Labels.{printedGiven, printAnswer}
 use Rattle.abi.specs.Sessions.{setLabelAnswer, setRowLabelAnswer, mayReadAnswer, mayWriteAnswer}
+use Rattle.abi.specs.TwoLabels.{dominatesAnswer, strictlyDominatesAnswer}
 use Rattle.abi.specs.Tables.{rowsGiven, readAnswer, updateAnswer, maskedAnswer}
 use Rattle.abi.proofs.Widths.{rule-widths}
 
@@ -78,6 +80,34 @@ wide-print im bytes buffer wide = at (checkOf im) refl
         (coded printedGiven (onChecked c (unprinted buffer) (acceptedAnswer im (labelIn bytes) buffer))) (answerOf (onChecked c (λ q. q) NoComponent), buffer)
     at Accepted e = rw (wide-answer im bytes buffer e wide)
     at (Refused r) e = refl
+
+-- of two labels one of which does
+wide-compared : (im bytes1 bytes2 : List ℕ) → (eqb (highGroups bytes1) 0 && eqb (highGroups bytes2) 0) ≡ false
+    → comparedAnswer im (labelIn bytes1) (labelIn bytes2) ≡ Refused (afterCheck im NoComponent)
+unfolding comparedAnswer
+wide-compared im bytes1 bytes2 wide = at (checkOf im) refl
+  where
+    lacks : IsAccepted im → (l r : Bool) → eqb (highGroups bytes1) 0 ≡ l → eqb (highGroups bytes2) 0 ≡ r → (l && r) ≡ false
+        → (labelExists im (labelIn bytes1) && labelExists im (labelIn bytes2)) ≡ false
+    lacks acc true true a b n = absurd (true≢false n)
+    lacks acc false r a b n = rw (wide-lacks im bytes1 acc (eqb-false (highGroups bytes1) 0 a))
+    lacks acc true false a b n = rw (wide-lacks im bytes2 acc (eqb-false (highGroups bytes2) 0 b)) (and-false (labelExists im (labelIn bytes1)))
+
+    at : (c : Checked) → checkOf im ≡ c
+        → onChecked c Refused (orRefuse (labelExists im (labelIn bytes1) && labelExists im (labelIn bytes2)) NoComponent Accepted)
+        ≡ Refused (onChecked c (λ q. q) NoComponent)
+    at Accepted e = rw (lacks e (eqb (highGroups bytes1) 0) (eqb (highGroups bytes2) 0) refl refl wide)
+    at (Refused r) e = refl
+
+pub wide-dominates : (im bytes1 bytes2 : List ℕ) → (eqb (highGroups bytes1) 0 && eqb (highGroups bytes2) 0) ≡ false
+    → dominatesAnswer im bytes1 bytes2 ≡ answerOf (afterCheck im NoComponent)
+unfolding dominatesOf
+wide-dominates im bytes1 bytes2 wide = rw (wide-compared im bytes1 bytes2 wide)
+
+pub wide-strictly-dominates : (im bytes1 bytes2 : List ℕ) → (eqb (highGroups bytes1) 0 && eqb (highGroups bytes2) 0) ≡ false
+    → strictlyDominatesAnswer im bytes1 bytes2 ≡ answerOf (afterCheck im NoComponent)
+unfolding strictlyDominatesOf
+wide-strictly-dominates im bytes1 bytes2 wide = rw (wide-compared im bytes1 bytes2 wide)
 
 -- ---- every call on a session refuses as soon as the session is refused
 module _ (im : List ℕ) (s : SessionMarks) (r : Refusal) (e : lentAnswer im s ≡ Refused r) where

@@ -14,7 +14,7 @@ use Rattle.encoding.specs.Sessions.{sessionIn, oneUser}
 abbrev pub coded : {A : Type 0} → (A → Given) → A × List ℕ → ℕ × List ℕ
 coded given result = (codeOf (given (result .0)), result .1)
 
--- the refusal of the image, 1, 2 or 3; of an accepted one that refusal
+-- the refusal of the image, 1, 2 or 31 to 35; of an accepted one that refusal
 abbrev pub afterCheck : List ℕ → Refusal → Refusal
 afterCheck im r = onChecked (checkOf im) (λ q. q) r
 

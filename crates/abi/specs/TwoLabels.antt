@@ -1,18 +1,18 @@
--- Dominance and merging, which are lent no image: groups past the 64th are not looked at.
+-- Dominance, which is lent the image; and merging, which is lent none and does not look at groups past the 64th.
 use Prim.Native.Nat.{ℕ}
 use mathlib.Core.List.{List}
-use Rattle.refusals.specs.Answers.{Given, done, refusalGiven, verdictOf}
-use Rattle.dominance.specs.TwoLabels.{dominates, strictlyDominates, Merging, label, refused, mergeOf}
-use Rattle.encoding.specs.Labels.{labelBytes, lowLabelIn}
+use Rattle.refusals.specs.Answers.{Given, done, refusalGiven}
+use Rattle.dominance.specs.TwoLabels.{dominatesOf, strictlyDominatesOf, Merging, label, refused, mergeOf}
+use Rattle.encoding.specs.Labels.{labelBytes, labelIn, lowLabelIn}
 use Rattle.encoding.specs.Verdicts.{verdictCode}
 use Rattle.abi.specs.Answers.{coded}
 
 -- ---- `brawnesk_dominates`, `brawnesk_strictly_dominates`: 1 yes, 0 no
-abbrev pub dominatesAnswer : List ℕ → List ℕ → ℕ
-dominatesAnswer bytes1 bytes2 = verdictCode (verdictOf (dominates (lowLabelIn bytes1) (lowLabelIn bytes2)))
+abbrev pub dominatesAnswer : List ℕ → List ℕ → List ℕ → ℕ
+dominatesAnswer im bytes1 bytes2 = verdictCode (dominatesOf im (labelIn bytes1) (labelIn bytes2))
 
-abbrev pub strictlyDominatesAnswer : List ℕ → List ℕ → ℕ
-strictlyDominatesAnswer bytes1 bytes2 = verdictCode (verdictOf (strictlyDominates (lowLabelIn bytes1) (lowLabelIn bytes2)))
+abbrev pub strictlyDominatesAnswer : List ℕ → List ℕ → List ℕ → ℕ
+strictlyDominatesAnswer im bytes1 bytes2 = verdictCode (strictlyDominatesOf im (labelIn bytes1) (labelIn bytes2))
 
 -- ---- `brawnesk_merge`: the answer, and the label's bytes after it
 -- what merging gives back: 0 where there is a label

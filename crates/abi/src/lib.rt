@@ -1,6 +1,10 @@
 // The C functions. Each takes the bytes apart, makes the call and lays its answer down in one number.
 ghost use mathlib.Core.Path.{_≡_};
+ghost use mathlib.Core.Bool.{_&&_};
+ghost use lib.Dec.{eqb};
+ghost use Rattle.refusals.specs.declared.Refusal.the-variants.{NoComponent};
 ghost use Rattle.refusals.specs.Answers.{PlaceFits, refusalGiven, codeOf, answerOf};
+ghost use Rattle.encoding.specs.Labels.{highGroups};
 ghost use Rattle.abi.specs.Answers.{afterCheck, checkAnswer, nameSpan};
 ghost use Rattle.abi.specs.Labels.{parseAnswer, printedGiven, printAnswer};
 ghost use Rattle.abi.specs.Sessions.{openAnswer, setLabelAnswer, setRowLabelAnswer, mayReadAnswer, mayWriteAnswer};
@@ -56,6 +60,13 @@ fn after_check(image: &[u8], refusal: Refusal) -> u64
     }
 }
 
+// Of an accepted image 18: a label in bytes names a group that it lacks.
+fn lacking(image: &[u8]) -> u64
+    ensures { λ r. ⌜ r ≡ answerOf (afterCheck (now (image .entry)) NoComponent) ⌝ }
+{
+    after_check(image, Refusal::NoComponent)
+}
+
 // The label that the text names, in 48 bytes. Done: 0.
 #[no_mangle]
 pub extern "C" fn brawnesk_parse(image: &[u8], text: &[u8], label: &mut [u8; 48]) -> u64
@@ -89,7 +100,7 @@ pub extern "C" fn brawnesk_print(image: &[u8], label: &[u8; 48], text: &mut [u8]
     ensures { λ r. ⌜ (r, now (text .exit)) ≡ printAnswer (now (image .entry)) (now (label .entry)) (now (text .entry)) ⌝ }
 {
     if !bytes48::only_low_groups(label) {
-        return after_check(image, Refusal::NoComponent);
+        return lacking(image);
     }
     printed_code(printing::print(image, bytes48::label_in(label), text))
 }
@@ -227,26 +238,41 @@ pub extern "C" fn brawnesk_masked(
     verdict_code(rows::masked_verdict(image, bytes104::session_in(session), table, width, place))
 }
 
+// Do both labels name only groups that an image of edition 1 can have?
+fn both_low(label1: &[u8; 48], label2: &[u8; 48]) -> bool
+    ensures { λ r. ⌜ r ≡ (eqb (highGroups (now (label1 .entry))) 0 && eqb (highGroups (now (label2 .entry))) 0) ⌝ }
+{
+    bytes48::only_low_groups(label1) & bytes48::only_low_groups(label2)
+}
+
 // Does label 1 dominate label 2? 1 yes, 0 no.
 #[no_mangle]
-pub extern "C" fn brawnesk_dominates(label1: &[u8; 48], label2: &[u8; 48]) -> u64
-    ensures { λ r. ⌜ r ≡ dominatesAnswer (now (label1 .entry)) (now (label2 .entry)) ⌝ }
+pub extern "C" fn brawnesk_dominates(image: &[u8], label1: &[u8; 48], label2: &[u8; 48]) -> u64
+    ensures { λ r. ⌜ r ≡ dominatesAnswer (now (image .entry)) (now (label1 .entry)) (now (label2 .entry)) ⌝ }
 {
-    let first = bytes48::low_label_in(label1);
-    let second = bytes48::low_label_in(label2);
-    let yes = dominance::dominates(first, second);
-    yes as u64
+    if !both_low(label1, label2) {
+        return lacking(image);
+    }
+    let first = bytes48::label_in(label1);
+    let second = bytes48::label_in(label2);
+    verdict_code(dominance::dominates(image, first, second))
 }
 
 // And the labels differ. 1 yes, 0 no.
 #[no_mangle]
-pub extern "C" fn brawnesk_strictly_dominates(label1: &[u8; 48], label2: &[u8; 48]) -> u64
-    ensures { λ r. ⌜ r ≡ strictlyDominatesAnswer (now (label1 .entry)) (now (label2 .entry)) ⌝ }
+pub extern "C" fn brawnesk_strictly_dominates(
+    image: &[u8],
+    label1: &[u8; 48],
+    label2: &[u8; 48],
+) -> u64
+    ensures { λ r. ⌜ r ≡ strictlyDominatesAnswer (now (image .entry)) (now (label1 .entry)) (now (label2 .entry)) ⌝ }
 {
-    let first = bytes48::low_label_in(label1);
-    let second = bytes48::low_label_in(label2);
-    let yes = dominance::strictly_dominates(first, second);
-    yes as u64
+    if !both_low(label1, label2) {
+        return lacking(image);
+    }
+    let first = bytes48::label_in(label1);
+    let second = bytes48::label_in(label2);
+    verdict_code(dominance::strictly_dominates(image, first, second))
 }
 
 // One label of two, by three letters. Done: 0.

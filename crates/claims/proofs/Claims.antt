@@ -1,7 +1,7 @@
 -- The main theorems of the library, each stated in full over definitions of specs (and `EveryRule`, which says the image's rules in places),
 -- and proved by citing where it is proved. A reader who wants to know what is claimed can begin here. Assumes nothing.
 use Prim.Native.Nat.{ℕ, _<_}
-use mathlib.Core.Path.{_≡_, refl}
+use mathlib.Core.Path.{_≡_, refl, sym, _∙_}
 use mathlib.Core.Bool.{true, false}
 use mathlib.Core.List.{List, map, flatten}
 use mathlib.Core.Logic.{_↔_, _⊎_}
@@ -29,7 +29,11 @@ use Rattle.labels.specs.Parse.{read, ofText, parseOf}
 use Rattle.printing.specs.Print.{textOf}
 use Rattle.roundtrip.proofs.RoundTrip.{parse-of-print, record-reads-back}
 use Rattle.access.specs.Rights.{Rights}
-use Rattle.access.specs.Verdicts.{mayRead, mayWrite, readableAtMaximum}
+use Rattle.access.specs.Verdicts.{knownTag, mayRead, mayWrite, readableAtMaximum}
+use Rattle.dominance.specs.TwoLabels.{dominatesOf}
+use Rattle.claims.specs.Reading.{NoPrivileges}
+use Rattle.claims.proofs.ReadsDominated.{reads-dominated}
+use Rattle.image.specs.Lookup.{labelOfTag}
 use Rattle.access.proofs.More.{withCompaccess, compaccess-reads, compaccess-writes}
 use Rattle.sessions.specs.Session.{SessionMarks, lentAnswer}
 use Rattle.sessions.specs.Opening.{session, openOf}
@@ -66,7 +70,7 @@ told-among im faulty = lowest-among (faultsOf im) (faulty-is (lowest (faultsOf i
 
 pub told-lowest : (im : List ℕ) (f : Fault) → Among f (faultsOf im) → keyBefore (keyOf f) (keyOf (faultOf im)) ≡ false
 unfolding faultOf
-told-lowest im f here = all-among (lowest-least (faultsOf im)) here
+told-lowest im f listed = all-among (lowest-least (faultsOf im)) listed
 
 -- 1 and 2 aside: 31 exactly if the header or the length is at fault, or a block's layout is and no lower block has a fault;
 pub layout-told-exactly : (im : List ℕ) → Framed im
@@ -133,6 +137,15 @@ reads-within-maximum = bounded.reads-within-maximum
 -- A writable row is readable.
 pub writable-readable : (im : List ℕ) (s : SessionMarks) (tag : ℕ) → mayWriteOf im s tag ≡ Yes → mayReadOf im s tag ≡ Yes
 writable-readable = bounded.writes-readable
+
+-- Dominance agrees with reading: with an accepted session whose user holds none of READ, FULL and COMPACCESS, and a tag that a label record
+-- carries, `may_read` answers yes exactly if `dominates` does of the session's label and the record's.
+pub reads-exactly-if-dominates : (im : List ℕ) (s : SessionMarks) (tag : ℕ) → lentAnswer im s ≡ Accepted → NoPrivileges im (s .user)
+    → knownTag im tag ≡ true → (mayReadOf im s tag ≡ Yes) ↔ (dominatesOf im (s .label) (labelAt im (labelOfTag im tag)) ≡ Yes)
+reads-exactly-if-dominates im s tag lent none known = (
+  (λ e. sym (reads-dominated im s tag lent none known) ∙ e),
+  (λ e. reads-dominated im s tag lent none known ∙ e),
+)
 
 -- COMPACCESS takes no row away.
 pub compaccess-adds : (im : List ℕ) (rights : Rights) (tag : ℕ)

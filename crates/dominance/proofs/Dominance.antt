@@ -1,13 +1,20 @@
--- Strict dominance is dominance of labels that differ; and dominance isn't transitive. Assumes nothing.
+-- Strict dominance is dominance of labels that differ; a label that the policy has dominates itself. Assumes nothing.
 use Prim.Native.Nat.{ℕ}
 use mathlib.Core.Path.{_≡_, refl, sym, ap, _∙_}
-use mathlib.Core.Bool.{Bool, true, false, not, _&&_, true≢false}
-use borrow.Author.Tests.{eqb-true, eq-eqb}
+use mathlib.Core.Bool.{Bool, true, false, not, _&&_, _||_, true≢false}
+use mathlib.Core.List.{List}
+use native.Mathlib.Nat.{le-refl}
+use borrow.Author.Tests.{eqb-true, eq-eqb, le-leb}
 use Rattle.fields.proofs.Both.{parts}
-use Rattle.sets.specs.Sets.{within, meets, empty}
-use Rattle.labels.specs.Label.{Marks}
+use Rattle.sets.specs.Sets.{empty, within, meets}
+use Rattle.sets.proofs.Within.{within-refl, within-trans}
+use Rattle.sets.proofs.Meets.{empty-place, place-meets, meets-mono}
+use Rattle.hierarchy.specs.Below.{below}
+use Rattle.hierarchy.proofs.Under.{below-self, below-mono}
+use Rattle.labels.specs.Label.{Marks, labelExists}
 use Rattle.labels.specs.GroupTest.{groupTest}
-use Rattle.dominance.specs.TwoLabels.{dominatesLevel, dominatesCompartments, dominates, sameLabel, strictlyDominates}
+use Rattle.labels.proofs.Existing.{exists-means}
+use Rattle.dominance.specs.TwoLabels.{dominatesLevel, dominatesCompartments, dominatesGroups, dominates, sameLabel, strictlyDominates}
 
 pub same-means : (a b : Marks) → sameLabel a b ≡ true → a ≡ b
 unfolding sameLabel
@@ -25,25 +32,40 @@ pub same-refl : (a : Marks) → sameLabel a a ≡ true
 unfolding sameLabel
 same-refl a = rw (eq-eqb (a .level) (a .level) refl, eq-eqb (a .compartments) (a .compartments) refl, eq-eqb (a .groups) (a .groups) refl)
 
-pub strictly-means : (a b : Marks) → strictlyDominates a b ≡ true → (dominates a b ≡ true) × (a ≡ b → ⊥)
+pub strictly-means : (im : List ℕ) (a b : Marks) → strictlyDominates im a b ≡ true → (dominates im a b ≡ true) × (a ≡ b → ⊥)
 unfolding strictlyDominates
-strictly-means a b e =
+strictly-means im a b e =
     let q = parts _ _ e in
     (q .0, λ (s : a ≡ b). true≢false (sym (q .1) ∙ ap not (ap (λ (x : Marks). sameLabel a x) (sym s) ∙ same-refl a)))
 
-pub means-strictly : (a b : Marks) → dominates a b ≡ true → (a ≡ b → ⊥) → strictlyDominates a b ≡ true
+pub means-strictly : (im : List ℕ) (a b : Marks) → dominates im a b ≡ true → (a ≡ b → ⊥) → strictlyDominates im a b ≡ true
 unfolding strictlyDominates
-means-strictly a b d n = at (sameLabel a b) refl
+means-strictly im a b d n = at (sameLabel a b) refl
   where
-    at : (t : Bool) → sameLabel a b ≡ t → (dominates a b && not t) ≡ true
+    at : (t : Bool) → sameLabel a b ≡ t → (dominates im a b && not t) ≡ true
     at true e = absurd (n (same-means a b e))
     at false e = rw d
 
--- S::A dominates S::A,B, which dominates S::B; S::A does not dominate S::B
-abbrev pub grouped : ℕ → Marks
-grouped g = record { level = 0; compartments = 0; groups = g }
+-- groups among others pass the group test against them
+groups-among : (s u : ℕ) → within s u ≡ true → groupTest u s ≡ true
+unfolding groupTest
+groups-among s u w = at (empty s) refl
+  where
+    at : (t : Bool) → empty s ≡ t → (t || meets s u) ≡ true
+    at true e = refl
+    at false e =
+        let p = empty-place s e in
+        meets-mono s s s u (within-refl s) w (place-meets s s (p .0) (p .1) (p .1))
 
-pub not-transitive : (dominates (grouped 1) (grouped 3) ≡ true)
-    × ((dominates (grouped 3) (grouped 2) ≡ true) × (dominates (grouped 1) (grouped 2) ≡ false))
-unfolding dominates dominatesLevel dominatesCompartments groupTest within meets empty
-not-transitive = (refl, (refl, refl))
+-- so groups that exist are passed by any that hold them
+pub held-groups : (im : List ℕ) (a b : Marks) → labelExists im b ≡ true → within (b .groups) (a .groups) ≡ true → dominatesGroups im a b ≡ true
+unfolding dominatesGroups
+held-groups im a b e w =
+    groups-among (b .groups) (below im (a .groups))
+    (within-trans (b .groups) (below im (b .groups)) (below im (a .groups)) (below-self im (b .groups) (exists-means im b e .groups))
+    (below-mono im (b .groups) (a .groups) w))
+
+pub dominates-itself : (im : List ℕ) (a : Marks) → labelExists im a ≡ true → dominates im a a ≡ true
+unfolding dominates dominatesLevel dominatesCompartments
+dominates-itself im a e =
+    rw (le-leb (a .level) (a .level) (le-refl (a .level)), within-refl (a .compartments)) (held-groups im a a e (within-refl (a .groups)))

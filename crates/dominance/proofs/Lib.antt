@@ -1,5 +1,7 @@
 -- The laws of `specs/TwoLabels.antt`.
---     Dominance  strict dominance, and that dominance isn't transitive
+--     Compared   when two labels may be compared
+--     Dominance  strict dominance, and that a label dominates itself
 --     Merges     merges beside dominance
+pub mod Compared
 pub mod Dominance
 pub mod Merges

@@ -1,4 +1,4 @@
--- Two labels: dominance and merging. Neither takes an image: levels, compartments and groups are compared as they are listed.
+-- Two labels: dominance under a policy, and merging. Merging takes no image: levels, compartments and groups are merged as they are listed.
 use Prim.Native.Nat.{ℕ, min, max}
 use mathlib.Core.Bool.{Bool, cond, not, _&&_, _||_}
 use mathlib.Core.List.{List}
@@ -6,9 +6,16 @@ use lib.Dec.{eqb, leb}
 use lib.ListN.{length}
 use Rattle.fields.specs.Bytes.{byteAt}
 use Rattle.refusals.specs.declared.Refusal.{Refusal}
-use Rattle.refusals.specs.declared.Refusal.the-variants.{MergeLetters}
+use Rattle.refusals.specs.declared.Refusal.the-variants.{MergeLetters, NoComponent}
+use Rattle.refusals.specs.declared.answers.Checked.{Checked}
+use Rattle.refusals.specs.declared.answers.Checked.the-variants.{Accepted, Refused}
+use Rattle.refusals.specs.declared.answers.Verdict.{Verdict}
+use Rattle.refusals.specs.declared.answers.Verdict.the-variants as verdict
+use Rattle.refusals.specs.Answers.{onChecked, orRefuse, verdictOf}
 use Rattle.sets.specs.Sets.{none, union, intersection, difference, within}
-use Rattle.labels.specs.Label.{Marks, marksOf}
+use Rattle.hierarchy.specs.Below.{below}
+use Rattle.image.specs.Check.{checkOf}
+use Rattle.labels.specs.Label.{Marks, marksOf, labelExists}
 use Rattle.labels.specs.GroupTest.{groupTest}
 use Rattle.dominance.specs.declared.merging.Merged.{Merged}
 use Rattle.dominance.specs.declared.merging.Merged.the-variants as merged
@@ -22,16 +29,31 @@ dominatesLevel a b = leb (b .level) (a .level)
 unfoldable pub dominatesCompartments : Marks → Marks → Bool
 dominatesCompartments a b = within (b .compartments) (a .compartments)
 
--- both, and label 2 has no groups or shares one
-unfoldable pub dominates : Marks → Marks → Bool
-dominates a b = dominatesLevel a b && dominatesCompartments a b && groupTest (a .groups) (b .groups)
+-- label 2 has no groups, or one of them lies in below(groups of label 1): the test by which a session reads
+unfoldable pub dominatesGroups : List ℕ → Marks → Marks → Bool
+dominatesGroups im a b = groupTest (below im (a .groups)) (b .groups)
+
+-- label 1 dominates label 2
+unfoldable pub dominates : List ℕ → Marks → Marks → Bool
+dominates im a b = dominatesLevel a b && dominatesCompartments a b && dominatesGroups im a b
 
 unfoldable pub sameLabel : Marks → Marks → Bool
 sameLabel a b = eqb (a .level) (b .level) && eqb (a .compartments) (b .compartments) && eqb (a .groups) (b .groups)
 
 -- strictly: and the labels differ
-unfoldable pub strictlyDominates : Marks → Marks → Bool
-strictlyDominates a b = dominates a b && not (sameLabel a b)
+unfoldable pub strictlyDominates : List ℕ → Marks → Marks → Bool
+strictlyDominates im a b = dominates im a b && not (sameLabel a b)
+
+-- ---- the answers of `dominates` and `strictly_dominates`
+-- 1, 2, 31 to 35; then 18 where either label names a component that the policy lacks
+unfoldable pub comparedAnswer : List ℕ → Marks → Marks → Checked
+comparedAnswer im a b = onChecked (checkOf im) Refused (orRefuse (labelExists im a && labelExists im b) NoComponent Accepted)
+
+unfoldable pub dominatesOf : List ℕ → Marks → Marks → Verdict
+dominatesOf im a b = onChecked (comparedAnswer im a b) verdict.Refused (verdictOf (dominates im a b))
+
+unfoldable pub strictlyDominatesOf : List ℕ → Marks → Marks → Verdict
+strictlyDominatesOf im a b = onChecked (comparedAnswer im a b) verdict.Refused (verdictOf (strictlyDominates im a b))
 
 -- ---- merging
 -- the letters H and L; U, I, M and N

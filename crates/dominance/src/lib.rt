@@ -1,33 +1,38 @@
-// Two labels beside each other: dominance and merging. Neither takes an image.
+// Two labels beside each other: dominance under a policy, and merging, which takes no image.
+pub mod comparing;
 pub mod merging;
 
 ghost use mathlib.Core.Path.{_≡_};
 ghost use Rattle.labels.specs.Label.{marksOf};
-ghost use Rattle.dominance.specs.TwoLabels as two;
-ghost use Rattle.dominance.specs.TwoLabels.{strictlyDominates, mergingOf, mergeOf};
-use labels::group_test;
+ghost use Rattle.dominance.specs.TwoLabels.{dominatesOf, strictlyDominatesOf, mergingOf, mergeOf};
 use labels::label::Label;
 use merging::Merged;
 use refusals::Refusal;
-use sets::word;
+use refusals::answers::Checked;
+use refusals::answers::Verdict;
+use refusals::answers::verdict_of;
 
 // Does label 1 dominate label 2? Its level is at least as high, it has all compartments of label 2, and label 2 has no
-// groups or shares one.
-pub fn dominates(label1: Label, label2: Label) -> bool
-    ensures { λ r. ⌜ r ≡ two.dominates (marksOf label1) (marksOf label2) ⌝ }
+// groups, or one of them lies below label 1's. Refusals: 1, 2, 31 to 35, 18.
+pub fn dominates(image: &[u8], label1: Label, label2: Label) -> Verdict
+    ensures { λ r. ⌜ r ≡ dominatesOf (now (image .entry)) (marksOf label1) (marksOf label2) ⌝ }
 {
-    let groups1 = label1.groups;
-    let groups2 = label2.groups;
-    (label2.level <= label1.level)
-        & word::within(label2.compartments, label1.compartments)
-        & group_test::passes(groups1, groups2)
+    let answer = comparing::compared(image, label1, label2);
+    match answer {
+        Checked::Accepted => verdict_of(comparing::is_above(image, label1, label2)),
+        Checked::Refused(r) => Verdict::Refused(r),
+    }
 }
 
-// And the labels differ.
-pub fn strictly_dominates(label1: Label, label2: Label) -> bool
-    ensures { λ r. ⌜ r ≡ strictlyDominates (marksOf label1) (marksOf label2) ⌝ }
+// And the labels differ. Refusals: 1, 2, 31 to 35, 18.
+pub fn strictly_dominates(image: &[u8], label1: Label, label2: Label) -> Verdict
+    ensures { λ r. ⌜ r ≡ strictlyDominatesOf (now (image .entry)) (marksOf label1) (marksOf label2) ⌝ }
 {
-    dominates(label1, label2) & !merging::same_label(label1, label2)
+    let answer = comparing::compared(image, label1, label2);
+    match answer {
+        Checked::Accepted => verdict_of(comparing::is_strictly_above(image, label1, label2)),
+        Checked::Refused(r) => Verdict::Refused(r),
+    }
 }
 
 // One label of two, by three letters: H or L for the level; U, I, M or N for compartments and for groups. Refusal: 17.

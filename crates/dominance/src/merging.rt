@@ -3,7 +3,7 @@ ghost use mathlib.Core.Path.{_≡_};
 ghost use lib.ListN.{length};
 ghost use Rattle.sets.specs.Groups.{placesOf};
 ghost use Rattle.labels.specs.Label.{marksOf};
-ghost use Rattle.dominance.specs.TwoLabels.{sameLabel, lettersRule, mergeLevels, mergeSets, mergedLabel, levelLetter, setLetter};
+ghost use Rattle.dominance.specs.TwoLabels.{lettersRule, mergeLevels, mergeSets, mergedLabel, levelLetter, setLetter};
 use labels::label::Label;
 use refusals::Refusal;
 use sets::groups::Groups;
@@ -13,16 +13,6 @@ pub enum Merged {
     Done(Label),
     // 17: the letters are not three of those allowed.
     Refused(Refusal),
-}
-
-pub fn same_label(label1: Label, label2: Label) -> bool
-    ensures { λ r. ⌜ r ≡ sameLabel (marksOf label1) (marksOf label2) ⌝ }
-{
-    let groups1 = label1.groups;
-    let groups2 = label2.groups;
-    (label1.level == label2.level)
-        & (label1.compartments == label2.compartments)
-        & groups1.same(groups2)
 }
 
 fn level_letter(letter: u8) -> bool

@@ -12,13 +12,13 @@ use Rattle.abi.proofs.brawnesk_print.Tie as tie
 only-low-groups-requires : tie.Need-only-low-groups-requires
 only-low-groups-requires c κs = search needs
 
-after-check-requires : tie.Need-after-check-requires
-after-check-requires c κs = search needs
+lacking-requires : tie.Need-lacking-requires
+lacking-requires c κs = search needs
 
 returns : tie.Need-returns
 returns c =
     let wide = eqb-false _ _ (sym (c .before .before .only-low-groups .ensures) ∙ not-true _ (c .before .if1 .taken)) in
-    rw (c .after-check .ensures) (sym (wide-print _ _ _ wide))
+    rw (c .lacking .ensures) (sym (wide-print _ _ _ wide))
 
 label-in-requires : tie.Need-label-in-requires
 label-in-requires c κs = (search needs, eqb-true _ _ (sym (c .before .before .only-low-groups .ensures) ∙ not-false _ (c .before .if1 .left)))
@@ -42,7 +42,7 @@ brawnesk-print-spec =
     tie.close
     (tie.spec
     only-low-groups-requires
-    after-check-requires
+    lacking-requires
     returns
     label-in-requires
     print-requires

@@ -1,17 +1,43 @@
-use Rattle.dominance.specs.TwoLabels.{strictlyDominates}
+use mathlib.Core.Path.{sym, _∙_}
+use Rattle.dominance.specs.TwoLabels.{strictlyDominatesOf}
+use Rattle.dominance.proofs.Compared.{compared-counted}
 use borrow.Author.Needs.{needs}
 use Rattle.dominance.proofs.strictly_dominates.Statement.{statement}
 use Rattle.dominance.proofs.strictly_dominates.Tie as tie
 
-dominates-requires : tie.Need-dominates-requires
-dominates-requires c κs = search needs
+compared-requires : tie.Need-compared-requires
+compared-requires c κs = search needs
 
-same-label-requires : tie.Need-same-label-requires
-same-label-requires c κs = search needs
+enum-told : tie.Need-enum-told
+enum-told c = search needs
+
+is-strictly-above-requires : tie.Need-is-strictly-above-requires
+is-strictly-above-requires c κs = compared-counted _ _ _ (sym (c .before .before .compared .ensures) ∙ c .enum-told .given .1)
+
+verdict-of-requires : tie.Need-verdict-of-requires
+verdict-of-requires c κs = search needs
+
+enum-known-answer : tie.Need-enum-known-answer
+enum-known-answer c = search needs
 
 returns : tie.Need-returns
-unfolding strictlyDominates
-returns c = rw (c .before .dominates .ensures, c .same-label .ensures)
+unfolding strictlyDominatesOf
+returns c =
+    let told = c .before .before in
+    rw (← told .before .before .compared .ensures, told .enum-told .given .1, ← c .before .is-strictly-above .ensures) (c .verdict-of .ensures)
+
+returns-2 : tie.Need-returns-2
+unfolding strictlyDominatesOf
+returns-2 c = rw (← c .before .before .before .compared .ensures, c .before .answer .given .1)
 
 pub strictly-dominates-spec : {M : Type 1} → statement M
-strictly-dominates-spec = tie.close (tie.spec dominates-requires same-label-requires returns)
+strictly-dominates-spec =
+    tie.close
+    (tie.spec
+    compared-requires
+    enum-told
+    is-strictly-above-requires
+    verdict-of-requires
+    enum-known-answer
+    returns
+    returns-2)

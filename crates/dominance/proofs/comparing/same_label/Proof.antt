@@ -1,7 +1,7 @@
 use Rattle.dominance.specs.TwoLabels.{sameLabel}
 use borrow.Author.Needs.{needs}
-use Rattle.dominance.proofs.merging.same_label.Statement.{statement}
-use Rattle.dominance.proofs.merging.same_label.Tie as tie
+use Rattle.dominance.proofs.comparing.same_label.Statement.{statement}
+use Rattle.dominance.proofs.comparing.same_label.Tie as tie
 
 same-requires : tie.Need-same-requires
 same-requires c κs = search needs
