@@ -63,7 +63,7 @@ calls! {
     "may-read-last", VERDICT => may_read(&scene.image, &scene.session, scene.last_tag);
     "may-read-unknown", VERDICT => may_read(&scene.image, &scene.session, scene.unknown_tag);
     "may-write-last", VERDICT => may_write(&scene.image, &scene.session, scene.last_tag);
-    "dominates", None => dominates(&scene.whole, &scene.last_label);
+    "dominates", None => dominates(&scene.image, &scene.whole, &scene.last_label);
     "merge", None => merge(&scene.last_label, &scene.text_label, b"LMU", &mut out.label);
 }
 
@@ -72,9 +72,9 @@ impl Call {
         CALLS.iter().chain(ROW_CALLS).find(|call| call.name == name)
     }
 
-    /// Dominance and merging are lent no image.
+    /// Merging is lent no image.
     pub fn is_lent_an_image(&self) -> bool {
-        !matches!(self.function, "dominates" | "merge")
+        self.function != "merge"
     }
 
     /// Without the library ours can't be run.

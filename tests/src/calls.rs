@@ -77,7 +77,7 @@ impl Debug for Call {
     }
 }
 
-/// A call that is lent two labels; merging writes a third.
+/// A call that is lent two labels. Dominance is lent an image too; merging writes a third label.
 #[derive(Clone, Debug, PartialEq, Eq)]
 pub enum PairCall {
     Dominates,
@@ -89,6 +89,8 @@ pub enum PairCall {
 pub type Pair = [[u8; LABEL]; 2];
 
 impl PairCall {
+    pub const QUESTIONS: [PairCall; 2] = [PairCall::Dominates, PairCall::StrictlyDominates];
+
     pub fn name(&self) -> &'static str {
         match self {
             PairCall::Dominates => "dominates",
@@ -102,28 +104,38 @@ impl PairCall {
         !matches!(self, PairCall::Merge(_))
     }
 
-    pub fn by_library(&self, [first, second]: &Pair, out: &mut [u8; LABEL]) -> Answer {
+    /// Merging isn't lent the image.
+    pub fn by_library(&self, image: &[u8], pair: &Pair, out: &mut [u8; LABEL]) -> Answer {
+        let [first, second] = pair;
         match self {
-            PairCall::Dominates => ffi::dominates(first, second),
-            PairCall::StrictlyDominates => ffi::strictly_dominates(first, second),
+            PairCall::Dominates => ffi::dominates(image, first, second),
+            PairCall::StrictlyDominates => ffi::strictly_dominates(image, first, second),
             PairCall::Merge(letters) => ffi::merge(first, second, letters, out),
         }
     }
 
-    pub fn by_model(&self, pair: &Pair, out: &mut [u8; LABEL]) -> Answer {
+    /// What the check gave is lent, as in `Call::by_model`.
+    pub fn by_model(
+        &self,
+        image: &Result<Image, Refusal>,
+        pair: &Pair,
+        out: &mut [u8; LABEL],
+    ) -> Answer {
         let [first, second] = pair.each_ref().map(Label::read);
-        match self {
-            PairCall::Dominates => Answer::Done(model::dominates(&first, &second).into()),
+        let image = image.as_ref().map_err(|refusal| *refusal);
+        let verdict = match self {
+            PairCall::Dominates => image.and_then(|it| model::dominates(it, &first, &second)),
             PairCall::StrictlyDominates => {
-                Answer::Done(model::strictly_dominates(&first, &second).into())
+                image.and_then(|it| model::strictly_dominates(it, &first, &second))
             }
             PairCall::Merge(letters) => {
                 let merged = model::merge(&first, &second, letters);
-                if let Ok(label) = &merged {
+                return expected(merged.map(|label| {
                     *out = label.to_bytes();
-                }
-                expected(merged.map(|_| 0))
+                    0
+                }));
             }
-        }
+        };
+        expected(verdict.map(u64::from))
     }
 }

@@ -1,8 +1,8 @@
-//! What two programs are compared by: the model's result as an answer, the seeds, and how often
-//! each answer came.
+//! What two programs are compared by: an image for both, the model's result as an answer, the seeds,
+//! and how often each answer came.
 
 use crate::ffi::Answer;
-use crate::model::Refusal;
+use crate::model::{accepted, Image, Refusal};
 use std::collections::BTreeMap;
 use std::ops::Range;
 
@@ -25,6 +25,21 @@ pub fn expected(result: Result<u64, Refusal>) -> Answer {
             number: refusal.number(),
             place: refusal.place() as u32,
         },
+    }
+}
+
+/// An image, and what the model's check gives for it: one check serves many calls.
+pub struct Checked<'a> {
+    pub image: &'a [u8],
+    pub by_model: Result<Image<'a>, Refusal>,
+}
+
+impl Checked<'_> {
+    pub fn new(image: &[u8]) -> Checked<'_> {
+        Checked {
+            image,
+            by_model: accepted(image),
+        }
     }
 }
 

@@ -1,5 +1,5 @@
 //! Tests of the compiled library against a second implementation, the model, which follows
-//! document 01 with request R-2 of document 02 and shares no code with the library.
+//! document 01 with requests of document 02 and shares no code with the library.
 //!
 //! - `model`: the rules of an image, of label text, of sessions, of verdicts, of tables and of two
 //!   labels, as the document states them.
@@ -10,7 +10,8 @@
 //! - `walk`: calls on sessions by seed, for comparing.
 //! - `tables`: calls on rows by seed, for comparing.
 //! - `hidden`: two tables with different hidden rows, and one sequence of calls on each, by seed.
-//! - `pairs`: two labels and merge letters by seed, for comparing.
+//! - `pairs`: two labels under a policy, sessions beside label records, and two labels with merge
+//!   letters, by seed, for comparing.
 //! - `vectors`: cases with outside answers.
 //! - `ffi`: the compiled library; `program`: the compiled program `report`.
 //! - `calls`, `row_calls`: calls as values, for the library and for the model.

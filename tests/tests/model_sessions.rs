@@ -1,11 +1,9 @@
-//! The model of sessions, verdicts and two labels by itself, and what it is compared on.
+//! The model of sessions and verdicts by itself, and what it is compared on.
 
 use brawnesk_tests::builder::{sample, to_image};
-use brawnesk_tests::calls::{Call, PairCall};
-use brawnesk_tests::compare::CallTally;
+use brawnesk_tests::calls::Call;
 use brawnesk_tests::ffi::{Answer, SESSION};
 use brawnesk_tests::model::{accepted, check, Label, Session};
-use brawnesk_tests::pairs;
 use brawnesk_tests::rng::Rng;
 use brawnesk_tests::vectors;
 use brawnesk_tests::walk::{each_call, policy, Break, WalkTally};
@@ -30,15 +28,6 @@ fn vectors_are_of_the_sample() {
     let mut last = vectors::sessions().pop().expect("the files have sections");
     last.policy.labels = sample().labels;
     assert_eq!(to_image(&last.policy), to_image(&sample()));
-}
-
-#[test]
-fn vectors_of_two_labels() {
-    let cases = vectors::two_labels();
-    assert!(cases.len() >= 40, "{} cases", cases.len());
-    for case in cases {
-        case.run(PairCall::by_model);
-    }
 }
 
 /// The walks for comparing go everywhere.
@@ -81,23 +70,6 @@ fn each_break_is_refused() {
     }
     println!("{:?}", Break::ALL.iter().zip(&applied).collect::<Vec<_>>());
     assert!(applied.iter().all(|&times| times >= 50), "{applied:?}");
-}
-
-#[test]
-fn pairs_are_varied() {
-    let mut tally = CallTally::default();
-    for seed in 0..2_000 {
-        let mut rng = Rng::new(seed);
-        let pair = pairs::pair(&mut rng);
-        for call in pairs::calls(&mut rng) {
-            let answer = call.by_model(&pair, &mut [0; 48]);
-            tally.add(call.name(), call.is_verdict(), answer);
-        }
-    }
-    println!("{tally:?}");
-    tally.assert_both("dominates");
-    tally.assert_both("strictly_dominates");
-    tally.assert_least("merge", &["done", "17"], 20_000);
 }
 
 #[test]

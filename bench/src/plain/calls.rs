@@ -142,9 +142,11 @@ pub fn masked(
 }
 
 #[inline(never)]
-pub fn dominates(first: &[u8; LABEL], second: &[u8; LABEL]) -> Answer {
-    let [first, second] = [first, second].map(Label::read_low);
-    Answer::Done(two_labels::dominates(&first, &second).into())
+pub fn dominates(image: &[u8], first: &[u8; LABEL], second: &[u8; LABEL]) -> Answer {
+    let labels = [first, second].map(Label::read);
+    let policy = Policy::accepted(image);
+    let verdict = policy.and_then(|policy| two_labels::dominates(&policy, labels));
+    expected(verdict.map(u64::from))
 }
 
 #[inline(never)]

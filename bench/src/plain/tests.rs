@@ -119,19 +119,32 @@ fn rows() {
 }
 
 #[test]
-fn two_labels() {
+fn dominance() {
+    for seed in 0..500 {
+        pairs::each_pair(seed, 40, |step| {
+            if step.call == PairCall::Dominates {
+                let (image, [first, second]) = (step.image, &step.pair);
+                let answer = calls::dominates(image, first, second);
+                assert_eq!(answer, step.answer, "seed {seed}: {first:?}, {second:?}");
+            }
+        });
+    }
+}
+
+#[test]
+fn merging() {
+    let no_image = model::accepted(&[]);
     for seed in 0..2_000 {
         let mut rng = Rng::new(seed);
         let pair = pairs::pair(&mut rng);
         let [first, second] = &pair;
-        for call in pairs::calls(&mut rng) {
-            let (mut out, mut wanted) = ([7; LABEL], [7; LABEL]);
-            let answer = match &call {
-                PairCall::Dominates => calls::dominates(first, second),
-                PairCall::StrictlyDominates => continue,
-                PairCall::Merge(letters) => calls::merge(first, second, letters, &mut out),
+        for call in pairs::merges(&mut rng) {
+            let PairCall::Merge(letters) = &call else {
+                continue;
             };
-            let by_model = call.by_model(&pair, &mut wanted);
+            let (mut out, mut wanted) = ([7; LABEL], [7; LABEL]);
+            let answer = calls::merge(first, second, letters, &mut out);
+            let by_model = call.by_model(&no_image, &pair, &mut wanted);
             assert_eq!(answer, by_model, "seed {seed}: {call:?} of {pair:?}");
             assert_eq!(out, wanted, "seed {seed}: {call:?} of {pair:?}");
         }

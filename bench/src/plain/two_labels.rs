@@ -1,12 +1,25 @@
-//! Two labels: dominance and merging.
+//! Two labels: dominance under a policy, and merging.
 
+use super::groups::Ancestors;
 use super::label::Label;
+use super::policy::Policy;
 use brawnesk_tests::model::Refusal;
 
-pub fn dominates(first: &Label, second: &Label) -> bool {
-    second.level <= first.level
-        && second.compartments & !first.compartments == 0
-        && (second.groups == 0 || second.groups & first.groups != 0)
+/// Of two labels, each of which is nothing where it names a group past the first 64. The table of
+/// ancestors is read only where level and compartments suffice and the labels share no group.
+pub fn dominates(policy: &Policy, labels: [Option<Label>; 2]) -> Result<bool, Refusal> {
+    let known = labels.map(|label| label.filter(|label| policy.has(label)));
+    let [Some(first), Some(second)] = known else {
+        return Err(Refusal::Component);
+    };
+    if second.level > first.level || second.compartments & !first.compartments != 0 {
+        return Ok(false);
+    }
+    if second.groups == 0 || second.groups & first.groups != 0 {
+        return Ok(true);
+    }
+    let ancestors = Ancestors::read(policy.blocks, &policy.counts).map_err(Refusal::Ring)?;
+    Ok(ancestors.meets_below(second.groups, first.groups, first.groups))
 }
 
 pub fn merge(first: &Label, second: &Label, letters: &[u8]) -> Result<Label, Refusal> {

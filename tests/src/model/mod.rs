@@ -1,7 +1,7 @@
 //! The rules of a policy image, of label text, of sessions, of verdicts, of tables, of two labels
-//! and of the report, written from document 01 section by section, and from request R-2 of document
-//! 02 for what a faulty image is refused with, without a thought for speed. Nothing here is shared
-//! with the library or with the builder of images.
+//! and of the report, written from document 01 section by section, and from the requests of document
+//! 02: R-2 for what a faulty image is refused with, R-3 for dominance. There is no thought for speed,
+//! and nothing here is shared with the library or with the builder of images.
 
 mod faults;
 mod groups;

@@ -145,9 +145,9 @@ fn changed(block: usize, at: usize, byte: u8) -> Vec<u8> {
     image
 }
 
-/// Images of the sample, each with the refusal that every call gives to a broken session. Block 1
-/// holds the components, block 2 the labels and block 3 the user.
-fn images() -> Vec<(Vec<u8>, Answer)> {
+/// Images of the sample that are refused, each with its refusal. Block 1 holds the components, block 2
+/// the labels and block 3 the user.
+pub fn refused_images() -> Vec<(Vec<u8>, Answer)> {
     let whole = to_image(&sample());
     let mut unsound = whole.clone();
     unsound[600] ^= 1;
@@ -163,8 +163,14 @@ fn images() -> Vec<(Vec<u8>, Answer)> {
         (changed(1, 4 + 7 * 40 + 34, 2), refused(35, 2)),
         // MARA's write group is SOUTH, which isn't below NORTH.
         (changed(3, 4 + 80, 8), refused(34, 3 * 65_536)),
-        (whole, refused(19, 0)),
     ]
+}
+
+/// The refusals that every call gives to a broken session.
+fn images() -> Vec<(Vec<u8>, Answer)> {
+    let mut images = refused_images();
+    images.push((to_image(&sample()), refused(19, 0)));
+    images
 }
 
 /// At first all is wrong; then one thing after the other is mended.

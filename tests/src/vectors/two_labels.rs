@@ -2,7 +2,7 @@
 
 use super::parts::{parts_with, Form};
 use super::{first_word, question_and_answer, read_label, read_refusal, read_verdict};
-use crate::builder::Policy;
+use crate::builder::{to_image, Policy};
 use crate::calls::{Pair, PairCall};
 use crate::ffi::{Answer, LABEL};
 
@@ -12,6 +12,7 @@ const UNWRITTEN: [u8; LABEL] = [0xa5; LABEL];
 pub struct PairCase {
     /// The line, for a wrong answer.
     pub line: &'static str,
+    image: Vec<u8>,
     call: PairCall,
     labels: Pair,
     answer: Answer,
@@ -20,9 +21,9 @@ pub struct PairCase {
 
 impl PairCase {
     /// Asks that the call gives its answer and its label.
-    pub fn run(&self, ask: impl Fn(&PairCall, &Pair, &mut [u8; LABEL]) -> Answer) {
+    pub fn run(&self, ask: impl Fn(&PairCall, &[u8], &Pair, &mut [u8; LABEL]) -> Answer) {
         let mut out = UNWRITTEN;
-        let answer = ask(&self.call, &self.labels, &mut out);
+        let answer = ask(&self.call, &self.image, &self.labels, &mut out);
         assert_eq!(answer, self.answer, "{}", self.line);
         assert_eq!(out, self.merged, "{}", self.line);
     }
@@ -57,6 +58,7 @@ fn read_case(policy: &Policy, line: &'static str) -> PairCase {
     };
     PairCase {
         line,
+        image: to_image(policy),
         call,
         labels: [first, second].map(|text| read_label(policy, text).to_bytes()),
         answer,

@@ -9,7 +9,7 @@ mod wishes;
 
 pub use breaks::Break;
 pub use bytes::{label_at, spoil_unused, LABEL_AT, ROW_AT};
-pub use policy::policy;
+pub use policy::{one_of, policy};
 pub use tally::WalkTally;
 
 use crate::builder::{letters, to_image, Label, Policy};
@@ -90,6 +90,11 @@ impl Walk {
             let call = self.call(&session);
             self.go(&call, image, &mut session);
         }
+    }
+
+    /// Sessions that were handed out.
+    pub fn remembered(&self) -> &[[u8; SESSION]] {
+        &self.sessions
     }
 
     /// The model's answer. A session that is handed out is remembered.

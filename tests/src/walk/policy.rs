@@ -91,6 +91,6 @@ fn row_groups(policy: &Policy, user: &User, rng: &mut Rng) -> u64 {
 }
 
 /// The set of one place of a set, or none.
-fn one_of(set: u64, rng: &mut Rng) -> u64 {
+pub fn one_of(set: u64, rng: &mut Rng) -> u64 {
     rng.place_in(set).map_or(0, |place| 1 << place)
 }

@@ -1,11 +1,10 @@
-//! Two labels and merge letters by seed, for comparing.
+//! Two labels and merge letters. No policy is asked, so any places will do.
 
 use crate::calls::{Pair, PairCall};
 use crate::ffi::LABEL;
 use crate::rng::Rng;
 
-/// Two labels, the second often made from the first, so that one often dominates the other. Bytes that
-/// are not looked at hold anything.
+/// Two labels, the second often made from the first. Bytes that are not looked at hold anything.
 pub fn pair(rng: &mut Rng) -> Pair {
     let first = Places::any(rng);
     let mut second = first.clone();
@@ -22,7 +21,7 @@ pub fn pair(rng: &mut Rng) -> Pair {
     pair
 }
 
-/// Level, compartments and groups as numbers. No policy is asked, so any will do.
+/// Level, compartments and groups as numbers.
 #[derive(Clone)]
 struct Places {
     level: u8,
@@ -86,7 +85,7 @@ pub fn triples() -> Vec<Vec<u8>> {
 
 /// Letters that mostly aren't allowed: a triple with another byte, with a small letter, in another
 /// order, too short or too long; at times random bytes.
-pub fn letters(rng: &mut Rng) -> Vec<u8> {
+fn letters(rng: &mut Rng) -> Vec<u8> {
     let mut letters = rng.pick(&triples()).clone();
     let at = rng.index(3);
     match rng.index(8) {
@@ -102,11 +101,10 @@ pub fn letters(rng: &mut Rng) -> Vec<u8> {
     letters
 }
 
-/// Both questions, all triples and as many other letters.
-pub fn calls(rng: &mut Rng) -> Vec<PairCall> {
+/// All triples and as many other letters.
+pub fn merges(rng: &mut Rng) -> Vec<PairCall> {
     let triples = triples();
     let others: Vec<Vec<u8>> = triples.iter().map(|_| letters(rng)).collect();
-    let merges = triples.into_iter().chain(others).map(PairCall::Merge);
-    let questions = [PairCall::Dominates, PairCall::StrictlyDominates];
-    questions.into_iter().chain(merges).collect()
+    let all = triples.into_iter().chain(others);
+    all.map(PairCall::Merge).collect()
 }

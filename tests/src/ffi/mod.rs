@@ -1,26 +1,11 @@
 //! The compiled library, as its C functions give it.
 
-/// An answer of the library, taken apart.
-#[derive(Clone, Copy, Debug, PartialEq, Eq)]
-pub enum Answer {
-    Done(u64),
-    Refused { number: u32, place: u32 },
-}
+mod answer;
+mod raw;
 
-const REFUSED: u64 = 1 << 63;
+pub use answer::Answer;
 
-impl Answer {
-    /// Below 2^63 an answer is the value. From there on it is 2^63 + number * 2^32 + place.
-    pub fn decode(answer: u64) -> Answer {
-        if answer < REFUSED {
-            return Answer::Done(answer);
-        }
-        Answer::Refused {
-            number: ((answer - REFUSED) >> 32) as u32,
-            place: answer as u32,
-        }
-    }
-}
+use raw::*;
 
 /// The bytes of a label.
 pub const LABEL: usize = 48;
@@ -30,110 +15,6 @@ pub const SESSION: usize = 104;
 
 /// False where the archive was absent when this package was built.
 pub const LINKED: bool = cfg!(not(no_library));
-
-#[cfg(no_library)]
-const ABSENT: &str = "libabi.a is absent: build it (rt staticlib abi), or set BRAWNESK_LIB_DIR";
-
-/// Declares the C functions, each of which gives a `u64`. Without the archive each call panics.
-macro_rules! functions {
-    ($(fn $name:ident($($argument:ident: $type:ty),* $(,)?);)*) => {
-        #[cfg(not(no_library))]
-        extern "C" {
-            $(fn $name($($argument: $type),*) -> u64;)*
-        }
-
-        $(
-            #[cfg(no_library)]
-            #[allow(clippy::too_many_arguments)]
-            unsafe fn $name($(_: $type),*) -> u64 {
-                panic!("{ABSENT}")
-            }
-        )*
-    };
-}
-
-functions! {
-    fn brawnesk_check(image: *const u8, length: usize);
-    fn brawnesk_name(image: *const u8, length: usize, class: u8, place: u8);
-    fn brawnesk_parse(
-        image: *const u8,
-        length: usize,
-        text: *const u8,
-        text_length: usize,
-        label: *mut u8,
-    );
-    fn brawnesk_print(
-        image: *const u8,
-        length: usize,
-        label: *const u8,
-        out: *mut u8,
-        out_length: usize,
-    );
-    fn brawnesk_open(
-        image: *const u8,
-        length: usize,
-        name: *const u8,
-        name_length: usize,
-        session: *mut u8,
-    );
-    fn brawnesk_set_label(
-        image: *const u8,
-        length: usize,
-        session: *mut u8,
-        text: *const u8,
-        text_length: usize,
-    );
-    fn brawnesk_set_row_label(
-        image: *const u8,
-        length: usize,
-        session: *mut u8,
-        text: *const u8,
-        text_length: usize,
-    );
-    fn brawnesk_may_read(image: *const u8, length: usize, session: *const u8, tag: u32);
-    fn brawnesk_may_write(image: *const u8, length: usize, session: *const u8, tag: u32);
-    fn brawnesk_read(
-        image: *const u8,
-        length: usize,
-        session: *const u8,
-        table: *const u8,
-        table_length: usize,
-        width: usize,
-        out: *mut u8,
-        out_length: usize,
-    );
-    fn brawnesk_update(
-        image: *const u8,
-        length: usize,
-        session: *const u8,
-        table: *mut u8,
-        table_length: usize,
-        width: usize,
-        n: usize,
-        payload: *const u8,
-        payload_length: usize,
-    );
-    fn brawnesk_masked(
-        image: *const u8,
-        length: usize,
-        session: *const u8,
-        table: *const u8,
-        table_length: usize,
-        width: usize,
-        place: usize,
-        mask: *const u8,
-        mask_length: usize,
-    );
-    fn brawnesk_dominates(first: *const u8, second: *const u8);
-    fn brawnesk_strictly_dominates(first: *const u8, second: *const u8);
-    fn brawnesk_merge(
-        first: *const u8,
-        second: *const u8,
-        letters: *const u8,
-        letters_length: usize,
-        label: *mut u8,
-    );
-}
 
 // SAFETY, of every call below: a pointer and a length are those of a borrowed slice, and a label or a
 // session is a borrowed array of all its bytes. What the call only reads is shared; what it writes is
@@ -255,14 +136,18 @@ pub fn masked(
     })
 }
 
-/// `brawnesk_dominates`: 1 for yes and 0 for no.
-pub fn dominates(first: &[u8; LABEL], second: &[u8; LABEL]) -> Answer {
-    Answer::decode(unsafe { brawnesk_dominates(first.as_ptr(), second.as_ptr()) })
+/// `brawnesk_dominates`: when done, 1 for yes and 0 for no.
+pub fn dominates(image: &[u8], first: &[u8; LABEL], second: &[u8; LABEL]) -> Answer {
+    let (image, length) = (image.as_ptr(), image.len());
+    let (first, second) = (first.as_ptr(), second.as_ptr());
+    Answer::decode(unsafe { brawnesk_dominates(image, length, first, second) })
 }
 
-/// `brawnesk_strictly_dominates`: 1 for yes and 0 for no.
-pub fn strictly_dominates(first: &[u8; LABEL], second: &[u8; LABEL]) -> Answer {
-    Answer::decode(unsafe { brawnesk_strictly_dominates(first.as_ptr(), second.as_ptr()) })
+/// `brawnesk_strictly_dominates`: when done, 1 for yes and 0 for no.
+pub fn strictly_dominates(image: &[u8], first: &[u8; LABEL], second: &[u8; LABEL]) -> Answer {
+    let (image, length) = (image.as_ptr(), image.len());
+    let (first, second) = (first.as_ptr(), second.as_ptr());
+    Answer::decode(unsafe { brawnesk_strictly_dominates(image, length, first, second) })
 }
 
 /// `brawnesk_merge`: when done, the label is written.
@@ -275,21 +160,4 @@ pub fn merge(
     let (first, second) = (first.as_ptr(), second.as_ptr());
     let (letters, length) = (letters.as_ptr(), letters.len());
     Answer::decode(unsafe { brawnesk_merge(first, second, letters, length, label.as_mut_ptr()) })
-}
-
-#[cfg(test)]
-mod tests {
-    use super::Answer;
-
-    #[test]
-    fn answers_are_taken_apart() {
-        assert_eq!(Answer::decode(7), Answer::Done(7));
-        assert_eq!(Answer::decode((1 << 63) - 1), Answer::Done((1 << 63) - 1));
-        let refused = (1 << 63) + 2 * (1 << 32) + 126;
-        let expected = Answer::Refused {
-            number: 2,
-            place: 126,
-        };
-        assert_eq!(Answer::decode(refused), expected);
-    }
 }
