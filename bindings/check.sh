@@ -25,7 +25,7 @@ text() {
     sed -E 's#^ *(///|//!|/\*|\*/|\*)?##; s#\*/ *$##' "$@" | tr -s ' \n' ' '
 }
 # What the header says of lending, and of groups past the 64th, docs/CALLS.md and the crate say in the same words.
-for words in 'What a call writes overlaps .* reads none of it\.' 'Dominance and merging do not look [^.]*\.'; do
+for words in 'What a call writes overlaps .* reads none of it\.' 'Merging alone does not look [^.]*\.'; do
     said=$(text include/brawnesk.h | grep -o "$words")
     text docs/CALLS.md | grep -qF "$said" || { echo "docs/CALLS.md does not say: $said"; exit 1; }
     text bindings/rust/src/*.rs | grep -qF "$said" || { echo "bindings/rust does not say: $said"; exit 1; }

@@ -96,6 +96,14 @@ static void verdicts(const uint8_t *session) {
     tell("may_write", brawnesk_may_write(image, length, session, 30));
 }
 
+/* Tag 10 carries that label. MARA has no privileges, so the two answers are the same. */
+static void reading(const uint8_t *session) {
+    uint8_t row[BRAWNESK_LABEL];
+    parse("CREW:KILN:DOCK", row);
+    tell("may_read", brawnesk_may_read(image, length, session, 10));
+    tell("dominates", brawnesk_dominates(image, length, session + 8, row));
+}
+
 static void read_rows(const uint8_t *session) {
     uint8_t out[sizeof table];
     uint64_t count = brawnesk_read(image, length, session, table, sizeof table, 8, out, sizeof out);
@@ -143,6 +151,7 @@ static void sessions(void) {
         return;
     print("open", session + 8);
     verdicts(session);
+    reading(session);
     read_rows(session);
     update(session);
     masked(session);
@@ -152,16 +161,22 @@ static void sessions(void) {
 }
 
 static void dominance(void) {
-    uint8_t a[BRAWNESK_LABEL], ab[BRAWNESK_LABEL], b[BRAWNESK_LABEL];
-    parse("CREW::NORTH", a);
-    parse("CREW::NORTH,SOUTH", ab);
-    parse("CREW::SOUTH", b);
-    tell("dominates", brawnesk_dominates(a, ab));
-    tell("dominates", brawnesk_dominates(ab, b));
-    tell("dominates", brawnesk_dominates(a, b));
-    tell("strictly_dominates", brawnesk_strictly_dominates(a, ab));
-    tell("strictly_dominates", brawnesk_strictly_dominates(ab, a));
-    tell("strictly_dominates", brawnesk_strictly_dominates(a, a));
+    uint8_t north[BRAWNESK_LABEL], dock[BRAWNESK_LABEL], both[BRAWNESK_LABEL], south[BRAWNESK_LABEL];
+    parse("CREW::NORTH", north);
+    parse("CREW::DOCK", dock);
+    parse("CREW::DOCK,SOUTH", both);
+    parse("CREW::SOUTH", south);
+    tell("dominates", brawnesk_dominates(image, length, north, dock));
+    tell("dominates", brawnesk_dominates(image, length, dock, north));
+    tell("dominates", brawnesk_dominates(image, length, north, both));
+    tell("dominates", brawnesk_dominates(image, length, both, south));
+    tell("dominates", brawnesk_dominates(image, length, north, south));
+    tell("strictly_dominates", brawnesk_strictly_dominates(image, length, north, dock));
+    tell("strictly_dominates", brawnesk_strictly_dominates(image, length, north, north));
+    tell("strictly_dominates", brawnesk_strictly_dominates(image, length, dock, both));
+    tell("strictly_dominates", brawnesk_strictly_dominates(image, length, both, dock));
+    south[4] = 3;
+    tell("dominates", brawnesk_dominates(image, length, north, south));
 }
 
 static void merge(void) {

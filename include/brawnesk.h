@@ -31,8 +31,9 @@ uint64_t brawnesk_check(const uint8_t *image, size_t image_length);
 uint64_t brawnesk_name(const uint8_t *image, size_t image_length, uint8_t component_class, uint8_t place);
 
 /* A label is 48 bytes: byte 4 the level's place; 8..15 the compartments and 16..47 the groups, as little-endian sets with bit p
- * for place p. The other bytes are written as zero and not looked at. Dominance and merging do not look at groups past the 64th, bytes 24
- * to 47 of a label; merging writes these bytes as zero. */
+ * for place p. The other bytes are written as zero and not looked at. A policy has at most 64 groups: a bit that is set in bytes 24 to 47
+ * names a group that no policy has. Merging alone does not look at groups past the 64th, bytes 24 to 47 of a label, and writes these bytes
+ * as zero. */
 enum { BRAWNESK_LABEL = 48 };
 
 /* The label that a text names: LEVEL, LEVEL:list, LEVEL:list:list or LEVEL::list. Done: 0, and the label's 48 bytes are written.
@@ -80,9 +81,12 @@ uint64_t brawnesk_update(const uint8_t *image, size_t image_length, const uint8_
 uint64_t brawnesk_masked(const uint8_t *image, size_t image_length, const uint8_t *session, const uint8_t *table, size_t table_length,
                          size_t width, size_t place, const uint8_t *mask, size_t mask_length);
 
-/* Does label 1 dominate label 2? Strictly: and the labels differ. 1 yes, 0 no; never refused. */
-uint64_t brawnesk_dominates(const uint8_t *label1, const uint8_t *label2);
-uint64_t brawnesk_strictly_dominates(const uint8_t *label1, const uint8_t *label2);
+/* Does label 1 dominate label 2: is its level at least as high, has it all compartments of label 2, and has label 2 no groups, or one that
+ * is among label 1's or has an ancestor there, at any distance? Strictly: and the labels differ. Where a session's user has none of READ,
+ * FULL and COMPACCESS, the session may read a row whose tag the image has exactly if the session label dominates the row's label.
+ * Done: 1 yes, 0 no. Refusals: 1, 2, 31 to 35, 18 either label names a component that the policy lacks. */
+uint64_t brawnesk_dominates(const uint8_t *image, size_t image_length, const uint8_t *label1, const uint8_t *label2);
+uint64_t brawnesk_strictly_dominates(const uint8_t *image, size_t image_length, const uint8_t *label1, const uint8_t *label2);
 
 /* One label of two, by three letters: H or L for the higher or lower level; U union, I intersection, M the first without the second or
  * N none, for the compartments and for the groups. Done: 0, and the 48 bytes of merged are written. Refusal: 17 other letters. */

@@ -1,15 +1,16 @@
-//! Two labels: dominance and merging.
+//! Two labels: dominance under an image, and merging.
 
 use crate::raw;
-use crate::{decode, Refusal};
+use crate::{decode, Image, Refusal};
 
 /// The bytes of a label.
 pub const LABEL: usize = 48;
 
 /// A label in its bytes: byte 4 the level's place; 8..15 the compartments and 16..47 the groups, as
 /// little-endian sets with bit p for place p. The other bytes are written as zero and not looked at.
-/// Dominance and merging do not look at groups past the 64th, bytes 24 to 47 of a label; merging writes
-/// these bytes as zero.
+/// A policy has at most 64 groups: a bit that is set in bytes 24 to 47 names a group that no policy has.
+/// Merging alone does not look at groups past the 64th, bytes 24 to 47 of a label, and writes these
+/// bytes as zero.
 ///
 /// Places are those of one image. Labels of two images cannot be compared.
 #[derive(Clone, Copy, Debug, PartialEq, Eq)]
@@ -17,35 +18,43 @@ pub struct Label(pub [u8; LABEL]);
 
 impl Label {
     /// Does this label dominate the other: is its level at least as high, has it all compartments of
-    /// the other, and has the other no groups or shares one? Groups are compared as listed. Never
-    /// refused.
+    /// the other, and has the other no groups, or one that is among this label's or has an ancestor
+    /// there, at any distance? Refusals: 1, 2, 31 to 35, 18 the policy lacks what either label names.
+    ///
+    /// Where a session's user has none of READ, FULL and COMPACCESS, the session may read a row whose
+    /// tag the image has exactly if the session label dominates the row's label.
     ///
     /// ```
     /// # use brawnesk::Image;
     /// # let bytes = std::fs::read("../../sample/cooperative.img")?;
     /// let image = Image::new(&bytes);
-    /// let (high, low) = (image.parse("VAULT:KILN:DOCK")?, image.parse("CREW::DOCK,SOUTH")?);
-    /// assert!(high.dominates(low) && !low.dominates(high));
+    /// let (north, dock) = (image.parse("CREW::NORTH")?, image.parse("CREW::DOCK")?);
+    /// assert_eq!(north.dominates(image, dock), Ok(true)); // DOCK is below NORTH
+    /// assert_eq!(dock.dominates(image, north), Ok(false));
     /// # Ok::<(), Box<dyn std::error::Error>>(())
     /// ```
-    pub fn dominates(self, other: Label) -> bool {
-        let (one, two) = (self.0.as_ptr(), other.0.as_ptr());
-        unsafe { raw::brawnesk_dominates(one, two) == 1 }
+    pub fn dominates(self, image: Image, other: Label) -> Result<bool, Refusal> {
+        let ((image, length), one, two) = (image.lent(), self.0.as_ptr(), other.0.as_ptr());
+        let answer = unsafe { raw::brawnesk_dominates(image, length, one, two) };
+        Ok(decode(answer)? == 1)
     }
 
-    /// Does this label dominate the other, and do the two differ?
+    /// Does this label dominate the other, and do the two differ in level, compartments or groups?
+    /// Refusals: as for [`Label::dominates`].
     ///
     /// ```
     /// # use brawnesk::Image;
     /// # let bytes = std::fs::read("../../sample/cooperative.img")?;
     /// let image = Image::new(&bytes);
-    /// let (high, low) = (image.parse("VAULT:KILN:DOCK")?, image.parse("CREW::DOCK,SOUTH")?);
-    /// assert!(high.strictly_dominates(low) && !high.strictly_dominates(high));
+    /// let (north, dock) = (image.parse("CREW::NORTH")?, image.parse("CREW::DOCK")?);
+    /// assert_eq!(north.strictly_dominates(image, dock), Ok(true));
+    /// assert_eq!(north.strictly_dominates(image, north), Ok(false));
     /// # Ok::<(), Box<dyn std::error::Error>>(())
     /// ```
-    pub fn strictly_dominates(self, other: Label) -> bool {
-        let (one, two) = (self.0.as_ptr(), other.0.as_ptr());
-        unsafe { raw::brawnesk_strictly_dominates(one, two) == 1 }
+    pub fn strictly_dominates(self, image: Image, other: Label) -> Result<bool, Refusal> {
+        let ((image, length), one, two) = (image.lent(), self.0.as_ptr(), other.0.as_ptr());
+        let answer = unsafe { raw::brawnesk_strictly_dominates(image, length, one, two) };
+        Ok(decode(answer)? == 1)
     }
 
     /// One label of two, by three letters: `H` or `L` for the higher or lower level; `U` union, `I`

@@ -95,8 +95,18 @@ extern "C" {
         mask: *const u8,
         mask_length: usize,
     ) -> u64;
-    pub fn brawnesk_dominates(label1: *const u8, label2: *const u8) -> u64;
-    pub fn brawnesk_strictly_dominates(label1: *const u8, label2: *const u8) -> u64;
+    pub fn brawnesk_dominates(
+        image: *const u8,
+        image_length: usize,
+        label1: *const u8,
+        label2: *const u8,
+    ) -> u64;
+    pub fn brawnesk_strictly_dominates(
+        image: *const u8,
+        image_length: usize,
+        label1: *const u8,
+        label2: *const u8,
+    ) -> u64;
     pub fn brawnesk_merge(
         label1: *const u8,
         label2: *const u8,

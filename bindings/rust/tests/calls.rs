@@ -33,7 +33,7 @@ fn damaged_images_are_refused() {
 fn every_call_checks_the_image() {
     let bytes = sample();
     let mut session = mara(Image::new(&bytes));
-    let label = session.label();
+    let (label, lacking) = (session.label(), Label([255; LABEL]));
     let lengths = [0, 511].map(|length| (bytes[..length].into(), Refusal::ImageLength));
     for (bytes, refusal) in lengths.into_iter().chain(faulty()) {
         let image = Image::new(&bytes);
@@ -46,6 +46,8 @@ fn every_call_checks_the_image() {
         assert_eq!(session.set_row_label(image, ""), Err(refusal));
         assert_eq!(session.may_read(image, 10), Err(refusal));
         assert_eq!(session.may_write(image, 10), Err(refusal));
+        assert_eq!(label.dominates(image, lacking), Err(refusal));
+        assert_eq!(label.strictly_dominates(image, lacking), Err(refusal));
     }
     assert_eq!(session, mara(Image::new(&bytes)));
 }
@@ -104,17 +106,40 @@ fn p16_texts_are_refused() {
     assert_eq!(image.parse("BOSS"), Err(Refusal::UnknownName(0)));
 }
 
+/// The label of OPEN, but for a byte that names a level, a compartment or a group that the sample lacks.
+fn lacking() -> [Label; 5] {
+    [(4, 3), (8, 4), (16, 16), (24, 1), (47, 128)].map(|(byte, value)| {
+        let mut label = [0; LABEL];
+        label[byte] = value;
+        Label(label)
+    })
+}
+
 #[test]
 fn labels_of_another_policy_are_not_printed() {
     let bytes = sample();
     let image = Image::new(&bytes);
-    for (byte, value) in [(4, 3), (8, 4), (16, 16), (24, 1), (47, 128)] {
-        let mut label = [0; LABEL];
-        label[byte] = value;
-        let printed = image.print(Label(label), &mut [0; 64]).map(str::to_string);
-        assert_eq!(printed, Err(Refusal::NoComponent), "byte {byte}");
+    for label in lacking() {
+        let printed = image.print(label, &mut [0; 64]).map(str::to_string);
+        assert_eq!(printed, Err(Refusal::NoComponent), "{label:?}");
     }
     assert_eq!(image.print(Label([0; LABEL]), &mut [0; 64]), Ok("OPEN"));
+}
+
+/// Neither as the first label nor as the second.
+#[test]
+fn labels_of_another_policy_are_not_compared() {
+    let bytes = sample();
+    let image = Image::new(&bytes);
+    let open = Label([0; LABEL]);
+    for label in lacking() {
+        for (one, two) in [(label, open), (open, label), (label, label)] {
+            let refused = Err(Refusal::NoComponent);
+            assert_eq!(one.dominates(image, two), refused, "{label:?}");
+            assert_eq!(one.strictly_dominates(image, two), refused, "{label:?}");
+        }
+    }
+    assert_eq!(open.dominates(image, open), Ok(true));
 }
 
 #[test]
@@ -211,21 +236,68 @@ fn broken_sessions_are_refused() {
     }
 }
 
-/// Dominance is not transitive: S::A dominates S::A,B, which dominates S::B.
+/// Does the first label dominate the second, and does it so strictly?
 #[test]
 fn dominance() {
     let bytes = sample();
     let image = Image::new(&bytes);
     let label = |text: &str| image.parse(text).expect("a label");
-    let (a, both, b) = (
-        label("CREW::NORTH"),
-        label("CREW::NORTH,SOUTH"),
-        label("CREW::SOUTH"),
-    );
-    assert!(a.dominates(both) && both.dominates(b) && !a.dominates(b));
-    assert!(a.strictly_dominates(both) && both.strictly_dominates(a));
-    assert!(a.dominates(a) && !a.strictly_dominates(a));
-    assert!(!label("OPEN").dominates(a) && !a.dominates(label("CREW:KILN")));
+    let cases = [
+        ("CREW:KILN:NORTH", "CREW:KILN:NORTH", true, false),
+        // The level, and the compartments.
+        ("VAULT::NORTH", "CREW::NORTH", true, true),
+        ("CREW::NORTH", "VAULT::NORTH", false, false),
+        ("CREW:KILN,GLAZE", "CREW:GLAZE", true, true),
+        ("CREW:GLAZE", "CREW:KILN,GLAZE", false, false),
+        ("VAULT:KILN", "CREW:GLAZE", false, false),
+        // DOCK is below NORTH, and NORTH below WORKS; SOUTH is not below NORTH.
+        ("CREW::NORTH", "CREW::DOCK", true, true),
+        ("CREW::WORKS", "CREW::DOCK", true, true),
+        ("CREW::DOCK", "CREW::NORTH", false, false),
+        ("CREW::SOUTH", "CREW::DOCK", false, false),
+        // A label without groups.
+        ("CREW::NORTH", "CREW", true, true),
+        ("CREW", "CREW::NORTH", false, false),
+        // One group is enough, so two labels may strictly dominate each other.
+        ("CREW::DOCK", "CREW::DOCK,SOUTH", true, true),
+        ("CREW::DOCK,SOUTH", "CREW::DOCK", true, true),
+        // Dominance is not transitive.
+        ("CREW::NORTH", "CREW::DOCK,SOUTH", true, true),
+        ("CREW::DOCK,SOUTH", "CREW::SOUTH", true, true),
+        ("CREW::NORTH", "CREW::SOUTH", false, false),
+    ];
+    for (one, two, dominates, strictly) in cases {
+        let names = format!("{one} and {two}");
+        let (one, two) = (label(one), label(two));
+        assert_eq!(one.dominates(image, two), Ok(dominates), "{names}");
+        assert_eq!(one.strictly_dominates(image, two), Ok(strictly), "{names}");
+    }
+}
+
+/// MARA has no privileges: her session may read a known tag exactly if its label dominates the tag's.
+#[test]
+fn what_is_dominated_is_read() {
+    let bytes = sample();
+    let image = Image::new(&bytes);
+    let mut session = mara(image);
+    assert_eq!(session.set_row_label(image, "CREW"), Ok(()));
+    let labels = [
+        "CREW",
+        "VAULT:KILN",
+        "CREW:KILN:DOCK",
+        "CREW:KILN:NORTH",
+        "CREW:GLAZE:NORTH",
+        "VAULT:KILN,GLAZE:NORTH,DOCK",
+    ];
+    for text in labels {
+        assert_eq!(session.set_label(image, text), Ok(()), "{text}");
+        for (tag, row) in [(10, "CREW:KILN:DOCK"), (20, "CREW::WORKS"), (30, "OPEN")] {
+            let row = image.parse(row).expect("a label");
+            let read = session.may_read(image, tag).map(Verdict::is_yes);
+            let dominated = session.label().dominates(image, row);
+            assert_eq!(read, dominated, "{text}, tag {tag}");
+        }
+    }
 }
 
 /// P14: by LMU they give CREW:KILN:NORTH,SOUTH.
