@@ -1,5 +1,5 @@
--- The main theorems of the library, each stated in full over definitions of specs (and `EveryRule`, which says the image's rules in places),
--- and proved by citing where it is proved. A reader who wants to know what is claimed can begin here. Assumes nothing.
+-- The main theorems of the library, each stated in full over definitions of specs (and `EveryRule`, which says the image's rules in places, and
+-- `withCompaccess`), and proved by citing where it is proved. A reader who wants to know what is claimed can begin here. Assumes nothing.
 use Prim.Native.Nat.{ℕ, _<_}
 use mathlib.Core.Path.{_≡_, refl, sym, _∙_}
 use mathlib.Core.Bool.{true, false}
@@ -16,11 +16,11 @@ use Rattle.refusals.specs.declared.answers.Verdict.the-variants.{Yes}
 use Rattle.refusals.specs.declared.Refusal.the-variants.{ImageLayout, ParentRing}
 use Rattle.image.specs.declared.faults.Fault.{Fault}
 use Rattle.image.specs.declared.faults.Fault.the-variants.{Sound}
-use Rattle.image.specs.Faults.{keyOf, keyBefore, lowest, faultsOf}
+use Rattle.image.specs.Faults.{keyOf, keyBefore, lowest, Among, faultsOf}
 use Rattle.image.specs.Check.{faultOf, checkOf, IsAccepted}
 use Rattle.image.specs.Exactly.{Framed, HeaderAtFault, LayoutAtFault, RingAtFault, RecordTold, recordRefusal}
 use Rattle.image.proofs.Exactly.{layout-exactly, record-exactly, ring-exactly}
-use Rattle.image.proofs.Lowest.{Among, all-among, faulty-is, lowest-among, lowest-least}
+use Rattle.image.proofs.Lowest.{all-among, faulty-is, lowest-among, lowest-least}
 use Rattle.image.proofs.EveryRule as image
 use Rattle.image.proofs.EveryRule.{EveryRule}
 use Rattle.image.proofs.Policy.{parents-end}

@@ -1,10 +1,12 @@
 -- The main theorems.
 --     ReadsDominated  a session without privileges reads what its label dominates
---     Held        the session that any bytes stand for, and the C functions on them
---     CFunctions  hidden rows stay hidden from who calls the C functions
---     CInstance   an instance of that on the sample
+--     MaraDominates   an instance of that on the sample
+--     Held            the session that any bytes stand for, and the C functions on them
+--     CFunctions      hidden rows stay hidden from who calls the C functions
+--     CInstance       an instance of that on the sample
 pub mod Claims
 pub mod ReadsDominated
+pub mod MaraDominates
 pub mod Held
 pub mod CFunctions
 pub mod CInstance

@@ -17,7 +17,7 @@ use Rattle.header.specs.Layout.{contentsOf}
 use Rattle.records.specs.Rules.{layoutRule, firstBadRecord}
 use Rattle.image.specs.declared.faults.Fault.{Fault}
 use Rattle.image.specs.declared.faults.Fault.the-variants.{Sound, Length, Block, Layout, Component, Label, User, Ring, Below}
-use Rattle.image.specs.Faults.{keyOf, keyBefore, lower, lowest, faultUnless, faultsAt, recordFault}
+use Rattle.image.specs.Faults.{keyOf, keyBefore, lower, lowest, Among, here, later, faultUnless, faultsAt, recordFault}
 use Rattle.image.specs.Walk.{contentFault}
 
 -- ---- no fault
@@ -200,10 +200,6 @@ module _ (rule : ℕ → Bool) (fault : ℕ → Fault) (rise : (i j : ℕ) → i
       at false ih = lowest-first (fault k) (last k) rest ∙ rw (lt-ltb k (k + suc n) (omega arith))
 
 -- ---- it is the lowest: it is one of them, and none has a key before its own
-pub data Among (f : Fault) : List Fault → Type 0 where
-  here : {fs : List Fault} → Among f (f ∷ fs)
-  later : {g : Fault} {fs : List Fault} → Among f fs → Among f (g ∷ fs)
-
 pub all-among : {P : Fault → Type 0} {f : Fault} {fs : List Fault} → All P fs → Among f fs → P f
 all-among (also p ps) here = p
 all-among (also p ps) (later there) = all-among ps there

@@ -51,7 +51,7 @@ keyOf Sound = 6 ∷ []
 abbrev pub keyBefore : List ℕ → List ℕ → Bool
 keyBefore = nameBefore
 
--- the one of two faults that has the lower key. No two faults of an image have one key: a block holds records of one kind
+-- the one of two faults that has the lower key; of equal keys the first
 abbrev pub lower : Fault → Fault → Fault
 lower f g = cond (keyBefore (keyOf g) (keyOf f)) g f
 
@@ -59,6 +59,11 @@ lower f g = cond (keyBefore (keyOf g) (keyOf f)) g f
 unfoldable pub lowest : List Fault → Fault
 lowest [] = Sound
 lowest (f ∷ fs) = lower f (lowest fs)
+
+-- the fault is one of those listed
+pub data Among (f : Fault) : List Fault → Type 0 where
+  here : {fs : List Fault} → Among f (f ∷ fs)
+  later : {g : Fault} {fs : List Fault} → Among f fs → Among f (g ∷ fs)
 
 -- ---- the faults of an image
 -- that one fault, where the rule fails
