@@ -1,6 +1,6 @@
 -- The main theorems of the library, each stated in full over definitions of specs (and `EveryRule`, which says the image's rules in places, and
 -- `withCompaccess`), and proved by citing where it is proved. A reader who wants to know what is claimed can begin here. Assumes nothing.
-use Prim.Native.Nat.{ℕ, _<_}
+use Prim.Native.Nat.{ℕ, _≤_, _<_}
 use mathlib.Core.Path.{_≡_, refl, sym, _∙_}
 use mathlib.Core.Bool.{true, false}
 use mathlib.Core.List.{List, map, flatten}
@@ -34,6 +34,8 @@ use Rattle.dominance.specs.TwoLabels.{dominatesOf}
 use Rattle.claims.specs.Reading.{NoPrivileges}
 use Rattle.claims.proofs.ReadsDominated.{reads-dominated}
 use Rattle.image.specs.Lookup.{labelOfTag}
+use Rattle.image.specs.Search.{searchWithin, searchTag}
+use Rattle.image.proofs.Halves.{eleven-steps, ten-steps}
 use Rattle.access.proofs.More.{withCompaccess, compaccess-reads, compaccess-writes}
 use Rattle.sessions.specs.Session.{SessionMarks, lentAnswer}
 use Rattle.sessions.specs.Opening.{session, openOf}
@@ -86,6 +88,16 @@ record-told-exactly = record-exactly
 -- 35 exactly if none of these is at fault and g is the lowest group whose parents never end.
 pub ring-told-exactly : (im : List ℕ) → Framed im → (g : ℕ) → (checkOf im ≡ Refused (ParentRing g)) ↔ RingAtFault im g
 ring-told-exactly = ring-exactly
+
+-- ---- the look-up of a tag
+-- 11 steps of the search, each of which reads one record and compares three ways, settle every tag, known or not; where there are at most
+-- 800 labels, 10 do.
+pub eleven-steps-settle : (im : List ℕ) → IsAccepted im → (tag : ℕ) → searchWithin im tag 11 0 ≡ labelOfTag im tag
+unfolding searchTag
+eleven-steps-settle im acc tag = eleven-steps im tag acc
+
+pub ten-steps-settle : (im : List ℕ) → IsAccepted im → (tag : ℕ) → labels im ≤ 800 → searchWithin im tag 10 0 ≡ labelOfTag im tag
+ten-steps-settle im acc tag few = ten-steps im tag acc few
 
 -- ---- groups
 -- Below a set lie just the groups that are in it or have an ancestor in it, at any distance. (`Above im g p`: p is g or an ancestor of g.)

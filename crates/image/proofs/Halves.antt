@@ -1,88 +1,114 @@
--- A look-up by halves: between low and high lies the first label record whose tag is not below the given one. Assumes nothing.
-use Prim.Native.Nat.{ℕ, zero-le, _+_, _≤_, _<_}
+-- A tag looked for by halves: n steps settle every number of labels below 2 ^ n. Assumes nothing.
+use Prim.Native.Nat.{ℕ, zero, suc, _+_, _-_, _^_, _≤_, _<_}
 use mathlib.Core.Path.{_≡_, refl, sym, ap, _∙_}
-use mathlib.Core.Bool.{Bool, true, false, not}
+use mathlib.Core.Bool.{Bool, true, false, cond, not}
 use mathlib.Core.List.{List}
 use mathlib.Core.Logic.{⊎-elim}
-use native.Mathlib.Nat.{le-refl, eq-or-lt-of-le}
+use native.Mathlib.Nat.{le-refl, eq-or-lt-of-le, two-pow-succ}
 use native.Mathlib.Omega.{arith}
-use borrow.Author.Tests.{ltb-true, ltb-false}
+use borrow.Author.Tests.{eqb-true, eqb-false, ltb-true, ltb-false}
 use lib.Dec.{eqb, ltb}
+use lib.Pow.{pow-pos}
 use Rattle.fields.proofs.Scan.{bad-upto}
 use Rattle.header.specs.Layout.{labels, labelRecord}
 use Rattle.records.specs.Fields.{tagOf}
 use Rattle.image.specs.Check.{IsAccepted}
-use Rattle.image.specs.Lookup.{Split, labelOfTag}
+use Rattle.image.specs.Lookup.{labelOfTag}
+use Rattle.image.specs.Search.{searchWithin, searchSteps, searchTag}
+use Rattle.image.proofs.Accepted.{accepted-counted}
 use Rattle.image.proofs.Policy.{tags-rising, label-found, label-carries}
 
--- tags before low are below the given one, those from high on are not
-pub record Bracket (im : List ℕ) (tag low high : ℕ) : Type 0 where
-  pub ordered : low ≤ high
-  pub inside : high ≤ labels im
-  pub before : (j : ℕ) → j < low → tagOf (labelRecord im j) < tag
-  pub from : (j : ℕ) → high ≤ j → j < labels im → tag ≤ tagOf (labelRecord im j)
+abbrev pub tagAt : List ℕ → ℕ → ℕ
+tagAt im k = tagOf (labelRecord im k)
+
+-- the middle of the places among which n steps more look
+abbrev pub middleOf : ℕ → ℕ → ℕ
+middleOf n low = low + 2 ^ n - 1
+
+-- the tags before the 2 ^ n - 1 places from low on are below the given one, the tags after them above it
+pub record Outside (im : List ℕ) (tag n low : ℕ) : Type 0 where
+  pub before : (j : ℕ) → j < low → tagAt im j < tag
+  pub after : (j : ℕ) → low + 2 ^ n ≤ j + 1 → j < labels im → tag < tagAt im j
 
 module _ (im : List ℕ) (tag : ℕ) where
-  pub bracket-whole : Bracket im tag 0 (labels im)
-  bracket-whole = record {
-    ordered = zero-le;
-    inside = le-refl (labels im);
-    before = λ j l. absurd (omega arith);
-    from = λ j l m. absurd (omega arith);
-  }
-
-  -- the ends have met
-  pub bracket-met : (low high : ℕ) → Bracket im tag low high → high ≤ low → Split im tag low
-  bracket-met low high b met = record {
-    inside = omega (arith, b .ordered, b .inside);
-    before = b .before;
-    from = λ j l m. b .from j (omega arith) m;
-  }
+  -- where no place is left, no record carries the tag
+  none-left : (low : ℕ) → Outside im tag 0 low → labels im ≡ labelOfTag im tag
+  unfolding labelOfTag
+  none-left low b = at (ltb (labelOfTag im tag) (labels im)) refl
+    where
+      at : (t : Bool) → ltb (labelOfTag im tag) (labels im) ≡ t → labels im ≡ labelOfTag im tag
+      at true e =
+          let p : ℕ = labelOfTag im tag in
+          let h : p < labels im = ltb-true _ _ e in
+          let q : tagAt im p ≡ tag = label-carries im tag h in
+          absurd (side p h q (ltb p low) refl)
+        where
+          side : (p : ℕ) → p < labels im → tagAt im p ≡ tag → (t : Bool) → ltb p low ≡ t → ⊥
+          side p h q true d = omega (arith, b .before p (ltb-true p low d))
+          side p h q false d = let l : low ≤ p = ltb-false _ _ d in omega (arith, b .after p (omega arith) h)
+      at false e =
+          let upto = bad-upto (λ j. not (eqb (tagAt im j) tag)) (labels im) 0 in
+          omega (arith, ltb-false (labelOfTag im tag) (labels im) e, upto)
 
   module _ (acc : IsAccepted im) where
-    not-after : (j k : ℕ) → j ≤ k → k < labels im → tagOf (labelRecord im j) ≤ tagOf (labelRecord im k)
+    not-after : (j k : ℕ) → j ≤ k → k < labels im → tagAt im j ≤ tagAt im k
     not-after j k h l =
-        ⊎-elim (λ q. rw q (le-refl (tagOf (labelRecord im k)))) (λ m. omega (arith, tags-rising im acc j k m l)) (eq-or-lt-of-le h)
+        ⊎-elim (λ q. rw q (le-refl (tagAt im k))) (λ m. omega (arith, tags-rising im acc j k m l)) (eq-or-lt-of-le h)
 
-    module _ (low high m : ℕ) (b : Bracket im tag low high) (lm : low ≤ m) (mh : m < high) where
-      pub bracket-up : tagOf (labelRecord im m) < tag → Bracket im tag (m + 1) high
-      bracket-up t = record {
-        ordered = omega arith;
-        inside = b .inside;
-        before = λ j l. omega (arith, not-after j m (omega arith) (omega (arith, b .inside)));
-        from = b .from;
+    found-here : (k : ℕ) → k < labels im → tagAt im k ≡ tag → k ≡ labelOfTag im tag
+    found-here k h e = sym (label-found im acc k h) ∙ ap (labelOfTag im) e
+
+    -- the places that a step leaves
+    module _ (n low : ℕ) (b : Outside im tag (suc n) low) where
+      past-middle : labels im ≤ middleOf n low → Outside im tag n low
+      past-middle h = record { before = b .before; after = λ j i u. absurd (omega arith) }
+
+      after-middle : middleOf n low < labels im → tagAt im (middleOf n low) < tag → Outside im tag n (middleOf n low + 1)
+      after-middle h l = record {
+        before = λ j i. omega (arith, not-after j (middleOf n low) (omega arith) h);
+        after = λ j i u. b .after j (omega (arith, two-pow-succ n, pow-pos n)) u;
       }
 
-      pub bracket-down : tag ≤ tagOf (labelRecord im m) → Bracket im tag low m
-      bracket-down t = record {
-        ordered = lm;
-        inside = omega (arith, b .inside);
+      before-middle : tag < tagAt im (middleOf n low) → Outside im tag n low
+      before-middle l = record {
         before = b .before;
-        from = λ j l i. omega (arith, not-after m j l i);
+        after = λ j i u. omega (arith, not-after (middleOf n low) j (omega arith) u);
       }
 
-    -- the first record that is not below carries the tag, or none does
-    pub split-found : (k : ℕ) → k < labels im → tagOf (labelRecord im k) ≡ tag → k ≡ labelOfTag im tag
-    split-found k h e = sym (label-found im acc k h) ∙ ap (labelOfTag im) e
-
-    pub split-none : (k : ℕ) → Split im tag k → (k < labels im → tagOf (labelRecord im k) ≡ tag → ⊥)
-        → labels im ≡ labelOfTag im tag
-    unfolding labelOfTag
-    split-none k s missed = at (ltb (labelOfTag im tag) (labels im)) refl
+    -- n steps find what there is among the 2 ^ n - 1 places
+    pub settles : (n low : ℕ) → Outside im tag n low → searchWithin im tag n low ≡ labelOfTag im tag
+    unfolding searchWithin
+    settles zero low b = none-left low b
+    settles (suc n) low b =
+        let m : ℕ = middleOf n low in
+        at (ltb m (labels im)) refl (ltb (tagAt im m) tag) refl (eqb (tagAt im m) tag) refl (settles n low) (settles n (m + 1))
       where
-        at : (t : Bool) → ltb (labelOfTag im tag) (labels im) ≡ t → labels im ≡ labelOfTag im tag
-        at true e =
-            let p : ℕ = labelOfTag im tag in
-            let h : p < labels im = ltb-true _ _ e in
-            let q : tagOf (labelRecord im p) ≡ tag = label-carries im tag h in
-            absurd (side p h q (ltb p k) refl)
-          where
-            side : (p : ℕ) → p < labels im → tagOf (labelRecord im p) ≡ tag → (t : Bool) → ltb p k ≡ t → ⊥
-            side p h q true d = omega (arith, s .before p (ltb-true p k d))
-            side p h q false d =
-                let m : k ≤ p = ltb-false _ _ d in
-                let l : k < labels im = omega arith in
-                missed l (omega (arith, s .from k (le-refl k) l, not-after k p m h))
-        at false e =
-            let upto = bad-upto (λ j. not (eqb (tagOf (labelRecord im j)) tag)) (labels im) 0 in
-            omega (arith, ltb-false (labelOfTag im tag) (labels im) e, upto)
+        at : (t : Bool) → ltb (middleOf n low) (labels im) ≡ t
+            → (u : Bool) → ltb (tagAt im (middleOf n low)) tag ≡ u
+            → (v : Bool) → eqb (tagAt im (middleOf n low)) tag ≡ v
+            → (Outside im tag n low → searchWithin im tag n low ≡ labelOfTag im tag)
+            → (Outside im tag n (middleOf n low + 1) → searchWithin im tag n (middleOf n low + 1) ≡ labelOfTag im tag)
+            → cond t (cond u (searchWithin im tag n (middleOf n low + 1)) (cond v (middleOf n low) (searchWithin im tag n low)))
+            (searchWithin im tag n low)
+            ≡ labelOfTag im tag
+        at false e u d v q below above = below (past-middle n low b (ltb-false _ _ e))
+        at true e true d v q below above = above (after-middle n low b (ltb-true _ _ e) (ltb-true _ _ d))
+        at true e false d true q below above = found-here (middleOf n low) (ltb-true _ _ e) (eqb-true _ _ q)
+        at true e false d false q below above =
+            let most : tag ≤ tagAt im (middleOf n low) = ltb-false _ _ d in
+            let other : tagAt im (middleOf n low) ≡ tag → ⊥ = eqb-false _ _ q in
+            below (before-middle n low b (omega arith))
+
+    -- among all labels
+    pub steps-settle : (n : ℕ) → labels im < 2 ^ n → searchWithin im tag n 0 ≡ labelOfTag im tag
+    steps-settle n few =
+        settles n 0 (record { before = λ j i. absurd (omega arith); after = λ j i u. absurd (omega arith) })
+
+    -- so 11 steps settle every accepted image, which has at most 1,680 labels
+    pub eleven-steps : searchTag im tag ≡ labelOfTag im tag
+    unfolding searchTag
+    eleven-steps = steps-settle searchSteps (omega (arith, accepted-counted im acc .labelsLimit))
+
+    -- and 10 steps one of at most 800
+    pub ten-steps : labels im ≤ 800 → searchWithin im tag 10 0 ≡ labelOfTag im tag
+    ten-steps few = steps-settle 10 (omega arith)

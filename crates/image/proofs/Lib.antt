@@ -1,7 +1,7 @@
 pub mod Accepted
 pub mod EveryRule
 pub mod Exactly
-mod Halves
+pub mod Halves
 mod InBlocks
 pub mod Lowest
 pub mod Place
@@ -9,3 +9,4 @@ pub mod Placed
 pub mod Policy
 mod Telling
 pub mod Told
+mod Turns

@@ -4,3 +4,4 @@ pub mod Check
 pub mod Exactly
 pub mod Walk
 pub mod Lookup
+pub mod Search

@@ -1,5 +1,5 @@
 -- What may be asked of an image: a component's name by class and place, a label's place by tag, a user's place by name.
-use Prim.Native.Nat.{ℕ, _+_, _≤_, _<_}
+use Prim.Native.Nat.{ℕ, _+_}
 use mathlib.Core.Bool.{Bool, _&&_, _||_}
 use mathlib.Core.List.{List}
 use denote.Ref.{RefT}
@@ -53,12 +53,6 @@ namePart image class place =
 -- the label record that carries the tag; the number of labels where none does
 unfoldable pub labelOfTag : List ℕ → ℕ → ℕ
 labelOfTag im tag = firstWhere (λ k. eqb (tagOf (labelRecord im k)) tag) (labels im) 0
-
--- k parts the label records: those before it have tags below the given one, those from it on do not
-pub record Split (im : List ℕ) (tag k : ℕ) : Type 0 where
-  pub inside : k ≤ labels im
-  pub before : (j : ℕ) → j < k → tagOf (labelRecord im j) < tag
-  pub from : (j : ℕ) → k ≤ j → j < labels im → tag ≤ tagOf (labelRecord im j)
 
 -- the user record that has the name; the number of users where none has
 unfoldable pub userOfName : List ℕ → List ℕ → ℕ

@@ -3,33 +3,51 @@
 ghost use Prim.Native.Nat.{_<_};
 ghost use mathlib.Core.Path.{_≡_};
 ghost use Rattle.fields.specs.Names.{sameName};
-ghost use Rattle.header.specs.Layout.{users, userRecord};
-ghost use Rattle.records.specs.Fields.{userName};
+ghost use Rattle.header.specs.declared.layout.Kind.the-variants.{Label};
+ghost use Rattle.header.specs.Layout.{Shaped, labels, users, labelRecord, userRecord};
+ghost use Rattle.records.specs.Fields.{tagOf, userName};
 ghost use Rattle.header.specs.Limits.{Counted};
 ghost use Rattle.image.specs.Check.{IsAccepted};
-ghost use Rattle.image.specs.Lookup.{Split, labelOfTag, userOfName};
+ghost use Rattle.image.specs.Lookup.{labelOfTag, userOfName};
+ghost use Rattle.image.specs.Search.{searchTag};
 use fields::names::same_name;
+use fields::numbers::number4;
 use header::layout;
-use records::labels;
+use header::layout::Kind;
+use header::layout::Shape;
 use records::users;
 
-// The first label record whose tag is not below the given one; the number of labels where all are below. Tags rise
-// strictly, so the range is halved.
-fn first_not_below(image: &[u8], tag: u32) -> usize
-    requires { ⌜ IsAccepted (now image) ⌝ }
-    ensures { λ r. ⌜ Split (now (image .entry)) tag r ⌝ }
+// The tag of the label record at place k, by the shape of the label records.
+fn tag_at(image: &[u8], shape: Shape, k: usize) -> u32
+    requires { ⌜ Counted (now image) × (Shaped (now image) Label shape × (k < labels (now image))) ⌝ }
+    ensures { λ r. ⌜ r ≡ tagOf (labelRecord (now (image .entry)) k) ⌝ }
 {
+    number4(image, layout::record_offset(shape, k))
+}
+
+// The label record that carries the tag; the number of labels where none is found. There are at most 11 turns, each with
+// half the places of the one before it, and a turn reads at most one record. The shape is found once, before them.
+fn search_tag(image: &[u8], tag: u32) -> usize
+    requires { ⌜ Counted (now image) ⌝ }
+    ensures { λ r. ⌜ r ≡ searchTag (now (image .entry)) tag ⌝ }
+{
+    let shape = layout::shape_of(image, Kind::Label);
+    let count = shape.count;
     let mut low = 0;
-    let mut high = layout::labels(image);
-    while low < high {
-        let middle = (low + high) / 2;
-        if labels::tag(image, middle) < tag {
-            low = middle + 1;
-        } else {
-            high = middle;
+    let mut left: usize = 11;
+    while left > 0 {
+        left -= 1;
+        let middle = low + (1usize << left) - 1;
+        if middle < count {
+            let found = tag_at(image, shape, middle);
+            if found < tag {
+                low = middle + 1;
+            } else if found == tag {
+                return middle;
+            }
         }
     }
-    low
+    count
 }
 
 // The label record that carries the tag; the number of labels where none does.
@@ -37,15 +55,7 @@ pub fn label_of_tag(image: &[u8], tag: u32) -> usize
     requires { ⌜ IsAccepted (now image) ⌝ }
     ensures { λ r. ⌜ r ≡ labelOfTag (now (image .entry)) tag ⌝ }
 {
-    let count = layout::labels(image);
-    let k = first_not_below(image, tag);
-    if count <= k {
-        return count;
-    }
-    if labels::tag(image, k) == tag {
-        return k;
-    }
-    count
+    search_tag(image, tag)
 }
 
 fn is_user(image: &[u8], u: usize, name: &[u8]) -> bool
