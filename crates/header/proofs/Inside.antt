@@ -3,7 +3,7 @@ use Prim.Native.Nat.{ℕ, suc, _+_, _-_, _*_, _/_, _%_, _≤_, _<_, min}
 use mathlib.Core.Path.{_≡_, refl, sym, _∙_, ap}
 use mathlib.Core.Bool.{Bool, true, false, cond}
 use mathlib.Core.List.{List, []}
-use native.Mathlib.Nat.{zero-add, add-zero, mul-zero, mul-suc, mul-add, mul-comm, mod-lt, mod-eq-of-lt, mul-le-mul-left, le-div-iff-mul-le, div-add-mod, div-eq-of-lt, mul-add-div, mul-add-mod-self-left, mul-div-right, mul-mod-right}
+use native.Mathlib.Nat.{zero-add, add-zero, mul-zero, mul-suc, mul-add, add-mul, mul-assoc, mul-comm, mod-lt, mod-eq-of-lt, mul-le-mul-left, le-div-iff-mul-le, div-add-mod, div-eq-of-lt, mul-add-div, mul-add-mod-self-left, mul-div-right, mul-mod-right}
 use native.Mathlib.Numerals.{add-one}
 use native.Mathlib.Omega.{arith}
 use borrow.Author.Tests.{lt-ltb, le-ltb, ltb-true, ltb-false}
@@ -109,6 +109,21 @@ module _ (shape : Shape) (roomy : Roomy shape) where
 
   pub slot-after : (i : ℕ) → recordSlot shape (i + (shape .capacity - recordSlot shape i)) ≡ 0
   slot-after i = slot-next (shape .capacity) i (roomy .some) .1
+
+  -- the same place from the start of the kind's blocks: all records before it, and what each block before it leaves unused
+  pub offset-straight : (i : ℕ) → 512 * shape .first + 4 + shape .size * i + (512 - shape .size * shape .capacity) * (i / shape .capacity)
+      ≡ recordOffset shape i
+  unfolding recordOffset
+  offset-straight i =
+      let q : ℕ = i / shape .capacity in
+      let s : ℕ = i % shape .capacity in
+      let room : ℕ = shape .size * shape .capacity in
+      let e : shape .size * (shape .capacity * q + s) ≡ shape .size * i = ap (λ (n : ℕ). shape .size * n) (div-add-mod i (shape .capacity)) in
+      let d : shape .size * (shape .capacity * q + s) ≡ room * q + shape .size * s =
+      mul-add (shape .size) (shape .capacity * q) s ∙ ap (λ (n : ℕ). n + shape .size * s) (sym (mul-assoc (shape .size) (shape .capacity) q)) in
+      let w : 512 - room + room ≡ 512 = omega (arith, roomy .room) in
+      let g : (512 - room) * q + room * q ≡ 512 * q = sym (add-mul (512 - room) room q) ∙ ap (λ (n : ℕ). n * q) w in
+      omega arith
 
 -- ---- the shapes of an image
 pub shape-roomy : (im : List ℕ) (kind : Kind) → Roomy (shapeOf im kind)

@@ -214,14 +214,14 @@ pub fn record_slot(shape: Shape, i: usize) -> usize
     i % shape.capacity
 }
 
-// Where it begins.
+// Where it begins: after all records before it, and what each block before its own leaves unused. So there is one division and no remainder.
 pub fn record_offset(shape: Shape, i: usize) -> usize
     requires { ⌜ Roomy shape × (recordOffset shape i < 2 ^ 63) ⌝ }
     ensures { λ r. ⌜ r ≡ recordOffset shape i ⌝ }
 {
-    let block = shape.first + i / shape.capacity;
-    let slot = i % shape.capacity;
-    512 * block + 4 + shape.size * slot
+    let room = shape.size * shape.capacity;
+    let gap = 512 - room;
+    512 * shape.first + 4 + shape.size * i + gap * (i / shape.capacity)
 }
 
 // The part of the image that starts at that record.

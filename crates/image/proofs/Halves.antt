@@ -18,10 +18,11 @@ use Rattle.image.specs.Search.{searchWithin, searchSteps, searchTag}
 use Rattle.image.proofs.Accepted.{accepted-counted}
 use Rattle.image.proofs.Policy.{tags-rising, label-found, label-carries}
 
+-- the tag of the label record at place k
 abbrev pub tagAt : List ℕ → ℕ → ℕ
 tagAt im k = tagOf (labelRecord im k)
 
--- the middle of the places among which n steps more look
+-- where a step looks that has n steps after it: the middle of its places
 abbrev pub middleOf : ℕ → ℕ → ℕ
 middleOf n low = low + 2 ^ n - 1
 

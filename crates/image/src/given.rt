@@ -25,8 +25,9 @@ fn tag_at(image: &[u8], shape: Shape, k: usize) -> u32
     number4(image, layout::record_offset(shape, k))
 }
 
-// The label record that carries the tag; the number of labels where none is found. There are at most 11 turns, each with
-// half the places of the one before it, and a turn reads at most one record. The shape is found once, before them.
+// The label record that carries the tag; the number of labels where none is found. There are at most 11 turns. Each looks
+// at the middle of the places that are left, reads at most that one record, and leaves the half after it or the half
+// before it.
 fn search_tag(image: &[u8], tag: u32) -> usize
     requires { ⌜ Counted (now image) ⌝ }
     ensures { λ r. ⌜ r ≡ searchTag (now (image .entry)) tag ⌝ }

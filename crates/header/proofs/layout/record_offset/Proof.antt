@@ -1,41 +1,62 @@
 use borrow.Author.Needs.{needs}
-use mathlib.Core.Path.{refl}
 use native.Mathlib.Omega.{arith}
-use Rattle.header.specs.Layout.{recordOffset}
+use Rattle.header.proofs.Inside.{offset-straight}
 use Rattle.header.proofs.layout.record_offset.Statement.{statement}
 use Rattle.header.proofs.layout.record_offset.Tie as tie
 
-div-block : tie.Need-div-block
-div-block c = search needs
+mul-room : tie.Need-mul-room
+mul-room c = search needs
 
-add-block : tie.Need-add-block
-unfolding recordOffset
-add-block c = omega arith
-
-rem-slot : tie.Need-rem-slot
-rem-slot c = search needs
+sub-gap : tie.Need-sub-gap
+sub-gap c = search needs
 
 mul-result : tie.Need-mul-result
-unfolding recordOffset
-mul-result c = omega arith
+mul-result c =
+    let start = c .before .before in
+    omega (arith, offset-straight (start .args .shape) (start .pre .0) (start .args .i))
 
 add-result : tie.Need-add-result
-unfolding recordOffset
-add-result c = omega arith
+add-result c =
+    let start = c .before .before in
+    omega (arith, offset-straight (start .args .shape) (start .pre .0) (start .args .i))
 
 mul-result-2 : tie.Need-mul-result-2
-unfolding recordOffset
-mul-result-2 c = omega arith
+mul-result-2 c =
+    let start = c .before .before .before in
+    omega (arith, offset-straight (start .args .shape) (start .pre .0) (start .args .i))
 
 add-result-2 : tie.Need-add-result-2
-unfolding recordOffset
-add-result-2 c = omega arith
+add-result-2 c =
+    let start = c .before .before .before in
+    omega (arith, offset-straight (start .args .shape) (start .pre .0) (start .args .i))
+
+div-result : tie.Need-div-result
+div-result c = search needs
+
+mul-result-3 : tie.Need-mul-result-3
+mul-result-3 c =
+    let start = c .before .before .before .before in
+    omega (arith, offset-straight (start .args .shape) (start .pre .0) (start .args .i))
+
+add-result-3 : tie.Need-add-result-3
+add-result-3 c =
+    let start = c .before .before .before .before in
+    omega (arith, offset-straight (start .args .shape) (start .pre .0) (start .args .i))
 
 returns : tie.Need-returns
-unfolding recordOffset
-returns c = refl
+returns c = let start = c .before .before .before .before in offset-straight (start .args .shape) (start .pre .0) (start .args .i)
 
 pub record-offset-spec : {M : Type 1} → statement M
 record-offset-spec =
     tie.close
-    (tie.spec div-block add-block rem-slot mul-result add-result mul-result-2 add-result-2 returns)
+    (tie.spec
+    mul-room
+    sub-gap
+    mul-result
+    add-result
+    mul-result-2
+    add-result-2
+    div-result
+    mul-result-3
+    add-result-3
+    returns)
