@@ -90,7 +90,7 @@ pub ring-told-exactly : (im : List ℕ) → Framed im → (g : ℕ) → (checkOf
 ring-told-exactly = ring-exactly
 
 -- ---- the look-up of a tag
--- 11 steps of the search, each of which reads one record and compares three ways, settle every tag, known or not; where there are at most
+-- 11 steps of the search, each of which reads at most one record and compares three ways, settle every tag, known or not; where there are at most
 -- 800 labels, 10 do.
 pub eleven-steps-settle : (im : List ℕ) → IsAccepted im → (tag : ℕ) → searchWithin im tag 11 0 ≡ labelOfTag im tag
 unfolding searchTag
