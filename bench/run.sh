@@ -3,7 +3,9 @@
 # callgrind, time and stack of each, and by how many percent a call that is lent an image exceeds the
 # check of the same version. Then row calls: instructions for each row, and how many times the plain
 # version's ours are; "flat" is a plain read that finds all verdicts first. A ! marks where ours misses
-# a limit. Last the instructions of each function in a check and a read, or in the calls that are named:
+# a limit. Then calls on the largest images of edition 2, which the plain version doesn't know, each with
+# the percent over the check of the same image; and the move up of an image of edition 1. Last the
+# instructions of each function in a check and a read, or in the calls that are named:
 # bench/run.sh [CALL...]
 # Without target/staticlib/libabi.a only the plain versions are measured.
 set -eu
@@ -59,14 +61,16 @@ marked() {
         'BEGIN { print percent (version == "ours" && limit != "-" && percent > limit + 0 ? "!" : "") }'
 }
 
-# The four columns of a version: instructions, percent over its check, time, stack.
+# The four columns of a version: instructions, percent over its check of the same image, time, stack.
+# Behind an @ a call tells on which image it is asked.
 columns() {
-    local version=$1 call=$2 function=$3 lent=$4 limit=$5 counted percent=-
+    local version=$1 call=$2 function=$3 lent=$4 limit=$5 counted percent=- check
     count "$version" "$call"
     counted=$(instructions "$version" "$call" "$function")
-    if [ "$call" = check ]; then checks[$version]=$counted; fi
+    check=$version-check${call#"${call%%@*}"}
+    if [ "$version-$call" = "$check" ]; then checks[$check]=$counted; fi
     if [ "$lent" = image ]; then
-        percent=$(marked "$version" "$(over "$counted" "${checks[$version]}")" "$limit")
+        percent=$(marked "$version" "$(over "$counted" "${checks[$check]}")" "$limit")
     fi
     printf ' %12s %8s %8s %8s' "$counted" "$percent" \
         "$("$bench" "$version" "$call" time)" "$("$bench" "$version" "$call" stack)"
@@ -89,13 +93,18 @@ times_plain() {
         print ours ? sprintf("%.2f", ours / plain) (limit != "-" && ours * 100 > plain * limit ? "!" : "") : "-" }'
 }
 
+# The heads of a table of calls, whose first column is so wide and has that head.
+heads() {
+    printf "%-$1s %8s" "$2" 'limit, %'
+    for version in $versions; do
+        printf ' %12s %8s %8s %8s' "$version" 'over, %' ns stack
+    done
+    echo
+}
+
 declare -A checks row_counts
 versions=$("$bench" versions)
-printf '%-18s %8s' call 'limit, %'
-for version in $versions; do
-    printf ' %12s %8s %8s %8s' "$version" 'over, %' ns stack
-done
-echo
+heads 18 call
 "$bench" calls | while read -r call function lent limit; do
     printf '%-18s %8s' "$call" "$limit"
     for version in $versions; do
@@ -118,9 +127,27 @@ printf ' %8s %12s %8s %10s %8s\n' 'x plain' flat 'a row' ns stack
     case $known in *flat) row_columns flat "$call" "$function" "$rows" ;; esac
     echo
 done
+
+# Empty without the library.
+if [ -n "$("$bench" edition-2)" ]; then
+    echo
+    heads 32 'edition 2: call@image'
+fi
+"$bench" edition-2 | while read -r call function limit known; do
+    printf '%-32s %8s' "$call" "$limit"
+    for version in $versions; do
+        case " $known " in
+        *" $version "*) columns "$version" "$call" "$function" image "$limit" ;;
+        *) printf ' %12s %8s %8s %8s' - - - - ;;
+        esac
+    done
+    echo
+done
 if [ $# = 0 ]; then set -- check read-10; fi
 for call in "$@"; do
     for version in $versions; do
+        # The plain version has no part in calls on edition 2.
+        if [ ! -e "$out/$version-$call.callgrind" ]; then continue; fi
         printf '\n%s %s\n%12s %14s  function\n' "$version" "$call" own 'with callees'
         functions "$version-$call"
     done

@@ -75,7 +75,7 @@ static void unknown_name(void) {
 }
 
 static void print(const char *call, const uint8_t *label) {
-    uint8_t text[4096];
+    uint8_t text[BRAWNESK_TEXT];
     uint64_t answer = brawnesk_print(image, length, label, text, sizeof text);
     if (!brawnesk_refused(answer))
         printf("%s: %.*s\n", call, (int)answer, (const char *)text);
@@ -144,6 +144,19 @@ static void set_row_label(uint8_t *session) {
     tell("set_row_label", brawnesk_set_row_label(image, length, session, (const uint8_t *)"CREW:GLAZE", 10));
 }
 
+/* The sample in edition 2; MARA's session goes on under it. */
+static void move_up(const uint8_t *session) {
+    static uint8_t moved[56832];
+    uint8_t other[512];
+    uint64_t answer = brawnesk_move_up(image, length, moved, sizeof moved);
+    tell("move_up", answer);
+    if (brawnesk_refused(answer))
+        return;
+    tell("may_read", brawnesk_may_read(moved, answer, session, 10));
+    tell("move_up", brawnesk_move_up(moved, answer, other, sizeof other));
+    tell("move_up", brawnesk_move_up(image, length, other, sizeof other));
+}
+
 static void sessions(void) {
     uint8_t session[BRAWNESK_SESSION];
     uint64_t answer = brawnesk_open(image, length, (const uint8_t *)"MARA", 4, session);
@@ -158,6 +171,7 @@ static void sessions(void) {
     set_label(session);
     set_row_label(session);
     tell("open", brawnesk_open(image, length, (const uint8_t *)"mara", 4, session));
+    move_up(session);
 }
 
 static void dominance(void) {

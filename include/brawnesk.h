@@ -7,8 +7,11 @@
  *
  * Lending. What a call writes overlaps nothing else that is lent to it; parts that are only read may overlap each other. Nobody changes
  * what is lent during the call. A slice's length is below 2^63. A pointer to an empty slice may not be null. A buffer that a call only
- * writes (label out, session out, text out, rows out) may be uninitialised: a call that is done writes what it reports and reads none of
- * it. */
+ * writes (label out, session out, text out, rows out, image out) may be uninitialised: a call that is done writes what it reports and
+ * reads none of it.
+ *
+ * Editions. Every call that is lent an image takes edition 1 and edition 2; only brawnesk_move_up, which makes 2 of 1, refuses edition 2.
+ * An image of edition 1 has up to 64 groups, 1,680 labels and 96 users, one of edition 2 up to 256 groups, 800 labels and 32 users. */
 #ifndef BRAWNESK_H
 #define BRAWNESK_H
 
@@ -26,15 +29,18 @@ extern "C" {
  * 35 comes after all these; the rules that a user's groups lie below others come last, as 34. */
 uint64_t brawnesk_check(const uint8_t *image, size_t image_length);
 
-/* Where the name of a component stands: class 1 level, 2 compartment, 3 group; place counts from 0 in its class.
+/* Where the name of a component stands: class 1 level, 2 compartment, 3 group; place counts from 0 in its class, for groups up to 255.
  * Done: its offset in the image + 65,536 * its length. Refusals: 1, 2, 31 to 35, 18 no such component. */
 uint64_t brawnesk_name(const uint8_t *image, size_t image_length, uint8_t component_class, uint8_t place);
 
 /* A label is 48 bytes: byte 4 the level's place; 8..15 the compartments and 16..47 the groups, as little-endian sets with bit p
- * for place p. The other bytes are written as zero and not looked at. A policy has at most 64 groups: a bit that is set in bytes 24 to 47
- * names a group that no policy has. Merging alone does not look at groups past the 64th, bytes 24 to 47 of a label, and writes these bytes
- * as zero. */
+ * for place p. The other bytes are written as zero and not looked at. All 256 places of the groups count, whatever the edition: a group
+ * that the policy lacks is refused, 18 or inside a session 19, and merging, which is lent no image, loses none. */
 enum { BRAWNESK_LABEL = 48 };
+
+/* The longest text of a label that is read under an image of edition 2; under edition 1 it is 4,096. A text that is printed is shorter: a
+ * buffer of that length is always enough. */
+enum { BRAWNESK_TEXT = 10000 };
 
 /* The label that a text names: LEVEL, LEVEL:list, LEVEL:list:list or LEVEL::list. Done: 0, and the label's 48 bytes are written.
  * Refusals: 1, 2, 31 to 35, 5 the text's shape, then the leftmost name refused by 6 not in its class or 7 repeated (its offset). */
@@ -58,7 +64,9 @@ uint64_t brawnesk_open(const uint8_t *image, size_t image_length, const uint8_t 
 uint64_t brawnesk_set_label(const uint8_t *image, size_t image_length, uint8_t *session, const uint8_t *text, size_t text_length);
 uint64_t brawnesk_set_row_label(const uint8_t *image, size_t image_length, uint8_t *session, const uint8_t *text, size_t text_length);
 
-/* May the session read, or write, a row of that tag? Done: 1 yes, 0 no. Refusals: 1, 2, 31 to 35, 19. */
+/* May the session read, or write, a row of that tag? Done: 1 yes, 0 no. Refusals: 1, 2, 31 to 35, 19.
+ * A tag that no label carries, as 0, is denied to every session under edition 2; under edition 1 a user with READ may read it, one with
+ * FULL may read and write it, and any other may do neither. Row calls judge rows by the same rule. */
 uint64_t brawnesk_may_read(const uint8_t *image, size_t image_length, const uint8_t *session, uint32_t tag);
 uint64_t brawnesk_may_write(const uint8_t *image, size_t image_length, const uint8_t *session, uint32_t tag);
 
@@ -92,6 +100,12 @@ uint64_t brawnesk_strictly_dominates(const uint8_t *image, size_t image_length, 
  * N none, for the compartments and for the groups. Done: 0, and the 48 bytes of merged are written. Refusal: 17 other letters. */
 uint64_t brawnesk_merge(const uint8_t *label1, const uint8_t *label2, const uint8_t *letters, size_t letters_length, uint8_t *merged);
 
+/* An image of edition 1 in the layouts of edition 2, at the front of the buffer; later bytes stay. The new image is accepted and has the
+ * same components, labels and users, each at the same place. Sessions and labels go on under it, and their verdicts on tags that labels
+ * carry are the same. Done: its length, at most 56,832. Refusals: 1, 2, 31 an image of edition 2, 31 to 35, 37 over 800 labels or 32
+ * users, 13 the new image is longer than the buffer. */
+uint64_t brawnesk_move_up(const uint8_t *image, size_t image_length, uint8_t *out, size_t out_length);
+
 /* The refusals: number, name, and what is wrong in words. The enum and brawnesk_message are made of this list. */
 #define BRAWNESK_REFUSALS(REFUSAL) \
     REFUSAL(1, BRAWNESK_IMAGE_LENGTH, "the image's length is 0, is not a multiple of 512, or is over 65,536 bytes") \
@@ -118,7 +132,8 @@ uint64_t brawnesk_merge(const uint8_t *label1, const uint8_t *label2, const uint
     REFUSAL(33, BRAWNESK_LABEL_RECORD, "the label's tag, level, compartments, groups or unused bytes are wrong, or its tag does not rise") \
     REFUSAL(34, BRAWNESK_USER_RECORD, \
             "the user's name, privileges, levels, compartments, groups or unused bytes are wrong, or its name does not rise") \
-    REFUSAL(35, BRAWNESK_PARENT_RING, "the group's parents never end: they come back to a group that they passed")
+    REFUSAL(35, BRAWNESK_PARENT_RING, "the group's parents never end: they come back to a group that they passed") \
+    REFUSAL(37, BRAWNESK_MOVE_LIMITS, "the image has over 800 labels or 32 users, more than an image of edition 2 holds")
 
 #define BRAWNESK_NAMED(number, name, words) name = number,
 enum { BRAWNESK_REFUSALS(BRAWNESK_NAMED) };

@@ -1,8 +1,10 @@
-//! The measured calls, each by the library and by the plain version.
+//! The measured calls, each by the library, by the plain version and by the model.
 
+use crate::by_model;
+use crate::move_up::MOVE_UP;
 use crate::plain::calls as plain;
 use crate::row_calls::ROW_CALLS;
-use crate::rows::{Room, Shape};
+use crate::rows::Shape;
 use crate::scene::{Out, Scene};
 use brawnesk_tests::ffi::{self, Answer};
 
@@ -18,11 +20,12 @@ pub struct Call {
     /// What a row call is lent.
     pub shape: Option<Shape>,
     pub ours: Version,
-    pub plain: Version,
+    pub plain: Option<Version>,
     pub flat: Option<Version>,
+    pub model: Version,
 }
 
-/// Of each call its name, its limit, and its function with arguments that are the same for both
+/// Of each call its name, its limit, and its function with arguments that are the same for all
 /// versions.
 macro_rules! calls {
     (|$scene:ident, $out:ident|
@@ -35,8 +38,9 @@ macro_rules! calls {
                 limit: $limit,
                 shape: None,
                 ours: |$scene, $out| ffi::$function($($argument),*),
-                plain: |$scene, $out| plain::$function($($argument),*),
+                plain: Some(|$scene, $out| plain::$function($($argument),*)),
                 flat: None,
+                model: |$scene, $out| by_model::$function($($argument),*),
             },
         )*];
     };
@@ -69,57 +73,26 @@ calls! {
 
 impl Call {
     pub fn named(name: &str) -> Option<&'static Call> {
-        CALLS.iter().chain(ROW_CALLS).find(|call| call.name == name)
+        let calls = CALLS.iter().chain(ROW_CALLS).chain([&MOVE_UP]);
+        calls.into_iter().find(|call| call.name == name)
     }
 
     /// Merging is lent no image.
     pub fn is_lent_an_image(&self) -> bool {
         self.function != "merge"
     }
-
-    /// Without the library ours can't be run.
-    pub fn version(&self, name: &str) -> Option<Version> {
-        match name {
-            "ours" => ffi::LINKED.then_some(self.ours),
-            "plain" => Some(self.plain),
-            "flat" => self.flat,
-            _ => None,
-        }
-    }
-
-    /// A read to a buffer that is too short is refused; all other calls are done.
-    fn is_refused(&self) -> bool {
-        let room = self.shape.map(|shape| shape.room);
-        matches!(room, Some(Room::Short))
-    }
-
-    /// The answer. Asks that it is one of the right kind, that all versions give it, and that they
-    /// write the same.
-    pub fn agreed(&self, scene: &Scene) -> Answer {
-        let run = |version: Version| {
-            let mut out = Out::new(scene);
-            (version(scene, &mut out), out)
-        };
-        let plain = run(self.plain);
-        let is_done = matches!(plain.0, Answer::Done(_));
-        assert_eq!(is_done, !self.is_refused(), "{}", self.name);
-        for version in ["ours", "flat"] {
-            if let Some(other) = self.version(version) {
-                assert!(run(other) == plain, "{}: {version}", self.name);
-            }
-        }
-        plain.0
-    }
 }
 
 #[cfg(test)]
 mod tests {
     use super::*;
+    use crate::asked::Asked;
 
     #[test]
     fn versions_agree() {
         for call in CALLS {
-            call.agreed(&Scene::new(call));
+            let asked = Asked { call, on: None };
+            asked.agreed(&asked.scene());
         }
     }
 }

@@ -4,6 +4,9 @@
 //!   `-`), and its limit in percent over the check (else `-`).
 //! - `bench row-calls`: a line for each row call: its name, its function, how many rows it is lent, its
 //!   limit in percent of the plain version (else `-`), and the versions that can be run.
+//! - `bench edition-2`: a line for each call on the largest images of edition 2 and for the move up: its
+//!   name, which is the call's, @ and the image's; its function, its limit in percent over the check of
+//!   that image (else `-`), and the versions that can be run.
 //! - `bench versions`: the versions that can be run of the other calls, `ours` and `plain`.
 //! - `bench scene`: which users, tags and texts the calls are lent.
 //! - `bench VERSION CALL N`: N calls, to be counted from outside; see `run.sh`.
@@ -12,22 +15,34 @@
 //!
 //! Before it is measured, a call is made by all versions and their answers are compared.
 
+mod asked;
+mod by_model;
 mod calls;
+mod edition_2;
+mod images;
+mod move_up;
 mod plain;
 mod row_calls;
 mod rows;
 mod scene;
 mod stack;
 
+use asked::Asked;
 use brawnesk_tests::ffi::Answer;
 use calls::{Call, Version, CALLS};
+use images::Of;
 use row_calls::ROW_CALLS;
-use rows::Rows;
+use rows::{Rows, NO_ROWS};
 use scene::{Out, Scene};
 use std::hint::black_box;
 use std::time::Instant;
 
 const VERSIONS: [&str; 3] = ["ours", "plain", "flat"];
+
+const FIRST: Asked = Asked {
+    call: &CALLS[0],
+    on: None,
+};
 
 /// What is measured: a version of a call, and the answer that it has to give.
 struct Measured<'a> {
@@ -77,22 +92,54 @@ fn list_calls() {
 }
 
 /// The versions of a call, with a blank between them.
-fn versions(call: &Call) -> String {
+fn versions(asked: &Asked) -> String {
     let known = VERSIONS.into_iter();
-    let known = known.filter(|version| call.version(version).is_some());
+    let known = known.filter(|version| asked.version(version).is_some());
     known.collect::<Vec<_>>().join(" ")
 }
 
 fn list_row_calls() {
     for call in ROW_CALLS {
         let rows = call.shape.map_or(0, |shape| shape.rows);
-        let (limit, versions) = (limit(call), versions(call));
+        let (limit, versions) = (limit(call), versions(&Asked { call, on: None }));
         println!("{} {} {rows} {limit} {versions}", call.name, call.function);
     }
 }
 
-fn show_scene() {
-    let scene = Scene::new(&CALLS[0]);
+/// A row call's limit is told by the plain version, so here it has none.
+fn list_edition_2() {
+    for name in edition_2::names() {
+        let asked = Asked::named(&name).expect("its name is known");
+        let limit = match asked.call.shape {
+            Some(_) => "-".to_string(),
+            None => limit(asked.call),
+        };
+        println!(
+            "{name} {} {limit} {}",
+            asked.call.function,
+            versions(&asked)
+        );
+    }
+}
+
+fn show_scenes() {
+    show_scene(&Scene::new(Of::Full, &NO_ROWS));
+    for call in ROW_CALLS {
+        show_rows(call.name, &Asked { call, on: None }.scene().rows);
+    }
+    for (name, of) in Of::NAMED {
+        println!("\n{name}:");
+        show_scene(&Scene::new(of, &NO_ROWS));
+    }
+    for name in edition_2::names() {
+        let asked = Asked::named(&name).expect("its name is known");
+        if asked.call.shape.is_some() {
+            show_rows(&name, &asked.scene().rows);
+        }
+    }
+}
+
+fn show_scene(scene: &Scene) {
     let shown = |bytes: &[u8]| bytes.escape_ascii().to_string();
     println!("last user: {}", shown(&scene.last_user));
     println!(
@@ -107,9 +154,6 @@ fn show_scene() {
         scene.widest[0]
     );
     println!("whole: {} bytes", scene.whole_text.len());
-    for call in ROW_CALLS {
-        show_rows(call.name, &Scene::new(call).rows);
-    }
 }
 
 fn show_rows(name: &str, rows: &Rows) {
@@ -123,13 +167,13 @@ fn show_rows(name: &str, rows: &Rows) {
 }
 
 fn measure(version: &str, call: &str, task: &str) {
-    let call = Call::named(call).expect("one of `bench calls` or `bench row-calls`");
-    let version = call.version(version);
-    let scene = Scene::new(call);
+    let asked = Asked::named(call).expect("one of the calls that bench lists");
+    let version = asked.version(version);
+    let scene = asked.scene();
     let measured = Measured {
         version: version.expect("one of the call's versions; ours needs libabi.a"),
         scene: &scene,
-        answer: call.agreed(&scene),
+        answer: asked.agreed(&scene),
     };
     match task {
         "time" => println!("{}", time(&measured)),
@@ -148,11 +192,12 @@ fn main() {
     match arguments[..] {
         ["calls"] => list_calls(),
         ["row-calls"] => list_row_calls(),
-        ["versions"] => println!("{}", versions(&CALLS[0])),
-        ["scene"] => show_scene(),
+        ["edition-2"] => list_edition_2(),
+        ["versions"] => println!("{}", versions(&FIRST)),
+        ["scene"] => show_scenes(),
         [version, call, task] => measure(version, call, task),
         _ => {
-            panic!("usage: bench calls|row-calls|versions|scene | bench VERSION CALL N|time|stack")
+            panic!("usage: bench calls|row-calls|edition-2|versions|scene | bench VERSION CALL N|time|stack")
         }
     }
 }

@@ -1,8 +1,10 @@
 //! The measured row calls, each by the library and by the plain version, and reads by the flat one too.
 
+use crate::by_model;
 use crate::calls::{Call, Version};
+use crate::images::Of;
 use crate::plain::calls as plain;
-use crate::rows::{Of, Room, Shape};
+use crate::rows::{Room, Shape};
 use crate::scene::{Out, Scene};
 use brawnesk_tests::ffi::{self, Answer, SESSION};
 
@@ -43,8 +45,9 @@ const fn read(name: &'static str, limit: Option<u32>, shape: Shape) -> Call {
         limit,
         shape: Some(shape),
         ours: |scene, out| read_by(ffi::read, scene, out),
-        plain: |scene, out| read_by(plain::read, scene, out),
+        plain: Some(|scene, out| read_by(plain::read, scene, out)),
         flat: Some(flat),
+        model: |scene, out| read_by(by_model::read, scene, out),
     }
 }
 
@@ -55,8 +58,9 @@ const fn update(name: &'static str, shape: Shape) -> Call {
         limit: None,
         shape: Some(shape),
         ours: |scene, out| update_by(ffi::update, scene, out),
-        plain: |scene, out| update_by(plain::update, scene, out),
+        plain: Some(|scene, out| update_by(plain::update, scene, out)),
         flat: None,
+        model: |scene, out| update_by(by_model::update, scene, out),
     }
 }
 
@@ -67,8 +71,9 @@ const fn masked(name: &'static str, shape: Shape) -> Call {
         limit: None,
         shape: Some(shape),
         ours: |scene, _| masked_by(ffi::masked, scene),
-        plain: |scene, _| masked_by(plain::masked, scene),
+        plain: Some(|scene, _| masked_by(plain::masked, scene)),
         flat: None,
+        model: |scene, _| masked_by(by_model::masked, scene),
     }
 }
 
@@ -116,12 +121,14 @@ pub const ROW_CALLS: &[Call] = &[
 #[cfg(test)]
 mod tests {
     use super::*;
+    use crate::asked::Asked;
 
     /// All versions agree; a read gives the rows that the scene tells of, and the last row is one of them.
     #[test]
     fn answers_are_as_told() {
         for call in ROW_CALLS {
-            let scene = Scene::new(call);
+            let asked = Asked { call, on: None };
+            let scene = asked.scene();
             let wanted = match (call.function, call.shape.map(|shape| shape.room)) {
                 ("read", Some(Room::Short)) => Answer::Refused {
                     number: 13,
@@ -131,7 +138,7 @@ mod tests {
                 ("masked", _) => Answer::Done(1),
                 _ => Answer::Done(0),
             };
-            assert_eq!(call.agreed(&scene), wanted, "{}", call.name);
+            assert_eq!(asked.agreed(&scene), wanted, "{}", call.name);
         }
     }
 }

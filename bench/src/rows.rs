@@ -1,7 +1,8 @@
 //! What the row calls are lent: an image, a session that reads 70 % of a table's rows, the table, and
 //! the length of a read's buffer.
 
-use brawnesk_tests::builder::{full, sample, to_image, Label, Policy, Rights, User};
+use crate::images::Of;
+use brawnesk_tests::builder::{to_image, Label, Policy, User};
 use brawnesk_tests::ffi::SESSION;
 use brawnesk_tests::model;
 use brawnesk_tests::rng::Rng;
@@ -11,17 +12,6 @@ const COMPACCESS: u8 = 4;
 
 /// How many of a hundred rows are readable.
 const SHARE: usize = 70;
-
-/// The image that a table stands beside.
-#[derive(Clone, Copy)]
-pub enum Of {
-    /// The largest.
-    Full,
-    /// Its levels, compartments and labels, with one user and no groups.
-    Lean,
-    /// The sample: 3 labels, 1 user, 4 groups.
-    Sample,
-}
 
 #[derive(Clone, Copy)]
 pub enum Room {
@@ -35,6 +25,7 @@ pub enum Room {
 
 #[derive(Clone, Copy)]
 pub struct Shape {
+    /// The image that the table stands beside.
     pub of: Of,
     pub width: usize,
     pub rows: usize,
@@ -68,7 +59,7 @@ pub struct Rows {
 impl Rows {
     pub fn new(shape: &Shape) -> Rows {
         let Shape { width, rows, .. } = *shape;
-        let policy = policy(shape.of);
+        let policy = shape.of.policy();
         let image = to_image(&policy);
         let accepted = model::accepted(&image).expect("the image keeps all rules");
         let user = reader(&policy);
@@ -99,36 +90,8 @@ impl Rows {
     }
 }
 
-fn policy(of: Of) -> Policy {
-    match of {
-        Of::Full => full(),
-        Of::Lean => lean(full()),
-        Of::Sample => sample(),
-    }
-}
-
-fn lean(policy: Policy) -> Policy {
-    let mut user = reader(&policy).clone();
-    user.groups = Rights {
-        read: 0,
-        write: 0,
-        default: 0,
-        row: 0,
-    };
-    let labels = policy.labels.iter().map(|label| Label {
-        groups: 0,
-        ..label.clone()
-    });
-    Policy {
-        labels: labels.collect(),
-        groups: Vec::new(),
-        users: vec![user],
-        ..policy
-    }
-}
-
 /// Of the users with neither READ nor FULL, the one whose opened session reads the most tags.
-fn reader(policy: &Policy) -> &User {
+pub fn reader(policy: &Policy) -> &User {
     let ruled = policy.users.iter();
     let ruled = ruled.filter(|user| user.privileges & READ_OR_FULL == 0);
     let reader = ruled.max_by_key(|user| Tags::new(policy, user).readable.len());
@@ -147,10 +110,10 @@ impl Tags {
         let below = policy.below(user.groups.default);
         let has_compaccess = user.privileges & COMPACCESS != 0;
         let is_readable = |label: &&Label| {
-            let by_groups = label.groups == 0 || label.groups & below != 0;
+            let by_groups = label.groups.is_empty() || label.groups.meets(below);
             label.level <= user.levels.default
-                && label.compartments & !user.compartments.default == 0
-                && (by_groups || has_compaccess && label.compartments != 0)
+                && label.compartments.is_in(user.compartments.default)
+                && (by_groups || has_compaccess && !label.compartments.is_empty())
         };
         let (readable, hidden): (Vec<_>, Vec<_>) = policy.labels.iter().partition(is_readable);
         let tags = |labels: Vec<&Label>| labels.iter().map(|label| label.tag).collect();

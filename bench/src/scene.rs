@@ -1,9 +1,10 @@
-//! What the measured calls are lent: the largest image, and sessions, tags, texts and labels for it. All
+//! What the measured calls are lent: a largest image, and sessions, tags, texts and labels for it. All
 //! of it is made from the builder's policy and by the model, so it is there without the library too.
 
-use crate::calls::Call;
-use crate::rows::{Rows, NO_ROWS, READ_OR_FULL};
-use brawnesk_tests::builder::{full, to_image, Component, Label, Policy, User};
+use crate::images::Of;
+use crate::move_up::LONGEST;
+use crate::rows::{Rows, Shape, READ_OR_FULL};
+use brawnesk_tests::builder::{to_image, Component, Label, Policy, Set, User};
 use brawnesk_tests::ffi::{LABEL, SESSION};
 use brawnesk_tests::model::{self, Image};
 
@@ -30,25 +31,28 @@ pub struct Scene {
     /// The label of the last label record, and the label of `text`.
     pub last_label: [u8; LABEL],
     pub text_label: [u8; LABEL],
+    /// How many bytes a text may have.
+    pub longest_text: usize,
     pub rows: Rows,
 }
 
 impl Scene {
-    /// What a call is lent. Only the rows differ from call to call.
-    pub fn new(call: &Call) -> Scene {
-        let policy = full();
+    /// What a call on an image is lent. Only the rows differ from call to call.
+    pub fn new(of: Of, rows: &Shape) -> Scene {
+        let policy = of.policy();
         let image = to_image(&policy);
         let accepted = model::accepted(&image).expect("the image keeps all rules");
         let last = policy.labels.last().expect("there are labels");
         let (user, label) = typical(&policy);
         let text = text_of(&policy, &label);
         let (widest, widest_label) = widest(&policy);
-        let whole = longest(&policy, 0, u8::MAX, u64::MAX, u64::MAX);
+        let (compartments, groups) = (policy.all_compartments(), policy.all_groups());
+        let whole = longest(&policy, 0, u8::MAX, compartments, groups);
         let session = opened(&accepted, user);
         let with_row = model::set_row_label(&accepted, &session, &text);
         Scene {
             last_user: policy.users[policy.users.len() - 1].name.clone().into(),
-            last_group: policy.groups.len() as u8 - 1,
+            last_group: (policy.groups.len() - 1) as u8,
             last_tag: last.tag,
             unknown_tag: last.tag + 1,
             session: session.to_bytes(),
@@ -60,7 +64,8 @@ impl Scene {
             whole_text: text_of(&policy, &whole),
             last_label: last.to_bytes(),
             text_label: label.to_bytes(),
-            rows: Rows::new(&call.shape.unwrap_or(NO_ROWS)),
+            longest_text: policy.edition.longest_text(),
+            rows: Rows::new(rows),
             image,
         }
     }
@@ -71,11 +76,13 @@ impl Scene {
 pub struct Out {
     pub session: [u8; SESSION],
     pub label: [u8; LABEL],
-    pub text: [u8; 4_096],
+    pub text: Vec<u8>,
     /// A read's buffer.
     pub rows: Vec<u8>,
     /// A copy of the table, for an update.
     pub table: Vec<u8>,
+    /// For a move up.
+    pub image: Vec<u8>,
 }
 
 impl Out {
@@ -83,9 +90,10 @@ impl Out {
         Out {
             session: [b'#'; SESSION],
             label: [b'#'; LABEL],
-            text: [b'#'; 4_096],
+            text: vec![b'#'; scene.longest_text],
             rows: vec![b'#'; scene.rows.room],
             table: scene.rows.table.clone(),
+            image: vec![b'#'; LONGEST],
         }
     }
 
@@ -121,11 +129,11 @@ fn typical(policy: &Policy) -> (&User, Label) {
 }
 
 /// The lowest, the middle and the highest place of a set that has three.
-fn three(set: u64) -> Option<u64> {
-    let places: Vec<usize> = (0..64).filter(|place| set >> place & 1 == 1).collect();
+fn three(set: Set) -> Option<Set> {
+    let places: Vec<usize> = set.places().collect();
     let last = places.len().checked_sub(1).filter(|&last| last > 1)?;
     let chosen = [places[0], places[last / 2], places[last]];
-    Some(chosen.iter().fold(0, |set, place| set | 1 << place))
+    Some(chosen.into_iter().collect())
 }
 
 /// The user whose longest session label has the longest text, and that label: all that the user may
@@ -142,7 +150,7 @@ fn widest(policy: &Policy) -> (&User, Label) {
 }
 
 /// The label of two sets and of the level with the longest name in a range, the highest of several.
-fn longest(policy: &Policy, low: u8, high: u8, compartments: u64, groups: u64) -> Label {
+fn longest(policy: &Policy, low: u8, high: u8, compartments: Set, groups: Set) -> Label {
     let levels = (0..policy.levels.len() as u8).filter(|level| (low..=high).contains(level));
     let length = |level: &u8| policy.levels[usize::from(*level)].name.len();
     Label {
@@ -155,8 +163,8 @@ fn longest(policy: &Policy, low: u8, high: u8, compartments: u64, groups: u64) -
 
 /// The text of a label with compartments and groups.
 fn text_of(policy: &Policy, label: &Label) -> Vec<u8> {
-    let list = |class: &[Component], set: u64| {
-        let places = (0..class.len()).filter(|place| set >> place & 1 == 1);
+    let list = |class: &[Component], set: Set| {
+        let places = (0..class.len()).filter(|&place| set.has(place));
         let names: Vec<&str> = places.map(|place| class[place].name.as_str()).collect();
         names.join(",")
     };

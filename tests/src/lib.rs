@@ -1,30 +1,33 @@
 //! Tests of the compiled library against a second implementation, the model, which follows
-//! document 01 with requests of document 02 and shares no code with the library.
+//! document 01 with requests of document 02 and shares no code with the library.
 //!
 //! - `model`: the rules of an image, of label text, of sessions, of verdicts, of tables and of two
 //!   labels, as the document states them.
-//! - `builder`: well-formed policies and their images.
+//! - `builder`: well-formed policies of both editions, and their images.
 //! - `damage`: for each rule of an image, a change that breaks it; and pairs of such changes.
-//! - `cases`: images by seed, for comparing.
+//! - `cases`: images by edition and seed, for comparing.
 //! - `texts`: label texts and labels by seed, for comparing.
 //! - `walk`: calls on sessions by seed, for comparing.
 //! - `tables`: calls on rows by seed, for comparing.
+//! - `moving`: moves up to edition 2 by seed, for comparing.
 //! - `hidden`: two tables with different hidden rows, and one sequence of calls on each, by seed.
 //! - `pairs`: two labels under a policy, sessions beside label records, and two labels with merge
 //!   letters, by seed, for comparing.
 //! - `vectors`: cases with outside answers.
 //! - `ffi`: the compiled library; `program`: the compiled program `report`.
 //! - `calls`, `row_calls`: calls as values, for the library and for the model.
-//! - `compare`: the answers of both.
+//! - `compare`: the answers of both; `editions`: tests for each edition.
 
 pub mod builder;
 pub mod calls;
 pub mod cases;
 pub mod compare;
 pub mod damage;
+mod editions;
 pub mod ffi;
 pub mod hidden;
 pub mod model;
+pub mod moving;
 pub mod pairs;
 pub mod program;
 pub mod rng;

@@ -1,5 +1,7 @@
 //! Splitmix64. Its whole state is one number, so a seed names a test case.
 
+use crate::builder::Set;
+
 pub struct Rng(u64);
 
 impl Rng {
@@ -31,9 +33,9 @@ impl Rng {
     }
 
     /// A place in `set`, if it has one.
-    pub fn place_in(&mut self, set: u64) -> Option<usize> {
-        let skipped = self.place(0, set.count_ones() as usize)?;
-        (0..64).filter(|place| set >> place & 1 == 1).nth(skipped)
+    pub fn place_in(&mut self, set: Set) -> Option<usize> {
+        let skipped = self.place(0, set.count())?;
+        set.places().nth(skipped)
     }
 
     /// A number from `low` to `high`, often one of these two.
@@ -69,14 +71,38 @@ impl Rng {
     }
 
     /// Some of the places in `set`: none, all, few, many or about half of them.
-    pub fn subset(&mut self, set: u64) -> u64 {
-        set & match self.index(8) {
-            0 => 0,
-            1 => u64::MAX,
-            2 | 3 => self.word() & self.word() & self.word(),
-            4 | 5 => self.word() | self.word(),
-            _ => self.word(),
+    pub fn subset(&mut self, set: Set) -> Set {
+        match self.index(8) {
+            0 => Set::NONE,
+            1 => set,
+            2 if set.count() > 64 => self.few(set),
+            2 | 3 => self.sift(set, |rng| rng.word() & rng.word() & rng.word()),
+            4 | 5 => self.sift(set, |rng| rng.word() | rng.word()),
+            _ => self.half(set),
         }
+    }
+
+    /// About half of the places in `set`.
+    pub fn half(&mut self, set: Set) -> Set {
+        self.sift(set, Rng::word)
+    }
+
+    /// One to four of the places in `set`, if it has any.
+    pub fn few(&mut self, set: Set) -> Set {
+        let count = self.range(1, 4);
+        (0..count).filter_map(|_| self.place_in(set)).collect()
+    }
+
+    /// The places in `set` that random words have too. Words are drawn for as much as the set needs, so
+    /// that a set of few places costs one.
+    fn sift(&mut self, set: Set, draw: fn(&mut Rng) -> u64) -> Set {
+        let mut words = set.words();
+        for (at, word) in words.iter_mut().enumerate() {
+            if at == 0 || *word != 0 {
+                *word &= draw(self);
+            }
+        }
+        Set::from_words(words)
     }
 
     pub fn shuffle<T>(&mut self, items: &mut [T]) {

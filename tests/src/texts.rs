@@ -1,26 +1,27 @@
 //! Label texts and labels for a policy, by seed: right ones, and ones that are wrong in every way that
 //! the rules of label text name.
 
-use crate::builder::{first, letters, random, Component, Label, Policy, Sizes};
+use crate::builder::{letters, random, Component, Edition, Label, Policy, Set, Sizes};
 use crate::rng::Rng;
 
 /// Mostly small, sometimes up to all limits of components. Label text asks nothing of users and
 /// labels, so these are few.
-pub fn policy(rng: &mut Rng) -> Policy {
+pub fn policy(edition: Edition, rng: &mut Rng) -> Policy {
     let mut sizes = match rng.index(40) {
-        0 => Sizes::any(rng),
-        1 => Sizes::FULL,
-        2..=7 => Sizes::medium(rng),
-        _ => Sizes::small(rng),
+        0 => Sizes::any(edition, rng),
+        1 => Sizes::full(edition),
+        2..=7 => Sizes::medium(edition, rng),
+        _ => Sizes::small(edition, rng),
     };
     sizes.users = sizes.users.min(4);
     sizes.labels = sizes.labels.min(30);
     random(sizes, rng)
 }
 
-/// A policy of all limits whose names all have 30 bytes: its longest text has 3,998.
-pub fn longest_names() -> Policy {
-    let mut policy = random(Sizes::FULL, &mut Rng::new(2));
+/// A policy of all limits whose names all have 30 bytes: its longest text has 3,998 bytes in edition 1
+/// and 9,950 in edition 2.
+pub fn longest_names(edition: Edition) -> Policy {
+    let mut policy = random(Sizes::full(edition), &mut Rng::new(2));
     for class in [
         &mut policy.levels,
         &mut policy.compartments,
@@ -45,16 +46,16 @@ impl Names {
         let label = Label {
             tag: 0,
             level: rng.index(policy.levels.len()) as u8,
-            compartments: rng.subset(u64::MAX),
-            groups: rng.subset(u64::MAX),
+            compartments: rng.subset(policy.all_compartments()),
+            groups: rng.subset(policy.all_groups()),
         };
         Names::printed(policy, &label)
     }
 
     /// Of a label, as far as the policy has it, in the order of printing.
     fn printed(policy: &Policy, label: &Label) -> Names {
-        let list = |class: &[Component], set: u64| {
-            let chosen = |&(place, _): &(usize, &Component)| set >> place & 1 == 1;
+        let list = |class: &[Component], set: Set| {
+            let chosen = |&(place, _): &(usize, &Component)| set.has(place);
             let names = class.iter().enumerate().filter(chosen);
             names.map(|(_, component)| component.name.clone()).collect()
         };
@@ -143,7 +144,7 @@ pub fn text(policy: &Policy, rng: &mut Rng) -> Vec<u8> {
     let mut names = Names::any(policy, rng);
     match rng.index(20) {
         0 => noise(rng),
-        1 => long(names, rng),
+        1 => long(names, policy.edition, rng),
         2..=4 => names.text(),
         5..=12 => {
             for _ in 0..rng.range(1, 3) {
@@ -218,23 +219,26 @@ fn double_separator(text: &mut Vec<u8>, rng: &mut Rng) {
     text.insert(at, text[at]);
 }
 
-/// A text of 4,095 to 4,098 bytes, at times far longer, filled up with one long name or with repeats
-/// of a name. Mostly of the right shape, at times with a bad last byte.
-fn long(names: Names, rng: &mut Rng) -> Vec<u8> {
+/// A text of about as many bytes as it may have, from one less to two more; at times far longer, or
+/// about as long as it may be in the other edition. It is filled up with one long name or with repeats of
+/// a name. Mostly of the right shape, at times with a bad last byte.
+fn long(names: Names, edition: Edition, rng: &mut Rng) -> Vec<u8> {
     let mut text = names.text();
+    let longest = edition.longest_text();
     let length = match rng.index(8) {
-        0 => rng.range(4_099, 10_000),
-        _ => rng.range(4_095, 4_098),
+        0 => rng.range(longest + 3, longest + 6_000),
+        1 => edition.other().longest_text() + rng.index(4),
+        _ => longest - 1 + rng.index(4),
     };
     let groups = &names.lists[1];
     let filler = match groups.is_empty() || rng.once_in(2) {
         true => "Z".to_string(),
         false => format!(",{}", rng.pick(groups)),
     };
-    let missing = length - text.len();
+    let missing = length.saturating_sub(text.len());
     text.extend(filler.bytes().cycle().take(missing));
-    if rng.once_in(6) {
-        text[length - 1] = *rng.pick(b" ,:z");
+    if let (true, Some(last)) = (rng.once_in(6), text.last_mut()) {
+        *last = *rng.pick(b" ,:z");
     }
     text
 }
@@ -246,10 +250,10 @@ pub fn label(policy: &Policy, rng: &mut Rng) -> [u8; 48] {
         bytes[at] = rng.byte();
     }
     bytes[4] = rng.index(policy.levels.len()) as u8;
-    let compartments = rng.subset(first(policy.compartments.len()));
-    bytes[8..16].copy_from_slice(&compartments.to_le_bytes());
-    let groups = rng.subset(first(policy.groups.len()));
-    bytes[16..24].copy_from_slice(&groups.to_le_bytes());
+    let compartments = rng.subset(policy.all_compartments());
+    bytes[8..16].copy_from_slice(&compartments.to_bytes()[..8]);
+    let groups = rng.subset(policy.all_groups());
+    bytes[16..].copy_from_slice(&groups.to_bytes());
     bytes
 }
 
@@ -265,8 +269,9 @@ pub fn label_past(policy: &Policy, rng: &mut Rng) -> [u8; 48] {
     match rng.index(4) {
         0 => bytes[4] = past(policy.levels.len(), 256, rng) as u8,
         1 if counts[0] < 64 => add(&mut bytes[8..16], past(counts[0], 64, rng)),
-        2 => add(&mut bytes[16..], past(64, 256, rng)),
-        _ => add(&mut bytes[16..], past(counts[1], 256, rng)),
+        2 if counts[1] <= 64 => add(&mut bytes[16..], past(64, 256, rng)),
+        2 | 3 if counts[1] < 256 => add(&mut bytes[16..], past(counts[1], 256, rng)),
+        _ => bytes[4] = past(policy.levels.len(), 256, rng) as u8,
     }
     bytes
 }

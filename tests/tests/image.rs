@@ -3,25 +3,39 @@
 //! A wrong answer names its seed; `BRAWNESK_SEED=<seed> cargo test --release` compares that image
 //! alone.
 
-use brawnesk_tests::builder::{full, sample, to_image};
-use brawnesk_tests::cases::{Case, DamageTally, Kind};
-use brawnesk_tests::compare::{expected, Tally};
+use brawnesk_tests::builder::layout::seal;
+use brawnesk_tests::builder::{full, random_with, sample, to_image, Edition, Sizes, Tree};
+use brawnesk_tests::cases::{by_hand, Case, DamageTally, Kind};
+use brawnesk_tests::compare::{expected, one_seed, seeds, Tally};
 use brawnesk_tests::ffi::{self, Answer};
+use brawnesk_tests::in_each_edition;
 use brawnesk_tests::model::{self, Refusal};
 use brawnesk_tests::rng::Rng;
 use brawnesk_tests::vectors;
 
+/// In each edition.
 const CASES: u64 = 54_000;
 
 /// How many damaged images there are at least that 31 to 35 refuse, half of them with several
 /// faults.
 const DAMAGED: usize = 40_000;
 
+in_each_edition! {
+    the_library_agrees_with_the_model
+    the_sample_is_accepted_and_its_names_are_right
+    all_names_of_the_largest_image_are_right
+    trees_are_accepted
+    alignment_does_not_matter
+    vectors_of_images
+}
+
 #[derive(Default)]
 struct Seen {
     answers: Tally,
     damaged: DamageTally,
     large: usize,
+    /// Names at places past 63 that there are.
+    high_names: usize,
 }
 
 fn expected_name(image: &[u8], class: u8, place: u8) -> Answer {
@@ -29,11 +43,17 @@ fn expected_name(image: &[u8], class: u8, place: u8) -> Answer {
     expected(part.map(|(offset, length)| offset as u64 + 65_536 * length as u64))
 }
 
-/// Which names are asked for: of a small valid image all that there are and those around them, of
-/// others a few.
+/// Which names are asked for: of a small valid image all that there are and those around them, of a larger
+/// one groups at the ends of words of 64 places, of others a few.
 fn questions(case: &Case, rng: &mut Rng) -> Vec<(u8, u8)> {
     let is_small = case.image.len() < 8 * 512;
-    if case.kind == Kind::Valid && is_small && rng.once_in(4) {
+    let is_asked = case.kind == Kind::Valid && rng.once_in(4);
+    if is_asked && !is_small {
+        return [63, 64, 127, 128, 191, 192, 254, 255]
+            .map(|it| (3, it))
+            .to_vec();
+    }
+    if is_asked {
         let places = (0..=9).chain([31, 32, 63, 64, 65, 127, 128, 254, 255]);
         return places
             .flat_map(|place| (0..=4).map(move |class| (class, place)))
@@ -55,8 +75,8 @@ fn questions(case: &Case, rng: &mut Rng) -> Vec<(u8, u8)> {
 }
 
 /// Number and place of both are the same: block and record of 32 to 34, the group of 35.
-fn compare(seed: u64, seen: &mut Seen) {
-    let case = Case::new(seed);
+fn compare(edition: Edition, seed: u64, seen: &mut Seen) {
+    let case = Case::new(edition, seed);
     let kind = case.kind;
     let image = &case.image;
     let answer = ffi::check(image);
@@ -80,30 +100,33 @@ fn compare(seed: u64, seen: &mut Seen) {
             "name {class}, {place} of {kind:?}, seed {seed}"
         );
         seen.answers.add(answer);
+        seen.high_names += usize::from(place > 63 && matches!(answer, Answer::Done(_)));
     }
     seen.large += usize::from(image.len() >= 100 * 512 && image.len() <= 65_536);
 }
 
-#[test]
-fn the_library_agrees_with_the_model() {
+fn the_library_agrees_with_the_model(edition: Edition) {
     let mut seen = Seen::default();
-    if let Ok(seed) = std::env::var("BRAWNESK_SEED") {
-        return compare(seed.parse().expect("a seed is a number"), &mut seen);
-    }
-    for seed in 0..CASES {
-        compare(seed, &mut seen);
+    for seed in seeds(0..CASES) {
+        compare(edition, seed, &mut seen);
     }
     println!("answers {:?}, large images {}", seen.answers, seen.large);
     println!("{:?}", seen.damaged);
+    if one_seed().is_some() {
+        return;
+    }
     let least = [(0, 4_000), (1, 1_000), (2, 1_000), (18, 4_000)];
     seen.answers.assert_least(&least);
-    seen.damaged.assert_varied(DAMAGED, 300);
+    seen.damaged.assert_varied(edition, DAMAGED, 300);
     assert!(seen.large >= 300, "{} large images", seen.large);
+    match edition {
+        Edition::One => assert_eq!(seen.high_names, 0),
+        Edition::Two => assert!(seen.high_names >= 300, "{}", seen.high_names),
+    }
 }
 
-#[test]
-fn the_sample_is_accepted_and_its_names_are_right() {
-    let image = to_image(&sample());
+fn the_sample_is_accepted_and_its_names_are_right(edition: Edition) {
+    let image = to_image(&sample().in_edition(edition));
     assert_eq!(ffi::check(&image), Answer::Done(0));
     let names: [&[&str]; 3] = [
         &["OPEN", "CREW", "VAULT"],
@@ -124,13 +147,12 @@ fn the_sample_is_accepted_and_its_names_are_right() {
 }
 
 /// Every name of the largest image, in all its component blocks.
-#[test]
-fn all_names_of_the_largest_image_are_right() {
-    let policy = full();
+fn all_names_of_the_largest_image_are_right(edition: Edition) {
+    let policy = full(edition);
     let image = to_image(&policy);
     let classes = [&policy.levels, &policy.compartments, &policy.groups];
     for (class, components) in (1..).zip(classes) {
-        for (place, component) in (0..).zip(components) {
+        for (place, component) in (0..=255).zip(components) {
             let answer = ffi::name(&image, class, place);
             assert_eq!(answer, expected_name(&image, class, place));
             let Answer::Done(value) = answer else {
@@ -142,6 +164,22 @@ fn all_names_of_the_largest_image_are_right() {
     }
 }
 
+/// Each form of parents with all groups, and then with a group that is over itself.
+fn trees_are_accepted(edition: Edition) {
+    for (seed, tree) in Tree::ALL.into_iter().enumerate() {
+        let sizes = Sizes::full(edition);
+        let mut policy = random_with(tree, sizes, &mut Rng::new(seed as u64));
+        assert_eq!(ffi::check(&to_image(&policy)), Answer::Done(0), "{tree:?}");
+        for group in [0, 1, 62, 63, sizes.groups - 2, sizes.groups - 1] {
+            let parent = policy.groups[group].parent.replace(group as u16);
+            let image = to_image(&policy);
+            let wanted = expected(model::check(&image).map(|()| 0));
+            assert_eq!(ffi::check(&image), wanted, "{tree:?}, group {group}");
+            policy.groups[group].parent = parent;
+        }
+    }
+}
+
 /// The file that the example program is run on is the sample, byte for byte.
 #[test]
 fn the_sample_file_is_the_sample() {
@@ -149,10 +187,15 @@ fn the_sample_file_is_the_sample() {
     assert_eq!(std::fs::read(path).unwrap(), to_image(&sample()));
 }
 
-/// A slice may begin anywhere.
+/// Edition 2, byte by byte.
 #[test]
-fn alignment_does_not_matter() {
-    let image = to_image(&full());
+fn refusals_by_hand() {
+    by_hand::check(&ffi::check);
+}
+
+/// A slice may begin anywhere.
+fn alignment_does_not_matter(edition: Edition) {
+    let image = to_image(&full(edition));
     for shift in 1..8 {
         let mut shifted = vec![255; shift];
         shifted.extend_from_slice(&image);
@@ -175,9 +218,24 @@ fn lengths_are_judged_first() {
     assert_eq!(ffi::check(&[0; 65_536]), expected(Err(Refusal::Block(1))));
 }
 
+/// Every edition that there isn't, in the sample and in the largest image.
 #[test]
-fn vectors_of_images() {
-    for case in vectors::images() {
+fn unknown_editions() {
+    for edition in Edition::ALL {
+        for policy in [sample().in_edition(edition), full(edition)] {
+            let mut image = to_image(&policy);
+            for number in (0..=255).filter(|number| ![1, 2].contains(number)) {
+                image[4] = number;
+                seal(&mut image, 0);
+                let answer = ffi::check(&image);
+                assert_eq!(answer, expected(Err(Refusal::Layout)), "edition {number}");
+            }
+        }
+    }
+}
+
+fn vectors_of_images(edition: Edition) {
+    for case in vectors::images(edition) {
         assert_eq!(ffi::check(&case.image), case.answer, "{}", case.line);
     }
 }

@@ -1,15 +1,26 @@
 //! The model by itself: what it accepts, and what it is compared on.
 
-use brawnesk_tests::builder::{full, random, sample, to_image, Sizes};
+use brawnesk_tests::builder::{full, random, random_with, sample, to_image, Edition, Sizes, Tree};
 use brawnesk_tests::cases::{Case, DamageTally};
 use brawnesk_tests::compare::expected;
+use brawnesk_tests::in_each_edition;
 use brawnesk_tests::model::{check, faults, name, Fault, Refusal};
 use brawnesk_tests::rng::Rng;
 use brawnesk_tests::vectors;
 
-#[test]
-fn the_sample_is_accepted() {
-    let image = to_image(&sample());
+in_each_edition! {
+    the_sample_is_accepted
+    the_largest_image_is_accepted
+    random_policies_are_accepted
+    random_parents_are_varied
+    trees_are_accepted
+    cases_are_varied
+    wrong_orders_are_found
+    vectors_of_images
+}
+
+fn the_sample_is_accepted(edition: Edition) {
+    let image = to_image(&sample().in_edition(edition));
     assert_eq!(image.len(), 4 * 512);
     assert_eq!(check(&image), Ok(()));
     let (offset, length) = name(&image, 3, 2).expect("there are four groups");
@@ -17,49 +28,68 @@ fn the_sample_is_accepted() {
     assert_eq!(name(&image, 3, 4), Err(Refusal::Component));
 }
 
-#[test]
-fn the_largest_image_is_accepted() {
-    let image = to_image(&full());
+fn the_largest_image_is_accepted(edition: Edition) {
+    let image = to_image(&full(edition));
     assert_eq!(image.len(), 127 * 512);
     assert_eq!(check(&image), Ok(()));
 }
 
-#[test]
-fn random_policies_are_accepted() {
+fn random_policies_are_accepted(edition: Edition) {
     for seed in 0..2_000 {
         let mut rng = Rng::new(seed);
         let sizes = match seed % 50 {
-            0 => Sizes::any(&mut rng),
-            1..=9 => Sizes::medium(&mut rng),
-            _ => Sizes::small(&mut rng),
+            0 => Sizes::any(edition, &mut rng),
+            1..=9 => Sizes::medium(edition, &mut rng),
+            _ => Sizes::small(edition, &mut rng),
         };
         let image = to_image(&random(sizes, &mut rng));
         assert_eq!(check(&image), Ok(()), "seed {seed}");
     }
 }
 
-/// Parents stand at lower and at higher places, and chains go through all 64 groups.
-#[test]
-fn random_parents_are_varied() {
-    let policies = (0..40).map(|seed| random(Sizes::FULL, &mut Rng::new(seed)));
-    let (mut lower, mut higher, mut deepest) = (0, 0, 0);
+/// Parents stand at lower and at higher places, also at the last one, and chains go through all groups.
+fn random_parents_are_varied(edition: Edition) {
+    let groups = edition.most_groups();
+    let policies = (0..40).map(|seed| random(Sizes::full(edition), &mut Rng::new(seed)));
+    let (mut lower, mut higher, mut last, mut deepest) = (0, 0, 0, 0);
     for policy in policies {
         for (place, group) in policy.groups.iter().enumerate() {
             let parent = group.parent.map(usize::from);
             lower += usize::from(parent.is_some_and(|parent| parent < place));
             higher += usize::from(parent.is_some_and(|parent| parent > place));
-            deepest = deepest.max(policy.with_ancestors(place).count_ones());
+            last += usize::from(parent == Some(groups - 1));
+            deepest = deepest.max(policy.with_ancestors(place).count());
         }
     }
-    assert!(lower > 500 && higher > 500 && deepest == 64);
+    println!("lower {lower}, higher {higher}, last {last}, deepest {deepest}");
+    assert!(lower > 500 && higher > 500 && last > 15 && deepest == groups);
+}
+
+/// Each form of parents with all groups. In a chain all groups stand over one, and in a wide tree one at
+/// most.
+fn trees_are_accepted(edition: Edition) {
+    let groups = edition.most_groups();
+    for (seed, tree) in Tree::ALL.into_iter().enumerate() {
+        let policy = random_with(tree, Sizes::full(edition), &mut Rng::new(seed as u64));
+        assert_eq!(check(&to_image(&policy)), Ok(()), "{tree:?}");
+        let parent = |group: usize| policy.groups[group].parent.map(usize::from);
+        let depth = |group: usize| policy.with_ancestors(group).count();
+        let deepest = (0..groups).map(depth).max();
+        match tree {
+            Tree::Any => assert!(deepest > Some(2)),
+            Tree::Chain => assert_eq!(deepest, Some(groups)),
+            Tree::ParentLower => assert!((1..groups).all(|it| parent(it) == Some(it - 1))),
+            Tree::ParentHigher => assert!((1..groups).all(|it| parent(it - 1) == Some(it))),
+            Tree::Wide => assert_eq!(deepest, Some(2)),
+        }
+    }
 }
 
 /// The images for comparing go everywhere.
-#[test]
-fn cases_are_varied() {
+fn cases_are_varied(edition: Edition) {
     let mut tally = DamageTally::default();
     for seed in 0..16_000 {
-        let case = Case::new(seed);
+        let case = Case::new(edition, seed);
         let checked = check(&case.image);
         if let Some(refusal) = case.expected() {
             assert_eq!(checked, Err(refusal), "{:?}, seed {seed}", case.kind);
@@ -67,7 +97,7 @@ fn cases_are_varied() {
         tally.add(&case, expected(checked.map(|()| 0)));
     }
     println!("{tally:?}");
-    tally.assert_varied(10_000, 75);
+    tally.assert_varied(edition, 10_000, 75);
 }
 
 /// The stage of a fault, its block or group, and its record counted from 1, or 0 without one.
@@ -122,11 +152,10 @@ const WRONG: [Order; 9] = [
 
 /// Each wrong order tells another fault for many of the images for comparing, and the right one for
 /// none.
-#[test]
-fn wrong_orders_are_found() {
+fn wrong_orders_are_found(edition: Edition) {
     let mut found = [0; WRONG.len()];
     for seed in 0..8_000 {
-        let image = Case::new(seed).image;
+        let image = Case::new(edition, seed).image;
         let Err(refusal) = check(&image) else {
             continue;
         };
@@ -148,9 +177,8 @@ fn wrong_orders_are_found() {
     assert!(found.iter().all(|(_, times)| *times >= 25), "{found:?}");
 }
 
-#[test]
-fn vectors_of_images() {
-    let cases = vectors::images();
+fn vectors_of_images(edition: Edition) {
+    let cases = vectors::images(edition);
     assert!(cases.len() >= 45, "{} cases", cases.len());
     for case in cases {
         let answer = expected(check(&case.image).map(|()| 0));

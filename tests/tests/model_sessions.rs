@@ -1,17 +1,24 @@
 //! The model of sessions and verdicts by itself, and what it is compared on.
 
-use brawnesk_tests::builder::{sample, to_image};
+use brawnesk_tests::builder::{sample, to_image, Edition};
 use brawnesk_tests::calls::Call;
 use brawnesk_tests::ffi::{Answer, SESSION};
+use brawnesk_tests::in_each_edition;
 use brawnesk_tests::model::{accepted, check, Label, Session};
 use brawnesk_tests::rng::Rng;
 use brawnesk_tests::vectors;
 use brawnesk_tests::walk::{each_call, policy, Break, WalkTally};
 
-#[test]
-fn vectors_of_sessions() {
+in_each_edition! {
+    vectors_of_sessions
+    vectors_are_of_the_sample
+    walks_are_varied
+    each_break_is_refused
+}
+
+fn vectors_of_sessions(edition: Edition) {
     let mut cases = 0;
-    for section in vectors::sessions() {
+    for section in vectors::sessions(edition) {
         assert_eq!(check(&section.image), Ok(()), "{}", section.cases[0].line);
         let checked = accepted(&section.image);
         for case in &section.cases {
@@ -23,27 +30,29 @@ fn vectors_of_sessions() {
 }
 
 /// The last file's policy is the sample's.
-#[test]
-fn vectors_are_of_the_sample() {
-    let mut last = vectors::sessions().pop().expect("the files have sections");
+fn vectors_are_of_the_sample(edition: Edition) {
+    let sections = vectors::sessions(edition);
+    let mut last = sections
+        .into_iter()
+        .last()
+        .expect("the files have sections");
     last.policy.labels = sample().labels;
-    assert_eq!(to_image(&last.policy), to_image(&sample()));
+    let sample = to_image(&sample().in_edition(edition));
+    assert_eq!(to_image(&last.policy), sample);
 }
 
 /// The walks for comparing go everywhere.
-#[test]
-fn walks_are_varied() {
+fn walks_are_varied(edition: Edition) {
     let mut tally = WalkTally::default();
     for seed in 0..2_000 {
-        each_call(seed, 200, |step| tally.add(step));
+        each_call(edition, seed, 200, |step| tally.add(step));
     }
     println!("{tally:?}");
-    tally.assert_varied(50);
+    tally.assert_varied(edition, 50);
 }
 
 /// Each way to break a session applies often, and the session is then refused.
-#[test]
-fn each_break_is_refused() {
+fn each_break_is_refused(edition: Edition) {
     let refused = Answer::Refused {
         number: 19,
         place: 0,
@@ -51,7 +60,7 @@ fn each_break_is_refused() {
     let mut applied = vec![0; Break::ALL.len()];
     for seed in 0..400 {
         let mut rng = Rng::new(seed);
-        let policy = policy(&mut rng);
+        let policy = policy(edition, &mut rng);
         let image = to_image(&policy);
         let checked = accepted(&image);
         for user in policy.users.iter().take(4) {

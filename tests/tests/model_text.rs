@@ -1,24 +1,33 @@
 //! The model of label text by itself.
 
-use brawnesk_tests::builder::{sample, to_image};
+use brawnesk_tests::builder::{sample, to_image, Edition};
 use brawnesk_tests::compare::{expected, Tally};
+use brawnesk_tests::in_each_edition;
 use brawnesk_tests::model::{parse, print, print_within, Label, Refusal};
 use brawnesk_tests::rng::Rng;
 use brawnesk_tests::texts;
 use brawnesk_tests::vectors::{self, Expected};
 
+in_each_edition! {
+    cases_of_the_document
+    vectors_of_label_text
+    what_is_printed_is_read_as_the_same_label
+    the_longest_text
+    lengths_of_texts
+    labels_past_the_policy
+    texts_are_varied
+}
+
 /// P15 and P16.
-#[test]
-fn cases_of_the_document() {
-    let image = to_image(&sample());
+fn cases_of_the_document(edition: Edition) {
+    let image = to_image(&sample().in_edition(edition));
     let label = parse(&image, b"VAULT:GLAZE,KILN").expect("P15 is a label");
     assert_eq!(print(&image, &label).unwrap(), b"VAULT:KILN,GLAZE");
     assert_eq!(parse(&image, b"CREW::"), Err(Refusal::Text));
 }
 
-#[test]
-fn vectors_of_label_text() {
-    for vector in vectors::label_text() {
+fn vectors_of_label_text(edition: Edition) {
+    for vector in vectors::label_text(edition) {
         let image = to_image(&vector.policy);
         let label = parse(&image, vector.text.as_bytes());
         match vector.expected {
@@ -33,11 +42,10 @@ fn vectors_of_label_text() {
     }
 }
 
-#[test]
-fn what_is_printed_is_read_as_the_same_label() {
+fn what_is_printed_is_read_as_the_same_label(edition: Edition) {
     for seed in 0..4_000 {
         let mut rng = Rng::new(seed);
-        let policy = texts::policy(&mut rng);
+        let policy = texts::policy(edition, &mut rng);
         let image = to_image(&policy);
         let label = Label::read(&texts::label(&policy, &mut rng));
         let text = print(&image, &label).expect("the policy has all that the label names");
@@ -46,37 +54,47 @@ fn what_is_printed_is_read_as_the_same_label() {
 }
 
 /// No label is too long to be read back.
-#[test]
-fn the_longest_text() {
-    let image = to_image(&texts::longest_names());
+fn the_longest_text(edition: Edition) {
+    let image = to_image(&texts::longest_names(edition));
+    let (groups, length) = match edition {
+        Edition::One => (64, 3_998),
+        Edition::Two => (256, 9_950),
+    };
     let label = Label {
         level: 31,
         compartments: (0..64).collect(),
-        groups: (0..64).collect(),
+        groups: (0..groups).collect(),
     };
     let text = print(&image, &label).unwrap();
-    assert_eq!(text.len(), 3_998);
+    assert_eq!(text.len(), length);
     assert_eq!(parse(&image, &text).as_ref(), Ok(&label));
-    assert_eq!(print_within(&image, &label, 3_997), Err(Refusal::Room));
-    assert_eq!(print_within(&image, &label, 3_998), Ok(text));
+    assert_eq!(print_within(&image, &label, length - 1), Err(Refusal::Room));
+    assert_eq!(print_within(&image, &label, length), Ok(text));
 }
 
-/// A text of 4,096 bytes is judged by its names, a longer one is refused whatever it holds.
-#[test]
-fn lengths_of_texts() {
-    let image = to_image(&sample());
-    let mut text = b"CREW:".to_vec();
-    text.resize(4_096, b'A');
-    assert_eq!(parse(&image, &text), Err(Refusal::NameUnknown(5)));
-    text.push(b'A');
-    assert_eq!(parse(&image, &text), Err(Refusal::Text));
+/// A text of 4,096 bytes is judged by its names, a longer one is refused whatever it holds. In edition 2
+/// it may have 10,000 bytes.
+fn lengths_of_texts(edition: Edition) {
+    let longest = match edition {
+        Edition::One => 4_096,
+        Edition::Two => 10_000,
+    };
+    let image = to_image(&sample().in_edition(edition));
+    for length in [4_095, 4_096, 4_097, 9_999, 10_000, 10_001, 65_536] {
+        let mut text = b"CREW:".to_vec();
+        text.resize(length, b'A');
+        let refusal = match length <= longest {
+            true => Refusal::NameUnknown(5),
+            false => Refusal::Text,
+        };
+        assert_eq!(parse(&image, &text), Err(refusal), "{length} bytes");
+    }
 }
 
-#[test]
-fn labels_past_the_policy() {
+fn labels_past_the_policy(edition: Edition) {
     for seed in 0..2_000 {
         let mut rng = Rng::new(seed);
-        let policy = texts::policy(&mut rng);
+        let policy = texts::policy(edition, &mut rng);
         let label = Label::read(&texts::label_past(&policy, &mut rng));
         let printed = print(&to_image(&policy), &label);
         assert_eq!(printed, Err(Refusal::Component), "seed {seed}");
@@ -110,12 +128,11 @@ fn bytes_of_a_label() {
 }
 
 /// The texts for comparing are of all kinds.
-#[test]
-fn texts_are_varied() {
+fn texts_are_varied(edition: Edition) {
     let mut tally = Tally::default();
     for seed in 0..400 {
         let mut rng = Rng::new(seed);
-        let policy = texts::policy(&mut rng);
+        let policy = texts::policy(edition, &mut rng);
         let image = to_image(&policy);
         for _ in 0..20 {
             let text = texts::text(&policy, &mut rng);

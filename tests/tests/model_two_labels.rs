@@ -1,38 +1,47 @@
 //! The model of two labels by itself, and what it is compared on.
 
-use brawnesk_tests::builder::{Label, Policy};
+use brawnesk_tests::builder::{Edition, Label, Policy, Set};
 use brawnesk_tests::calls::PairCall;
 use brawnesk_tests::compare::CallTally;
 use brawnesk_tests::ffi::{Answer, LABEL};
+use brawnesk_tests::in_each_edition;
 use brawnesk_tests::model::accepted;
 use brawnesk_tests::pairs::{by_hand, each_pair, each_record, merges, pair};
 use brawnesk_tests::pairs::{Held, PairTally, Program, ReadingTally};
 use brawnesk_tests::rng::Rng;
 use brawnesk_tests::vectors;
 
-#[test]
-fn vectors_of_two_labels() {
-    let cases = vectors::two_labels();
+in_each_edition! {
+    vectors_of_two_labels
+    answers_by_hand
+    pairs_are_varied
+    a_session_without_privileges_reads_what_its_label_dominates
+    wrong_rules_are_found
+    labels_differ_in_each_part_alone
+}
+
+fn vectors_of_two_labels(edition: Edition) {
+    let cases = vectors::two_labels(edition);
     assert!(cases.len() >= 70, "{} cases", cases.len());
     for case in cases {
         case.run(|call, image, pair, out| call.by_model(&accepted(image), pair, out));
     }
 }
 
-#[test]
-fn answers_by_hand() {
-    by_hand::check(&|image, call, pair| call.by_model(&accepted(image), pair, &mut [0; LABEL]));
+fn answers_by_hand(edition: Edition) {
+    by_hand::check(edition, &|image, call, pair| {
+        call.by_model(&accepted(image), pair, &mut [0; LABEL])
+    });
 }
 
 /// The pairs for comparing go everywhere.
-#[test]
-fn pairs_are_varied() {
+fn pairs_are_varied(edition: Edition) {
     let mut tally = PairTally::default();
     for seed in 0..1_500 {
-        each_pair(seed, 40, |step| tally.add(step));
+        each_pair(edition, seed, 40, |step| tally.add(step));
     }
     println!("{tally:?}");
-    tally.assert_varied(40_000, 50);
+    tally.assert_varied(edition, 40_000, 50);
 }
 
 #[test]
@@ -52,11 +61,10 @@ fn merges_are_varied() {
 }
 
 /// The two sides of request R-3 are written apart from each other in the model too.
-#[test]
-fn a_session_without_privileges_reads_what_its_label_dominates() {
+fn a_session_without_privileges_reads_what_its_label_dominates(edition: Edition) {
     let mut tally = ReadingTally::default();
     for seed in 0..400 {
-        each_record(seed, Held::Nothing, Program::Model, |it| {
+        each_record((edition, seed), Held::Nothing, Program::Model, |it| {
             assert_eq!(it.reads, it.dominates, "seed {seed}: {it:?}");
             tally.add(it);
         });
@@ -73,11 +81,11 @@ fn level(one: &Label, two: &Label) -> bool {
 }
 
 fn compartments(one: &Label, two: &Label) -> bool {
-    two.compartments & !one.compartments == 0
+    two.compartments.is_in(one.compartments)
 }
 
 fn groups(policy: &Policy, one: &Label, two: &Label) -> bool {
-    two.groups == 0 || policy.below(one.groups) & two.groups != 0
+    two.groups.is_empty() || policy.below(one.groups).meets(two.groups)
 }
 
 /// By the builder's own below.
@@ -96,12 +104,12 @@ fn within(steps: usize, policy: &Policy, one: &Label, two: &Label) -> bool {
     for _ in 0..steps {
         let is_child = |place: &usize| {
             let parent = policy.groups[*place].parent;
-            parent.is_some_and(|parent| found >> parent & 1 == 1)
+            parent.is_some_and(|parent| found.has(parent.into()))
         };
-        let children = (0..policy.groups.len()).filter(is_child);
-        found = children.fold(found, |set, place| set | 1 << place);
+        let children: Set = (0..policy.groups.len()).filter(is_child).collect();
+        found |= children;
     }
-    by(two.groups == 0 || found & two.groups != 0, one, two)
+    by(two.groups.is_empty() || found.meets(two.groups), one, two)
 }
 
 /// Rules that a program might go by and that are wrong.
@@ -110,21 +118,21 @@ const WRONG: [(&str, Rule); 13] = [
     ("one parent up", |it, one, two| within(1, it, one, two)),
     ("two parents up", |it, one, two| within(2, it, one, two)),
     ("groups the other way round", |it, one, two| {
-        let met = it.below(two.groups) & one.groups != 0;
-        by(two.groups == 0 || met, one, two)
+        let met = it.below(two.groups).meets(one.groups);
+        by(two.groups.is_empty() || met, one, two)
     }),
     ("a group below both", |it, one, two| {
-        let met = it.below(two.groups) & it.below(one.groups) != 0;
-        by(two.groups == 0 || met, one, two)
+        let met = it.below(two.groups).meets(it.below(one.groups));
+        by(two.groups.is_empty() || met, one, two)
     }),
     ("all groups", |it, one, two| {
-        by(two.groups & !it.below(one.groups) == 0, one, two)
+        by(two.groups.is_in(it.below(one.groups)), one, two)
     }),
     ("no groups in label 2 is no match", |it, one, two| {
-        right(it, one, two) && two.groups != 0
+        right(it, one, two) && !two.groups.is_empty()
     }),
     ("no groups in label 1 is a match", |it, one, two| {
-        by(groups(it, one, two) || one.groups == 0, one, two)
+        by(groups(it, one, two) || one.groups.is_empty(), one, two)
     }),
     ("a higher level", |it, one, two| {
         right(it, one, two) && two.level < one.level
@@ -136,18 +144,17 @@ const WRONG: [(&str, Rule); 13] = [
         level(one, two) && groups(it, one, two)
     }),
     ("one compartment is enough", |it, one, two| {
-        let shared = one.compartments & two.compartments != 0 || two.compartments == 0;
+        let shared = one.compartments.meets(two.compartments) || two.compartments.is_empty();
         level(one, two) && shared && groups(it, one, two)
     }),
     ("the labels exchanged", |it, one, two| right(it, two, one)),
 ];
 
 /// Each wrong rule gives another answer for many of the pairs for comparing, and the right one for none.
-#[test]
-fn wrong_rules_are_found() {
+fn wrong_rules_are_found(edition: Edition) {
     let mut found = [0; WRONG.len()];
     for seed in 0..400 {
-        each_pair(seed, 40, |step| {
+        each_pair(edition, seed, 40, |step| {
             let (Answer::Done(answer), PairCall::Dominates) = (step.answer, &step.call) else {
                 return;
             };
@@ -166,11 +173,10 @@ fn wrong_rules_are_found() {
 
 /// Labels of which one strictly dominates the other often differ in one part alone, so that a program
 /// which doesn't compare that part is found.
-#[test]
-fn labels_differ_in_each_part_alone() {
+fn labels_differ_in_each_part_alone(edition: Edition) {
     let mut alone = [0; 3];
     for seed in 0..400 {
-        each_pair(seed, 40, |step| {
+        each_pair(edition, seed, 40, |step| {
             let [one, two] = step.labels;
             let differ = [
                 one.level != two.level,

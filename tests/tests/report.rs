@@ -4,9 +4,11 @@
 //! alone.
 
 use brawnesk_tests::builder::layout::{seal, BLOCK};
-use brawnesk_tests::builder::{full, random, sample, to_image, Sizes};
+use brawnesk_tests::builder::{full, put, random, random_with, sample, to_image};
+use brawnesk_tests::builder::{Edition, Set, Sizes, Tree};
 use brawnesk_tests::cases::Case;
 use brawnesk_tests::compare::{seeds, OF_IMAGES};
+use brawnesk_tests::in_each_edition;
 use brawnesk_tests::model;
 use brawnesk_tests::program::report;
 use brawnesk_tests::rng::Rng;
@@ -15,19 +17,30 @@ use std::fs::File;
 use std::process::Command;
 use std::time::{Duration, Instant};
 
+/// In each edition.
 const CASES: u64 = 800;
 
 /// More lines than these are not all asked of the model, which is slow.
 const MANY: usize = 20_000;
 
+in_each_edition! {
+    the_program_agrees_with_the_model
+    the_samples_report_is_the_documents
+    input_past_the_buffer_is_refused
+    refused_images_give_one_line
+    the_largest_places
+    lines_of_every_length
+    the_largest_report_is_quick
+}
+
 /// Inputs by seed: well-formed images, images of all kinds, and some of these with more bytes after
 /// them: just as many as the buffer has, one more, and far more.
-fn input(seed: u64) -> Vec<u8> {
+fn input(edition: Edition, seed: u64) -> Vec<u8> {
     let mut rng = Rng::new(!seed);
     if rng.once_in(4) {
-        return to_image(&random(Sizes::medium(&mut rng), &mut rng));
+        return to_image(&random(Sizes::medium(edition, &mut rng), &mut rng));
     }
-    let mut image = Case::new(seed).image;
+    let mut image = Case::new(edition, seed).image;
     if rng.once_in(12) {
         let length = [65_536, 65_537, 65_538, 66_048, 200_000][rng.index(5)];
         image.resize(length, rng.byte());
@@ -76,13 +89,12 @@ fn compared(input: &[u8], what: &str) -> String {
     text
 }
 
-#[test]
-fn the_program_agrees_with_the_model() {
+fn the_program_agrees_with_the_model(edition: Edition) {
     let mut seen = Seen::default();
     let range = seeds(0..CASES);
     let is_whole = range.end - range.start == CASES;
     for seed in range {
-        seen.add(&compared(&input(seed), &format!("seed {seed}")));
+        seen.add(&compared(&input(edition, seed), &format!("seed {seed}")));
     }
     println!("{seen:?}");
     if is_whole {
@@ -92,27 +104,32 @@ fn the_program_agrees_with_the_model() {
     }
 }
 
-/// The three lines of document 01, in the words of the file that `rt ci` compares with.
+/// The three lines of document 01.
+const LINES: &str = "MARA 10 rw\nMARA 20 --\nMARA 30 r-\n";
+
+fn the_samples_report_is_the_documents(edition: Edition) {
+    let image = to_image(&sample().in_edition(edition));
+    assert_eq!(compared(&image, "the sample"), LINES);
+}
+
+/// What `rt ci` compares is the sample of edition 1 and its report.
 #[test]
-fn the_samples_report_is_the_documents() {
-    let text = "MARA 10 rw\nMARA 20 --\nMARA 30 r-\n";
-    assert_eq!(compared(&to_image(&sample()), "the sample"), text);
+fn the_programs_files_are_the_samples() {
     let folder = concat!(env!("CARGO_MANIFEST_DIR"), "/../crates/report");
     let read =
         |file: &str| std::fs::read(format!("{folder}/{file}")).expect("it is in the repository");
     assert_eq!(read("stdin"), to_image(&sample()));
-    assert_eq!(read("stdout"), text.as_bytes());
+    assert_eq!(read("stdout"), LINES.as_bytes());
 }
 
-#[test]
-fn input_past_the_buffer_is_refused() {
+fn input_past_the_buffer_is_refused(edition: Edition) {
     for length in [0, 1, 511, 513, 65_535, 65_537, 66_048, 1_000_000] {
         assert_eq!(report(&vec![0; length]), b"refused 1\n", "{length} bytes");
     }
     assert_eq!(report(&[0; 65_536]), b"refused 2 at block 1\n");
     assert_eq!(report(&[0; 512]), b"refused 31\n");
     // An accepted image, and a byte more or as many zeros as the buffer takes.
-    let image = to_image(&full());
+    let image = to_image(&full(edition));
     assert_eq!(report(&[&image[..], &[0]].concat()), b"refused 1\n");
     assert_eq!(
         report(&[&image[..], &[0; 512]].concat()),
@@ -123,21 +140,25 @@ fn input_past_the_buffer_is_refused() {
 
 /// One byte in the sample and the line that is then written; the first three are the request's.
 /// Block 1 holds the components, block 2 the labels and block 3 MARA.
-#[test]
-fn refused_images_give_one_line() {
+fn refused_images_give_one_line(edition: Edition) {
+    let (second_label, unused, write_groups) = match edition {
+        Edition::One => (4 + 24, 127, 80),
+        Edition::Two => (4 + 48, 39, 104),
+    };
     for (block, at, byte, line) in [
         (3, 509, 1, "refused 31\n"),
         (1, 4 + 39, 1, "refused 32 at block 1 record 0\n"),
         // DOCK, the third group, is its own parent.
         (1, 4 + 7 * 40 + 34, 2, "refused 35 at group 2\n"),
-        (0, 4, 2, "refused 31\n"),
+        (0, 4, 3, "refused 31\n"),
+        (0, 4, edition.other().number(), "refused 31\n"),
         (1, 4 + 8 * 40 + 34, 4, "refused 32 at block 1 record 8\n"),
-        (2, 4 + 24, 10, "refused 33 at block 2 record 1\n"),
-        (3, 4 + 127, 1, "refused 34 at block 3 record 0\n"),
+        (2, second_label, 10, "refused 33 at block 2 record 1\n"),
+        (3, 4 + unused, 1, "refused 34 at block 3 record 0\n"),
         // Her write group is SOUTH, which isn't below NORTH.
-        (3, 4 + 80, 8, "refused 34 at block 3 record 0\n"),
+        (3, 4 + write_groups, 8, "refused 34 at block 3 record 0\n"),
     ] {
-        let mut image = to_image(&sample());
+        let mut image = to_image(&sample().in_edition(edition));
         image[block * BLOCK + at] = byte;
         seal(&mut image, block);
         assert_eq!(model::report(&image), line);
@@ -149,9 +170,8 @@ fn refused_images_give_one_line() {
 }
 
 /// Places of more than one digit, at the last record of the largest image's blocks.
-#[test]
-fn the_largest_places() {
-    let policy = full();
+fn the_largest_places(edition: Edition) {
+    let policy = full(edition);
     let [components, labels, users] = policy.runs();
     for (run, number) in [(components, 32), (labels, 33), (users, 34)] {
         let at = run.at(run.count - 1);
@@ -166,11 +186,12 @@ fn the_largest_places() {
         assert_eq!(compared(&image, &line), line);
     }
     // A group without subgroups is its own parent, so it alone never ends.
-    let has_none = |group: &usize| policy.below(1 << group) == 1 << group;
-    let group = (10..64).rfind(has_none).expect("there are leaves");
+    let has_none = |&group: &usize| policy.below(Set::of(group)) == Set::of(group);
+    let groups = 10..policy.groups.len();
+    let group = groups.rev().find(has_none).expect("there are leaves");
     let at = policy.group_at(group);
     let mut image = to_image(&policy);
-    image[at.offset + 34] = group as u8;
+    put(&mut image[at.offset..][edition.parent()], group);
     seal(&mut image, at.block);
     let line = format!("refused 35 at group {group}\n");
     assert_eq!(compared(&image, &line), line);
@@ -191,14 +212,14 @@ fn a_failed_read_gives_no_report() {
 }
 
 /// Lines of every length, so that the buffer ends at every place of a line.
-#[test]
-fn lines_of_every_length() {
+fn lines_of_every_length(edition: Edition) {
+    let count = edition.most_labels();
     for length in 1..=30 {
-        for tag in [1, 99_999_999 - 1_679] {
-            let mut policy = sample();
+        for tag in [1, 100_000_000 - count as u32] {
+            let mut policy = sample().in_edition(edition);
             policy.users[0].name = "M".repeat(length);
             let records = policy.labels.clone();
-            policy.labels = (0..1_680)
+            policy.labels = (0..count)
                 .map(|place| {
                     let mut label = records[place % 3].clone();
                     label.tag = tag + place as u32;
@@ -213,16 +234,27 @@ fn lines_of_every_length() {
     }
 }
 
-/// All lines of the largest image within the 2 seconds that are allowed, the start of the program
-/// and a debug build of this test included.
-#[test]
-fn the_largest_report_is_quick() {
-    let image = to_image(&full());
-    let start = Instant::now();
-    let text = report(&image);
-    let taken = start.elapsed();
-    println!("{} bytes in {taken:?}", text.len());
-    assert_eq!(text.iter().filter(|&&byte| byte == b'\n').count(), 161_280);
-    assert!(taken < Duration::from_secs(2), "{taken:?}");
-    compared(&image, "the largest image");
+/// All lines of the largest image, whatever its parents are, within the 2 seconds that are allowed, the
+/// start of the program and a debug build of this test included.
+fn the_largest_report_is_quick(edition: Edition) {
+    let sizes = Sizes::full(edition);
+    let lines = match edition {
+        Edition::One => 161_280,
+        Edition::Two => 25_600,
+    };
+    let with = |tree| random_with(tree, sizes, &mut Rng::new(1));
+    for policy in [
+        full(edition),
+        with(Tree::ParentLower),
+        with(Tree::ParentHigher),
+    ] {
+        let image = to_image(&policy);
+        let start = Instant::now();
+        let text = report(&image);
+        let taken = start.elapsed();
+        println!("{} bytes in {taken:?}", text.len());
+        assert_eq!(text.iter().filter(|&&byte| byte == b'\n').count(), lines);
+        assert!(taken < Duration::from_secs(2), "{taken:?}");
+        compared(&image, "the largest image");
+    }
 }

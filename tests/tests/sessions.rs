@@ -2,21 +2,31 @@
 //!
 //! A wrong answer names its seed; `BRAWNESK_SEED=<seed> cargo test --release` compares that seed alone.
 
-use brawnesk_tests::builder::{sample, to_image};
+use brawnesk_tests::builder::{sample, to_image, Edition};
 use brawnesk_tests::calls::Call;
 use brawnesk_tests::compare::{one_seed, seeds};
 use brawnesk_tests::ffi::{self, Answer, SESSION};
+use brawnesk_tests::in_each_edition;
 use brawnesk_tests::model;
 use brawnesk_tests::rng::Rng;
 use brawnesk_tests::vectors;
 use brawnesk_tests::walk::{each_call, policy, spoil_unused, Break, WalkTally};
 use std::hint::black_box;
 
+/// In each edition.
 const POLICIES: u64 = 2_000;
 const CALLS_EACH: usize = 200;
 
 /// The byte of a session that holds the session label's level.
 const LEVEL: usize = 12;
+
+in_each_edition! {
+    the_library_agrees_with_the_model
+    broken_sessions_are_refused
+    every_bit_of_a_session
+    alignment_does_not_matter
+    vectors_of_sessions
+}
 
 /// The library's answer, and the session after it. A session that is only lent to be read is looked at
 /// too.
@@ -28,11 +38,10 @@ fn ask(call: &Call, image: &[u8], lent: &[u8; SESSION]) -> (Answer, [u8; SESSION
 
 /// Each answer is the model's. A refusal leaves the session as it was; otherwise all bytes are as the
 /// model has them.
-#[test]
-fn the_library_agrees_with_the_model() {
+fn the_library_agrees_with_the_model(edition: Edition) {
     let mut tally = WalkTally::default();
     for seed in seeds(0..POLICIES) {
-        each_call(seed, CALLS_EACH, |step| {
+        each_call(edition, seed, CALLS_EACH, |step| {
             let (answer, session) = ask(&step.call, step.image, &step.lent);
             let (call, lent) = (&step.call, &step.lent);
             assert_eq!(answer, step.answer, "seed {seed}: {call:?} on {lent:?}");
@@ -42,7 +51,7 @@ fn the_library_agrees_with_the_model() {
     }
     println!("{tally:?}");
     if one_seed().is_none() {
-        tally.assert_varied(50);
+        tally.assert_varied(edition, 50);
     }
 }
 
@@ -58,15 +67,14 @@ fn calls_on_sessions() -> [Call; 4] {
 
 /// Whatever is broken, each call refuses the session before it looks at a text. READ and FULL change
 /// nothing about it.
-#[test]
-fn broken_sessions_are_refused() {
+fn broken_sessions_are_refused(edition: Edition) {
     let refused = Answer::Refused {
         number: 19,
         place: 0,
     };
     for seed in seeds(0..400) {
         let mut rng = Rng::new(seed);
-        let policy = policy(&mut rng);
+        let policy = policy(edition, &mut rng);
         let image = to_image(&policy);
         for user in policy.users.iter().take(4) {
             let mut opened = [rng.byte(); SESSION];
@@ -88,9 +96,8 @@ fn broken_sessions_are_refused() {
 }
 
 /// Every bit of MARA's session, turned, with every call.
-#[test]
-fn every_bit_of_a_session() {
-    let image = to_image(&sample());
+fn every_bit_of_a_session(edition: Edition) {
+    let image = to_image(&sample().in_edition(edition));
     let checked = model::accepted(&image);
     let mut opened = [0; SESSION];
     assert_eq!(ffi::open(&image, b"MARA", &mut opened), Answer::Done(0));
@@ -116,9 +123,8 @@ fn every_bit_of_a_session() {
 }
 
 /// Names, texts, sessions and images may begin anywhere.
-#[test]
-fn alignment_does_not_matter() {
-    let image = to_image(&sample());
+fn alignment_does_not_matter(edition: Edition) {
+    let image = to_image(&sample().in_edition(edition));
     for shift in 0..8 {
         let lent = [&vec![255; shift], image.as_slice()].concat();
         let name = [&b"########"[shift..], b"MARA"].concat();
@@ -143,9 +149,8 @@ fn alignment_does_not_matter() {
     }
 }
 
-#[test]
-fn vectors_of_sessions() {
-    for section in vectors::sessions() {
+fn vectors_of_sessions(edition: Edition) {
+    for section in vectors::sessions(edition) {
         assert_eq!(ffi::check(&section.image), Answer::Done(0));
         for case in &section.cases {
             case.run(|call, session| call.by_library(&section.image, session));

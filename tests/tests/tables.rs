@@ -2,9 +2,10 @@
 //!
 //! A wrong answer names its seed; `BRAWNESK_SEED=<seed> cargo test --release` compares that seed alone.
 
-use brawnesk_tests::builder::{sample, to_image};
+use brawnesk_tests::builder::{sample, to_image, Edition};
 use brawnesk_tests::compare::{one_seed, seeds};
 use brawnesk_tests::ffi::{self, Answer, SESSION};
+use brawnesk_tests::in_each_edition;
 use brawnesk_tests::model;
 use brawnesk_tests::rng::Rng;
 use brawnesk_tests::row_calls::{Lent, RowCall};
@@ -13,8 +14,19 @@ use brawnesk_tests::tables::{by_hand, each_row_call, row, RowTally};
 use brawnesk_tests::walk::{policy, spoil_unused, Break};
 use std::hint::black_box;
 
+/// In each edition.
 const POLICIES: u64 = 2_000;
 const CALLS_EACH: usize = 40;
+
+in_each_edition! {
+    the_library_agrees_with_the_model
+    answers_by_hand
+    broken_sessions_are_refused
+    every_bit_of_a_session
+    every_bit_of_a_tag
+    every_width
+    alignment_does_not_matter
+}
 
 /// Asks the library. The image, a payload and a mask have to stay as they are; what else is lent is
 /// looked at by the caller.
@@ -36,11 +48,10 @@ fn compare(image: &[u8], call: &RowCall, lent: &Lent, case: &str) -> Answer {
     answer
 }
 
-#[test]
-fn the_library_agrees_with_the_model() {
+fn the_library_agrees_with_the_model(edition: Edition) {
     let mut tally = RowTally::default();
     for seed in seeds(0..POLICIES) {
-        each_row_call(seed, CALLS_EACH, |step| {
+        each_row_call(edition, seed, CALLS_EACH, |step| {
             let call = &step.call;
             let mut given = step.lent.clone();
             let answer = ask(step.image, call, &mut given);
@@ -52,13 +63,12 @@ fn the_library_agrees_with_the_model() {
     }
     println!("{tally:?}");
     if one_seed().is_none() {
-        tally.assert_varied(50);
+        tally.assert_varied(edition, 50);
     }
 }
 
-#[test]
-fn answers_by_hand() {
-    by_hand::check(&ask);
+fn answers_by_hand(edition: Edition) {
+    by_hand::check(edition, &ask);
 }
 
 /// Each call with arguments that are wrong, but which 19 comes before.
@@ -79,15 +89,14 @@ fn wrong_calls() -> [RowCall; 3] {
 }
 
 /// Whatever is broken, each call refuses the session before it looks at the table.
-#[test]
-fn broken_sessions_are_refused() {
+fn broken_sessions_are_refused(edition: Edition) {
     let refused = Answer::Refused {
         number: 19,
         place: 0,
     };
     for seed in seeds(0..400) {
         let mut rng = Rng::new(seed);
-        let policy = policy(&mut rng);
+        let policy = policy(edition, &mut rng);
         let image = to_image(&policy);
         for user in policy.users.iter().take(4) {
             let mut session = [0; SESSION];
@@ -112,10 +121,10 @@ fn broken_sessions_are_refused() {
 }
 
 /// MARA's session, rows of these tags, and a buffer that holds them all.
-fn maras(tags: &[u32], width: usize) -> Lent {
+fn maras(image: &[u8], tags: &[u32], width: usize) -> Lent {
     let mut rng = Rng::new(width as u64);
     let mut session = [0; SESSION];
-    let opened = ffi::open(&to_image(&sample()), b"MARA", &mut session);
+    let opened = ffi::open(image, b"MARA", &mut session);
     assert_eq!(opened, Answer::Done(0));
     let table: Vec<u8> = tags
         .iter()
@@ -148,10 +157,9 @@ fn calls(width: usize, payload: usize) -> Vec<RowCall> {
 }
 
 /// Every bit of MARA's session, turned, with every call.
-#[test]
-fn every_bit_of_a_session() {
-    let image = to_image(&sample());
-    let lent = maras(&[20, 10, 30], 9);
+fn every_bit_of_a_session(edition: Edition) {
+    let image = to_image(&sample().in_edition(edition));
+    let lent = maras(&image, &[20, 10, 30], 9);
     for bit in 0..8 * SESSION {
         let mut lent = lent.clone();
         lent.session[bit / 8] ^= 1 << (bit % 8);
@@ -162,13 +170,12 @@ fn every_bit_of_a_session() {
 }
 
 /// Every bit of a known tag, turned: the tag is then unknown.
-#[test]
-fn every_bit_of_a_tag() {
-    let image = to_image(&sample());
+fn every_bit_of_a_tag(edition: Edition) {
+    let image = to_image(&sample().in_edition(edition));
     for tag in [10, 20, 30] {
         let turned = (0..32).map(|bit| tag ^ 1 << bit);
         let tags: Vec<u32> = turned.chain([tag]).collect();
-        let lent = maras(&tags, 5);
+        let lent = maras(&image, &tags, 5);
         let answer = compare(&image, &RowCall::Read { width: 5 }, &lent, "every bit");
         // 10 and 30 differ in two bits, and from 20 in more.
         let readable = u64::from(tag != 20);
@@ -185,11 +192,10 @@ fn every_bit_of_a_tag() {
 }
 
 /// Every width from 0 on, with a table that has whole rows of it and with one byte more or less.
-#[test]
-fn every_width() {
-    let image = to_image(&sample());
+fn every_width(edition: Edition) {
+    let image = to_image(&sample().in_edition(edition));
     for width in 0..=1_030 {
-        let whole = maras(&[30, 0, 10], width.max(5));
+        let whole = maras(&image, &[30, 0, 10], width.max(5));
         for length in [0, 3 * width, 3 * width + 1, (3 * width).saturating_sub(1)] {
             let mut lent = whole.clone();
             lent.table.resize(length, 0);
@@ -232,11 +238,11 @@ impl Shifted {
 }
 
 /// Images, sessions, tables, buffers, payloads and masks may begin anywhere.
-#[test]
-fn alignment_does_not_matter() {
-    let lent = maras(&[20, 10, 0, 30], 7);
+fn alignment_does_not_matter(edition: Edition) {
+    let whole = to_image(&sample().in_edition(edition));
+    let lent = maras(&whole, &[20, 10, 0, 30], 7);
     for shift in 0..8 {
-        let mut image = Shifted::new(shift, &to_image(&sample()));
+        let mut image = Shifted::new(shift, &whole);
         let mut session = Shifted::new(7 - shift, &lent.session);
         let mut table = Shifted::new(shift, &lent.table);
         let mut buffer = Shifted::new((shift + 3) % 8, &[0; 14]);

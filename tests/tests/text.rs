@@ -3,24 +3,42 @@
 //! A wrong answer names its seed; `BRAWNESK_SEED=<seed> cargo test --release` compares that seed
 //! alone.
 
-use brawnesk_tests::builder::{sample, to_image, Policy};
+use brawnesk_tests::builder::{sample, to_image, Edition, Policy};
 use brawnesk_tests::cases::Case;
 use brawnesk_tests::compare::{expected, one_seed, seeds, Tally};
 use brawnesk_tests::ffi::{self, Answer, LABEL};
+use brawnesk_tests::in_each_edition;
 use brawnesk_tests::model::{self, Label, Refusal};
 use brawnesk_tests::rng::Rng;
 use brawnesk_tests::texts;
 use brawnesk_tests::vectors::{self, Expected};
 use std::ops::Range;
 
+/// In each edition.
 const POLICIES: u64 = 2_500;
 const TEXTS_EACH: usize = 20;
 
+in_each_edition! {
+    texts_are_read_alike
+    labels_are_printed_alike
+    every_length_of_a_buffer
+    parse_of_print
+    lengths_of_texts
+    damaged_images
+    vectors_of_label_text
+    alignment_does_not_matter
+    every_byte
+}
+
 /// Shows the policy of each seed with its image, what else is random, and the seed by name.
-fn each_policy(all: Range<u64>, mut see: impl FnMut(&Policy, &[u8], &mut Rng, &str)) {
+fn each_policy(
+    edition: Edition,
+    all: Range<u64>,
+    mut see: impl FnMut(&Policy, &[u8], &mut Rng, &str),
+) {
     for seed in seeds(all) {
         let mut rng = Rng::new(seed);
-        let policy = texts::policy(&mut rng);
+        let policy = texts::policy(edition, &mut rng);
         let (image, case) = (to_image(&policy), format!("seed {seed}"));
         see(&policy, &image, &mut rng, &case);
     }
@@ -65,23 +83,32 @@ fn compare_print(image: &[u8], label: &[u8; LABEL], room: usize, case: &str) -> 
     answer
 }
 
-#[test]
-fn texts_are_read_alike() {
-    let mut tally = Tally::default();
-    each_policy(0..POLICIES, |policy, image, rng, case| {
+/// Texts of over 4,096 bytes are counted by themselves: in edition 1 all of them are refused, and in edition
+/// 2 many are read.
+fn texts_are_read_alike(edition: Edition) {
+    let [mut tally, mut long] = [Tally::default(), Tally::default()];
+    each_policy(edition, 0..POLICIES, |policy, image, rng, case| {
         for _ in 0..TEXTS_EACH {
             let text = texts::text(policy, rng);
-            tally.add(compare_parse(image, &text, rng.byte(), case));
+            let answer = compare_parse(image, &text, rng.byte(), case);
+            tally.add(answer);
+            if text.len() > 4_096 {
+                long.add(answer);
+            }
         }
     });
+    match edition {
+        Edition::One => assert_least(&long, &[(5, 1_500)]),
+        Edition::Two => assert_least(&long, &[(0, 100), (5, 1_500), (6, 500), (7, 250)]),
+    }
     assert_least(&tally, &[(0, 10_000), (5, 10_000), (6, 6_000), (7, 1_500)]);
 }
 
 /// Labels that the policy has and labels with a place that it lacks, in buffers of any length.
-#[test]
-fn labels_are_printed_alike() {
+fn labels_are_printed_alike(edition: Edition) {
+    let longest = edition.longest_text();
     let mut tally = Tally::default();
-    each_policy(0..POLICIES, |policy, image, rng, case| {
+    each_policy(edition, 0..POLICIES, |policy, image, rng, case| {
         for _ in 0..6 {
             let past = rng.once_in(3);
             let label = match past {
@@ -90,8 +117,8 @@ fn labels_are_printed_alike() {
             };
             let room = match rng.index(4) {
                 0 => rng.range(0, 60),
-                1 => rng.range(0, 4_096),
-                _ => 4_096,
+                1 => rng.range(0, longest),
+                _ => longest,
             };
             tally.add(compare_print(image, &label, room, case));
         }
@@ -101,10 +128,9 @@ fn labels_are_printed_alike() {
 
 /// Every length of a buffer from none to two more than is needed. A lacking component comes before
 /// a lack of room.
-#[test]
-fn every_length_of_a_buffer() {
+fn every_length_of_a_buffer(edition: Edition) {
     let mut tally = Tally::default();
-    each_policy(0..300, |policy, image, rng, case| {
+    each_policy(edition, 0..300, |policy, image, rng, case| {
         let label = texts::label(policy, rng);
         let needed = model::print(image, &Label::read(&label)).unwrap().len();
         if needed > 400 {
@@ -120,22 +146,46 @@ fn every_length_of_a_buffer() {
 }
 
 /// What the library prints it reads as the same label.
-#[test]
-fn parse_of_print() {
-    each_policy(0..POLICIES, |policy, image, rng, case| {
+fn parse_of_print(edition: Edition) {
+    each_policy(edition, 0..POLICIES, |policy, image, rng, case| {
         let label = texts::label(policy, rng);
         assert_reads_back(image, &Label::read(&label).to_bytes(), case);
     });
+    let (end, length) = match edition {
+        Edition::One => (24, 3_998),
+        Edition::Two => (48, 9_950),
+    };
     let mut whole = [255; LABEL];
     whole[..8].copy_from_slice(&[0, 0, 0, 0, 31, 0, 0, 0]);
-    whole[24..].fill(0);
-    let image = to_image(&texts::longest_names());
-    assert_eq!(assert_reads_back(&image, &whole, "the longest"), 3_998);
+    whole[end..].fill(0);
+    let image = to_image(&texts::longest_names(edition));
+    assert_eq!(assert_reads_back(&image, &whole, "the longest"), length);
+}
+
+/// Texts around the longest that each edition allows: of one name, which is unknown, and of a bad byte
+/// at the end.
+fn lengths_of_texts(edition: Edition) {
+    let image = to_image(&sample().in_edition(edition));
+    let mut tally = Tally::default();
+    for longest in [4_096, 10_000] {
+        for length in longest - 2..=longest + 2 {
+            let mut text = b"CREW:".to_vec();
+            text.resize(length, b'A');
+            tally.add(compare_parse(&image, &text, 0xa5, "one name"));
+            text[length - 1] = b',';
+            tally.add(compare_parse(&image, &text, 0xa5, "no name"));
+        }
+    }
+    let unknown = match edition {
+        Edition::One => 3,
+        Edition::Two => 8,
+    };
+    tally.assert_least(&[(6, unknown), (5, 20 - unknown)]);
 }
 
 /// Gives the length of the text.
 fn assert_reads_back(image: &[u8], label: &[u8; LABEL], case: &str) -> usize {
-    let mut out = [0; 4_096];
+    let mut out = [0; 10_000];
     let Answer::Done(length) = ffi::print(image, label, &mut out) else {
         panic!("{case}: print of {label:?} is refused");
     };
@@ -152,14 +202,13 @@ fn assert_reads_back(image: &[u8], label: &[u8; LABEL], case: &str) -> usize {
 
 /// An image that is refused is refused by both calls as by `brawnesk_check`, whatever the text, the
 /// label and the buffer.
-#[test]
-fn damaged_images() {
+fn damaged_images(edition: Edition) {
     let mut tally = Tally::default();
-    for seed in seeds(0..10_000) {
+    for seed in seeds(0..11_000) {
         let case = format!("seed {seed}");
-        let image = Case::new(seed).image;
+        let image = Case::new(edition, seed).image;
         let mut rng = Rng::new(!seed);
-        let policy = texts::policy(&mut rng);
+        let policy = texts::policy(edition, &mut rng);
         let text = texts::text(&policy, &mut rng);
         let parsed = compare_parse(&image, &text, rng.byte(), &case);
         let label = texts::label_past(&policy, &mut rng);
@@ -175,9 +224,8 @@ fn damaged_images() {
     assert_least(&tally, &numbers.map(|number| (number, 500)));
 }
 
-#[test]
-fn vectors_of_label_text() {
-    for vector in vectors::label_text() {
+fn vectors_of_label_text(edition: Edition) {
+    for vector in vectors::label_text(edition) {
         let image = to_image(&vector.policy);
         let mut label = [0; LABEL];
         let answer = ffi::parse(&image, vector.text.as_bytes(), &mut label);
@@ -195,9 +243,8 @@ fn vectors_of_label_text() {
 }
 
 /// A slice may begin anywhere.
-#[test]
-fn alignment_does_not_matter() {
-    let image = to_image(&sample());
+fn alignment_does_not_matter(edition: Edition) {
+    let image = to_image(&sample().in_edition(edition));
     for shift in 0..8 {
         let lent = [&vec![255; shift], image.as_slice()].concat();
         for text in ["CREW:KILN:DOCK,SOUTH", "CREW:KILN:DOCK,DOCK"] {
@@ -222,9 +269,8 @@ fn alignment_does_not_matter() {
 }
 
 /// Each byte at each of some offsets of a text, and each byte of a label that is not looked at.
-#[test]
-fn every_byte() {
-    let image = to_image(&sample());
+fn every_byte(edition: Edition) {
+    let image = to_image(&sample().in_edition(edition));
     for at in [0, 2, 4, 7, 9, 12, 14, 15] {
         for byte in 0..=255 {
             let mut text = b"CREW:KILN:DOCK".to_vec();

@@ -2,25 +2,36 @@
 //!
 //! A wrong answer names its seed; `BRAWNESK_SEED=<seed> cargo test --release` compares that seed alone.
 
-use brawnesk_tests::builder::{random, sample, to_image, Sizes};
+use brawnesk_tests::builder::{random, sample, to_image, Edition, Sizes};
 use brawnesk_tests::calls::{Pair, PairCall};
 use brawnesk_tests::compare::{one_seed, seeds, CallTally, Checked};
 use brawnesk_tests::ffi::{self, Answer, LABEL};
+use brawnesk_tests::in_each_edition;
 use brawnesk_tests::pairs::{by_hand, each_pair, each_record, merges, pair, triples};
 use brawnesk_tests::pairs::{Held, PairTally, Program, ReadingTally};
 use brawnesk_tests::rng::Rng;
 use brawnesk_tests::vectors;
 use std::hint::black_box;
 
-/// Dominance.
+/// Dominance, in each edition.
 const POLICIES: u64 = 1_500;
 const PAIRS_EACH: usize = 40;
 
 /// Merging.
 const MERGED_PAIRS: u64 = 4_000;
 
-/// Dominance beside reading.
+/// Dominance beside reading, in each edition.
 const POLICIES_READ: u64 = 400;
+
+in_each_edition! {
+    the_library_agrees_with_the_model
+    a_session_without_privileges_reads_what_its_label_dominates
+    privileges_read_what_is_not_dominated
+    answers_by_hand
+    every_bit_of_two_labels
+    alignment_does_not_matter
+    vectors_of_two_labels
+}
 
 /// Asks the library. The image, the labels and the letters have to stay as they are.
 fn ask(call: &PairCall, image: &[u8], pair: &Pair, out: &mut [u8; LABEL]) -> Answer {
@@ -44,11 +55,10 @@ fn compare(call: &PairCall, lent: &Checked, pair: &Pair, fill: u8, case: &str) -
 }
 
 /// Dominance, strictly and not: pairs of labels under accepted and damaged images.
-#[test]
-fn the_library_agrees_with_the_model() {
+fn the_library_agrees_with_the_model(edition: Edition) {
     let mut tally = PairTally::default();
     for seed in seeds(0..POLICIES) {
-        each_pair(seed, PAIRS_EACH, |step| {
+        each_pair(edition, seed, PAIRS_EACH, |step| {
             let (call, pair) = (&step.call, &step.pair);
             let answer = ask(call, step.image, pair, &mut [0; LABEL]);
             assert_eq!(answer, step.answer, "seed {seed}: {call:?} of {pair:?}");
@@ -57,17 +67,17 @@ fn the_library_agrees_with_the_model() {
     }
     println!("{tally:?}");
     if one_seed().is_none() {
-        tally.assert_varied(40_000, 50);
+        tally.assert_varied(edition, 40_000, 50);
     }
 }
 
 /// By request R-3: a session without READ, FULL and COMPACCESS reads a row with a known tag exactly
 /// if its label dominates the row's.
-#[test]
-fn a_session_without_privileges_reads_what_its_label_dominates() {
+fn a_session_without_privileges_reads_what_its_label_dominates(edition: Edition) {
     let mut tally = ReadingTally::default();
     for seed in seeds(0..POLICIES_READ) {
-        each_record(seed, Held::Nothing, Program::Library, |it| {
+        let case = (edition, seed);
+        each_record(case, Held::Nothing, Program::Library, |it| {
             assert_eq!(it.reads, it.dominates, "seed {seed}: {it:?}");
             tally.add(it);
         });
@@ -80,12 +90,11 @@ fn a_session_without_privileges_reads_what_its_label_dominates() {
 
 /// Privileges only add: what is dominated is read. And they do add: with COMPACCESS, and with READ or
 /// FULL, rows are read that are not dominated, so that the request's "no privileges" is needed.
-#[test]
-fn privileges_read_what_is_not_dominated() {
+fn privileges_read_what_is_not_dominated(edition: Edition) {
     for held in [Held::CompAccess, Held::ReadOrFull] {
         let mut tally = ReadingTally::default();
         for seed in seeds(0..POLICIES_READ / 2) {
-            each_record(seed, held, Program::Library, |it| {
+            each_record((edition, seed), held, Program::Library, |it| {
                 assert!(it.reads || !it.dominates, "seed {seed}: {held:?}, {it:?}");
                 tally.add(it);
             });
@@ -99,9 +108,10 @@ fn privileges_read_what_is_not_dominated() {
     }
 }
 
-#[test]
-fn answers_by_hand() {
-    by_hand::check(&|image, call, pair| ask(call, image, pair, &mut [0; LABEL]));
+fn answers_by_hand(edition: Edition) {
+    by_hand::check(edition, &|image, call, pair| {
+        ask(call, image, pair, &mut [0; LABEL])
+    });
 }
 
 #[test]
@@ -156,14 +166,16 @@ fn every_letter() {
 
 /// Every bit of two labels by itself: what is looked at, and what is not. In the sample few bits name
 /// something; the other policy has all levels, compartments and groups that there can be.
-#[test]
-fn every_bit_of_two_labels() {
+fn every_bit_of_two_labels(edition: Edition) {
     let sizes = Sizes {
         users: 0,
         labels: 0,
-        ..Sizes::FULL
+        ..Sizes::full(edition)
     };
-    let policies = [sample(), random(sizes, &mut Rng::new(5))];
+    let policies = [
+        sample().in_edition(edition),
+        random(sizes, &mut Rng::new(5)),
+    ];
     let images = policies.map(|policy| to_image(&policy));
     let images = images.each_ref().map(|image| Checked::new(image));
     let no_image = Checked::new(&[]);
@@ -185,9 +197,8 @@ fn every_bit_of_two_labels() {
 }
 
 /// Images and labels may begin anywhere, and both labels may be the same bytes.
-#[test]
-fn alignment_does_not_matter() {
-    let image = to_image(&sample());
+fn alignment_does_not_matter(edition: Edition) {
+    let image = to_image(&sample().in_edition(edition));
     let [mut north, mut dock] = [[0; LABEL]; 2];
     north[16] = 1 << 1;
     dock[16] = 1 << 2;
@@ -208,9 +219,8 @@ fn alignment_does_not_matter() {
     }
 }
 
-#[test]
-fn vectors_of_two_labels() {
-    for case in vectors::two_labels() {
+fn vectors_of_two_labels(edition: Edition) {
+    for case in vectors::two_labels(edition) {
         case.run(ask);
     }
 }

@@ -156,9 +156,8 @@ pub fn merge(
     letters: &[u8],
     label: &mut [u8; LABEL],
 ) -> Answer {
-    let [first, second] = [first, second].map(Label::read_low);
-    expected(two_labels::merge(&first, &second, letters).map(|merged| {
-        *label = merged.to_bytes();
+    expected(two_labels::merge(first, second, letters).map(|merged| {
+        *label = merged;
         0
     }))
 }

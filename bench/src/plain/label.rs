@@ -12,7 +12,7 @@ pub struct Label {
 }
 
 impl Label {
-    /// The label of a label record.
+    /// The label of a label record. A label by itself stands at the same bytes.
     pub fn of_record(record: &[u8]) -> Label {
         Label {
             level: record[4],
@@ -21,18 +21,9 @@ impl Label {
         }
     }
 
-    /// Groups past the first 64 are not looked at.
-    pub fn read_low(bytes: &[u8; LABEL]) -> Label {
-        Label {
-            level: bytes[4],
-            compartments: set_at(bytes, 8),
-            groups: set_at(bytes, 16),
-        }
-    }
-
     /// Nothing where a group past the first 64 is named.
     pub fn read(bytes: &[u8; LABEL]) -> Option<Label> {
-        all_zero(&bytes[24..]).then(|| Label::read_low(bytes))
+        all_zero(&bytes[24..]).then(|| Label::of_record(bytes))
     }
 
     pub fn to_bytes(self) -> [u8; LABEL] {

@@ -1,7 +1,7 @@
 //! The plain calls against the model.
 
 use super::*;
-use brawnesk_tests::builder::to_image;
+use brawnesk_tests::builder::{to_image, Edition};
 use brawnesk_tests::calls::{Call, PairCall};
 use brawnesk_tests::cases::Case;
 use brawnesk_tests::compare::expected;
@@ -10,19 +10,34 @@ use brawnesk_tests::rng::Rng;
 use brawnesk_tests::row_calls::RowCall;
 use brawnesk_tests::{model, pairs, tables, texts, walk};
 
+/// Some damaged images of edition 1 bear the number of edition 2, which the plain version doesn't know:
+/// it refuses the header, and the model goes on to the records.
+fn is_known(image: &[u8]) -> bool {
+    image.get(4) != Some(&Edition::Two.number())
+}
+
 #[test]
 fn checks() {
+    let mut unknown = 0;
     for seed in 0..8_000 {
-        let Case { kind, image, .. } = Case::new(seed);
+        let Case { kind, image, .. } = Case::new(Edition::One, seed);
+        if !is_known(&image) {
+            unknown += 1;
+            continue;
+        }
         let answer = check(&image);
         assert_eq!(answer, model::check(&image), "{kind:?}, seed {seed}");
     }
+    assert!(unknown < 400, "{unknown}");
 }
 
 #[test]
 fn names() {
     for seed in 0..400 {
-        let image = Case::new(seed).image;
+        let image = Case::new(Edition::One, seed).image;
+        if !is_known(&image) {
+            continue;
+        }
         let mut rng = Rng::new(!seed);
         for _ in 0..4 {
             let (class, place) = (rng.range(0, 4) as u8, rng.range(0, 12) as u8);
@@ -38,7 +53,7 @@ fn names() {
 fn texts_both_ways() {
     for seed in 0..500 {
         let mut rng = Rng::new(seed);
-        let policy = texts::policy(&mut rng);
+        let policy = texts::policy(Edition::One, &mut rng);
         let image = to_image(&policy);
         for _ in 0..10 {
             parse_agrees(&image, &texts::text(&policy, &mut rng), seed);
@@ -75,7 +90,10 @@ fn print_agrees(image: &[u8], label: &[u8; LABEL], room: usize, seed: u64) {
 #[test]
 fn sessions_and_verdicts() {
     for seed in 0..1_000 {
-        walk::each_call(seed, 100, |step| {
+        walk::each_call(Edition::One, seed, 100, |step| {
+            if !is_known(step.image) {
+                return;
+            }
             let mut session = step.lent;
             let answer = match &step.call {
                 Call::Open(name) => calls::open(step.image, name, &mut session),
@@ -94,7 +112,10 @@ fn sessions_and_verdicts() {
 #[test]
 fn rows() {
     for seed in 0..500 {
-        tables::each_row_call(seed, 40, |step| {
+        tables::each_row_call(Edition::One, seed, 40, |step| {
+            if !is_known(step.image) {
+                return;
+            }
             let (image, call, mut lent) = (step.image, &step.call, step.lent.clone());
             let (session, table) = (&lent.session, &mut lent.table);
             let answer = match call {
@@ -121,8 +142,8 @@ fn rows() {
 #[test]
 fn dominance() {
     for seed in 0..500 {
-        pairs::each_pair(seed, 40, |step| {
-            if step.call == PairCall::Dominates {
+        pairs::each_pair(Edition::One, seed, 40, |step| {
+            if step.call == PairCall::Dominates && is_known(step.image) {
                 let (image, [first, second]) = (step.image, &step.pair);
                 let answer = calls::dominates(image, first, second);
                 assert_eq!(answer, step.answer, "seed {seed}: {first:?}, {second:?}");

@@ -3,7 +3,10 @@
 use super::groups::Ancestors;
 use super::label::Label;
 use super::policy::Policy;
+use super::records::set_at;
+use brawnesk_tests::ffi::LABEL;
 use brawnesk_tests::model::Refusal;
+use std::array::from_fn;
 
 /// Of two labels, each of which is nothing where it names a group past the first 64. The table of
 /// ancestors is read only where level and compartments suffice and the labels share no group.
@@ -22,28 +25,46 @@ pub fn dominates(policy: &Policy, labels: [Option<Label>; 2]) -> Result<bool, Re
     Ok(ancestors.meets_below(second.groups, first.groups, first.groups))
 }
 
-pub fn merge(first: &Label, second: &Label, letters: &[u8]) -> Result<Label, Refusal> {
+/// Merging is lent no image, so it takes the groups of either edition.
+pub fn merge(
+    first: &[u8; LABEL],
+    second: &[u8; LABEL],
+    letters: &[u8],
+) -> Result<[u8; LABEL], Refusal> {
     let &[level, compartments, groups] = letters else {
         return Err(Refusal::Letters);
     };
     let level = match level {
-        b'H' => first.level.max(second.level),
-        b'L' => first.level.min(second.level),
+        b'H' => first[4].max(second[4]),
+        b'L' => first[4].min(second[4]),
         _ => return Err(Refusal::Letters),
     };
-    Ok(Label {
-        level,
-        compartments: merge_sets(compartments, first.compartments, second.compartments)?,
-        groups: merge_sets(groups, first.groups, second.groups)?,
-    })
+    let [compartments]: [u64; 1] = merge_sets(compartments, words(first, 8), words(second, 8))?;
+    let groups: [u64; 4] = merge_sets(groups, words(first, 16), words(second, 16))?;
+    let mut merged = [0; LABEL];
+    merged[4] = level;
+    merged[8..16].copy_from_slice(&compartments.to_le_bytes());
+    for (place, word) in merged[16..].chunks_exact_mut(8).zip(groups) {
+        place.copy_from_slice(&word.to_le_bytes());
+    }
+    Ok(merged)
 }
 
-fn merge_sets(letter: u8, first: u64, second: u64) -> Result<u64, Refusal> {
+/// A set of so many words.
+fn words<const COUNT: usize>(label: &[u8; LABEL], at: usize) -> [u64; COUNT] {
+    from_fn(|word| set_at(label, at + 8 * word))
+}
+
+fn merge_sets<const COUNT: usize>(
+    letter: u8,
+    first: [u64; COUNT],
+    second: [u64; COUNT],
+) -> Result<[u64; COUNT], Refusal> {
     match letter {
-        b'U' => Ok(first | second),
-        b'I' => Ok(first & second),
-        b'M' => Ok(first & !second),
-        b'N' => Ok(0),
+        b'U' => Ok(from_fn(|word| first[word] | second[word])),
+        b'I' => Ok(from_fn(|word| first[word] & second[word])),
+        b'M' => Ok(from_fn(|word| first[word] & !second[word])),
+        b'N' => Ok([0; COUNT]),
         _ => Err(Refusal::Letters),
     }
 }

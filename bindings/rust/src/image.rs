@@ -1,7 +1,11 @@
-//! A policy image: its check, its names, label text both ways, and opening a session.
+//! A policy image: its check, its names, label text both ways, opening a session, and the move up.
 
 use crate::raw;
 use crate::{decode, Label, Refusal, Session, LABEL, SESSION};
+
+/// The longest text of a label that is read under an image of edition 2; under edition 1 it is 4,096. A
+/// text that is printed is shorter: a buffer of that length is always enough.
+pub const TEXT: usize = 10_000;
 
 /// The bytes of a policy image, borrowed. They need not have been checked: each call checks them.
 #[derive(Clone, Copy, Debug, PartialEq, Eq)]
@@ -60,8 +64,8 @@ impl<'a> Image<'a> {
         Ok(())
     }
 
-    /// The name of the component of that class and place, counted from 0 in its class: the part of
-    /// the image that holds it. Refusals: 1, 2, 31 to 35, 18 no such component.
+    /// The name of the component of that class and place, counted from 0 in its class, for groups up
+    /// to 255: the part of the image that holds it. Refusals: 1, 2, 31 to 35, 18 no such component.
     ///
     /// ```
     /// # use brawnesk::{Class, Image, Refusal};
@@ -99,16 +103,16 @@ impl<'a> Image<'a> {
         Ok(Label(label))
     }
 
-    /// A label's text, at the front of the buffer; later bytes stay. 4,096 bytes are always enough.
+    /// A label's text, at the front of the buffer; later bytes stay. [`TEXT`] bytes are always enough.
     /// Refusals: 1, 2, 31 to 35, 18 the policy lacks what the label names, 13 the text is longer than
     /// the buffer.
     ///
     /// ```
-    /// # use brawnesk::{Image, Refusal};
+    /// # use brawnesk::{Image, Refusal, TEXT};
     /// # let bytes = std::fs::read("../../sample/cooperative.img")?;
     /// let image = Image::new(&bytes);
     /// let label = image.parse("VAULT:GLAZE,KILN")?;
-    /// assert_eq!(image.print(label, &mut [0; 4096]), Ok("VAULT:KILN,GLAZE"));
+    /// assert_eq!(image.print(label, &mut [0; TEXT]), Ok("VAULT:KILN,GLAZE"));
     /// assert_eq!(image.print(label, &mut [0; 15]), Err(Refusal::Room));
     /// # Ok::<(), Box<dyn std::error::Error>>(())
     /// ```
@@ -145,6 +149,31 @@ impl<'a> Image<'a> {
             )
         })?;
         Ok(Session(session))
+    }
+
+    /// Lays an image of edition 1 out in the layouts of edition 2, at the front of the buffer, and gives
+    /// its length, at most 56,832; later bytes stay. The new image is accepted and has the same
+    /// components, labels and users, each at the same place. Sessions and labels go on under it, and
+    /// their verdicts on tags that labels carry are the same. Refusals: 1, 2, 31 an image of edition 2,
+    /// 31 to 35, 37 over 800 labels or 32 users, 13 the new image is longer than the buffer.
+    ///
+    /// ```
+    /// # use brawnesk::{Image, Refusal};
+    /// # let bytes = std::fs::read("../../sample/cooperative.img")?;
+    /// let image = Image::new(&bytes);
+    /// let session = image.open("MARA")?;
+    /// let mut buffer = [0; 56_832];
+    /// let length = image.move_up(&mut buffer)?;
+    /// let moved = Image::new(&buffer[..length]);
+    /// assert_eq!(moved.open("MARA")?, session);
+    /// assert_eq!(session.may_read(moved, 30), session.may_read(image, 30));
+    /// assert_eq!(moved.move_up(&mut [0; 56_832]), Err(Refusal::ImageLayout));
+    /// # Ok::<(), Box<dyn std::error::Error>>(())
+    /// ```
+    pub fn move_up(self, out: &mut [u8]) -> Result<usize, Refusal> {
+        let ((image, length), room) = (self.lent(), out.len());
+        let answer = unsafe { raw::brawnesk_move_up(image, length, out.as_mut_ptr(), room) };
+        Ok(decode(answer)? as usize)
     }
 }
 

@@ -8,11 +8,11 @@ pub const LABEL: usize = 48;
 
 /// A label in its bytes: byte 4 the level's place; 8..15 the compartments and 16..47 the groups, as
 /// little-endian sets with bit p for place p. The other bytes are written as zero and not looked at.
-/// A policy has at most 64 groups: a bit that is set in bytes 24 to 47 names a group that no policy has.
-/// Merging alone does not look at groups past the 64th, bytes 24 to 47 of a label, and writes these
-/// bytes as zero.
+/// All 256 places of the groups count, whatever the edition: a group that the policy lacks is refused,
+/// 18 or inside a session 19, and merging, which is lent no image, loses none.
 ///
-/// Places are those of one image. Labels of two images cannot be compared.
+/// Places are those of one image, and of that image moved up. Labels of two other images cannot be
+/// compared.
 #[derive(Clone, Copy, Debug, PartialEq, Eq)]
 pub struct Label(pub [u8; LABEL]);
 

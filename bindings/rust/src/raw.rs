@@ -114,4 +114,10 @@ extern "C" {
         letters_length: usize,
         merged: *mut u8,
     ) -> u64;
+    pub fn brawnesk_move_up(
+        image: *const u8,
+        image_length: usize,
+        out: *mut u8,
+        out_length: usize,
+    ) -> u64;
 }

@@ -85,6 +85,8 @@ pub enum Refusal {
     },
     /// 35: the parents of a group never end; the lowest such group's place.
     ParentRing(u32),
+    /// 37: the image to be moved up has over 800 labels or 32 users.
+    MoveLimits,
     /// A number that this crate does not know: it was made for another version of the library.
     /// [`Refusal::new`] and [`decode`] give it for no number above.
     Unknown {
@@ -124,6 +126,7 @@ impl Refusal {
             33 => Refusal::LabelRecord { block, record },
             34 => Refusal::UserRecord { block, record },
             35 => Refusal::ParentRing(place),
+            37 => Refusal::MoveLimits,
             _ => Refusal::Unknown { number, place },
         }
     }
@@ -227,6 +230,10 @@ impl Refusal {
             Refusal::ParentRing(_) => (
                 35,
                 "the group's parents never end: they come back to a group that they passed",
+            ),
+            Refusal::MoveLimits => (
+                37,
+                "the image has over 800 labels or 32 users, more than an image of edition 2 holds",
             ),
             Refusal::Unknown { number, .. } => {
                 (number, "a refusal that this program does not know")

@@ -9,7 +9,8 @@ pub const SESSION: usize = 104;
 /// A session in its bytes: byte 0 the user's place, byte 1 the same again; 8..55 the session label,
 /// 56..103 the row label. Bytes 2..7 are written as zero and not looked at.
 ///
-/// [`Image::open`] gives one. It is for that image only: under another one open it anew.
+/// [`Image::open`] gives one. It is for that image, and goes on under that image moved up: under another
+/// one open it anew.
 #[derive(Clone, Debug, PartialEq, Eq)]
 pub struct Session(pub [u8; SESSION]);
 
@@ -102,6 +103,10 @@ impl Session {
 
     /// May the session read a row of that tag? Refusals: 1, 2, 31 to 35, 19.
     ///
+    /// A tag that no label carries, as 0, is denied to every session under edition 2; under edition 1 a
+    /// user with READ may read it, one with FULL may read and write it, and any other may do neither.
+    /// Row calls judge rows by the same rule.
+    ///
     /// ```
     /// # use brawnesk::{Image, Verdict};
     /// # let bytes = std::fs::read("../../sample/cooperative.img")?;
@@ -116,7 +121,8 @@ impl Session {
         Ok(Verdict::of(decode(answer)?))
     }
 
-    /// May the session write a row of that tag? Refusals: 1, 2, 31 to 35, 19.
+    /// May the session write a row of that tag? Refusals: 1, 2, 31 to 35, 19. A tag that no label
+    /// carries is judged as [`Session::may_read`] says.
     ///
     /// ```
     /// # use brawnesk::{Image, Verdict};

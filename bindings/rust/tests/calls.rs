@@ -48,6 +48,7 @@ fn every_call_checks_the_image() {
         assert_eq!(session.may_write(image, 10), Err(refusal));
         assert_eq!(label.dominates(image, lacking), Err(refusal));
         assert_eq!(label.strictly_dominates(image, lacking), Err(refusal));
+        assert_eq!(image.move_up(&mut []), Err(refusal));
     }
     assert_eq!(session, mara(Image::new(&bytes)));
 }

@@ -2,6 +2,7 @@
 //! the same arguments in the same order, by name and by type. bindings/check.sh compares the names with
 //! those that the archive exports.
 
+use brawnesk::{LABEL, SESSION, TEXT};
 use std::collections::BTreeMap;
 
 /// An argument: its name, and its type as C has it.
@@ -96,6 +97,16 @@ fn the_header_declares_the_functions_as_they_are() {
     let header = declared(&header, "\nuint64_t", ";", c_argument);
     assert!(header.contains_key("check"));
     assert_eq!(header, exported());
+}
+
+/// The header's lengths of a label, a session and a text.
+#[test]
+fn the_header_has_the_same_lengths() {
+    let header = source("../../include/brawnesk.h");
+    for (name, length) in [("LABEL", LABEL), ("SESSION", SESSION), ("TEXT", TEXT)] {
+        let line = format!("\nenum {{ BRAWNESK_{name} = {length} }};\n");
+        assert!(header.contains(&line), "{name}");
+    }
 }
 
 #[test]

@@ -12,7 +12,7 @@ fn refused(number: u32, place: u32) -> u64 {
 const PLACE: u32 = 3 * 65_536 + 2;
 
 /// Each number, its refusal for that place, and the begin of its line.
-const TABLE: [(u32, Refusal, &str); 23] = [
+const TABLE: [(u32, Refusal, &str); 24] = [
     (1, Refusal::ImageLength, "refused 1"),
     (2, Refusal::BlockCheck(PLACE), "refused 2 at block 196610"),
     (4, Refusal::NoUser, "refused 4"),
@@ -61,6 +61,7 @@ const TABLE: [(u32, Refusal, &str); 23] = [
         "refused 34 at block 3 record 2",
     ),
     (35, Refusal::ParentRing(PLACE), "refused 35 at group 196610"),
+    (37, Refusal::MoveLimits, "refused 37"),
 ];
 
 #[test]
@@ -89,6 +90,12 @@ fn whole_lines() {
             2,
             "refused 35 at group 2: the group's parents never end: they come back to a group that \
              they passed",
+        ),
+        (
+            37,
+            0,
+            "refused 37: the image has over 800 labels or 32 users, more than an image of edition 2 \
+             holds",
         ),
         (
             99,

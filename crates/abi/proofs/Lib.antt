@@ -2,10 +2,10 @@
 --     Places      the place that a refusal tells fits its 32 bits: sessions, prints, merges
 --     RowPlaces   and tables; a count of rows is below 2 ^ 63
 --     Widths      a session that keeps its rules fits its bytes
---     Unfit       bytes that no image of edition 1 has a label or a session for
+--     Refusing    what a call on a refused session answers
 --     InBytes     a call on a session in bytes is the call on that session
 pub mod Places
 pub mod RowPlaces
 pub mod Widths
-pub mod Unfit
+pub mod Refusing
 pub mod InBytes

@@ -7,7 +7,7 @@ use native.Mathlib.Omega.{arith}
 use lib.Dec.{leb, ltb}
 use lib.ListN.{length}
 use Rattle.refusals.specs.declared.Refusal.{Refusal}
-use Rattle.refusals.specs.declared.Refusal.the-variants.{NoUser, MergeLetters, SessionRules, Room, NoComponent}
+use Rattle.refusals.specs.declared.Refusal.the-variants.{NoUser, MergeLetters, SessionRules, Room, NoComponent, ImageLayout, MoveLimits}
 use Rattle.refusals.specs.declared.Refusal.the-variants.{LevelNotAllowed, CompartmentsNotAllowed, GroupsNotAllowed, RowLabelOutside}
 use Rattle.refusals.specs.declared.answers.Checked.{Checked}
 use Rattle.refusals.specs.declared.answers.Checked.the-variants.{Accepted, Refused}
@@ -36,7 +36,12 @@ use Rattle.sessions.specs.Session.{SessionMarks, lentAnswer, sessionRights}
 use Rattle.sessions.specs.Opening.{Opening, session, refused, defaultSession, openAccepted, openOf}
 use Rattle.sessions.specs.Changes.{changeIf, changeTo, afterLent, withLabel, withRowLabel, labelChange, rowLabelChange, setLabelOf, setRowLabelOf}
 use Rattle.sessions.specs.Asking.{mayReadOf, mayWriteOf}
+use Rattle.moves.specs.declared.answers.Moved.{Moved}
+use Rattle.moves.specs.declared.answers.Moved.the-variants as moved
+use Rattle.moves.specs.Moved.{movedUp}
+use Rattle.moves.specs.Moving.{framedTwo, oldCheckOf, moveLimitsRule, unmoved, moveUpOf}
 use Rattle.abi.specs.Labels.{printedGiven}
+use Rattle.abi.specs.Moves.{movedGiven}
 use Rattle.abi.specs.Sessions.{openedGiven}
 use Rattle.abi.specs.TwoLabels.{mergedGiven}
 
@@ -200,3 +205,21 @@ merge-fits a b letters r e = subst (λ (m : Merging). PlaceFits (mergedGiven m))
     at : (t : Bool) → PlaceFits (mergedGiven (cond t (two.label (mergedLabel a b letters)) (two.refused MergeLetters)))
     at true = omega arith
     at false = omega arith
+
+-- ---- moves
+pub move-fits : (im buffer : List ℕ) → PlaceFits (movedGiven (moveUpOf im buffer .0))
+unfolding moveUpOf oldCheckOf
+move-fits im buffer = at (framedTwo im) (checkOf im) refl (moveLimitsRule im) (leb (length (movedUp im)) (length buffer))
+  where
+    taken : (s t : Bool) → PlaceFits (movedGiven (cond {A = Moved × List ℕ} s
+        (cond t (moved.Done (length (movedUp im)), atFront (movedUp im) buffer) (moved.Refused Room, buffer)) (moved.Refused MoveLimits, buffer) .0))
+    taken true true = omega arith
+    taken true false = omega arith
+    taken false t = omega arith
+
+    at : (f : Bool) (c : Checked) → checkOf im ≡ c → (s t : Bool)
+        → PlaceFits (movedGiven (onChecked {A = Moved × List ℕ} (cond f (Refused ImageLayout) c) (unmoved buffer)
+        (cond s (cond t (moved.Done (length (movedUp im)), atFront (movedUp im) buffer) (moved.Refused Room, buffer)) (moved.Refused MoveLimits, buffer)) .0))
+    at true c e s t = omega arith
+    at false Accepted e s t = taken s t
+    at false (Refused r) e s t = image-fits im r e

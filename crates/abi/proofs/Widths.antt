@@ -1,12 +1,14 @@
--- The labels of an accepted session fit their bytes: they name only what exists, and an image has at most 64 compartments and 64 groups.
+-- The labels of an accepted session fit their bytes: they name only what exists, and an image has at most 64 compartments and 256 groups.
 -- Assumes nothing.
-use Prim.Native.Nat.{ℕ, _^_, _<_}
+use Prim.Native.Nat.{ℕ}
 use mathlib.Core.Path.{_≡_}
 use mathlib.Core.Bool.{true}
 use mathlib.Core.List.{List}
 use lib.Pow.{pow-mono}
+use native.Mathlib.Nat.{lt-of-lt-of-le}
 use native.Mathlib.Omega.{arith}
 use Rattle.header.specs.Layout.{compartments, groups}
+use Rattle.header.proofs.Editions.{counted-groups, counted-users}
 use Rattle.refusals.specs.declared.answers.Checked.the-variants.{Accepted}
 use Rattle.image.specs.Check.{IsAccepted}
 use Rattle.image.proofs.Accepted.{accepted-counted}
@@ -24,11 +26,10 @@ label-fits im acc m e =
     let k = exists-means im m e in
     let n = accepted-counted im acc in
     let c = pow-mono (n .compartmentsLimit) in
-    let g = pow-mono (n .groupsLimit) in
     record {
       level = omega (arith, k .level, n .levelsLimit);
       compartments = omega (arith, k .compartments, c);
-      groups = omega (arith, k .groups, g);
+      groups = lt-of-lt-of-le (k .groups) (pow-mono (counted-groups im n));
     }
 
 pub lent-widths : (im : List ℕ) (s : SessionMarks) → lentAnswer im s ≡ Accepted → SessionPartsFit s
@@ -36,7 +37,7 @@ lent-widths im s e =
     let acc = lent-accepted im s e in
     let x = session-labels-exist im s e in
     record {
-      user = omega (arith, lent-user im s e, accepted-counted im acc .usersLimit);
+      user = omega (arith, lent-user im s e, counted-users im (accepted-counted im acc));
       label = label-fits im acc (s .label) (x .0);
       row = label-fits im acc (s .row) (x .1);
     }

@@ -4,3 +4,4 @@ pub mod Labels
 pub mod Sessions
 pub mod Tables
 pub mod TwoLabels
+pub mod Moves

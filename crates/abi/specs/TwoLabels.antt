@@ -1,9 +1,9 @@
--- Dominance, which is lent the image; and merging, which is lent none and does not look at groups past the 64th.
+-- Dominance, which is lent the image; and merging, which is lent none.
 use Prim.Native.Nat.{ℕ}
 use mathlib.Core.List.{List}
 use Rattle.refusals.specs.Answers.{Given, done, refusalGiven}
 use Rattle.dominance.specs.TwoLabels.{dominatesOf, strictlyDominatesOf, Merging, label, refused, mergeOf}
-use Rattle.encoding.specs.Labels.{labelBytes, labelIn, lowLabelIn}
+use Rattle.encoding.specs.Labels.{labelBytes, labelIn}
 use Rattle.encoding.specs.Verdicts.{verdictCode}
 use Rattle.abi.specs.Answers.{coded}
 
@@ -27,4 +27,4 @@ mergedInto (refused r) old = old
 
 abbrev pub mergeAnswer : List ℕ → List ℕ → List ℕ → List ℕ → ℕ × List ℕ
 mergeAnswer bytes1 bytes2 letters old =
-    let merged = mergeOf (lowLabelIn bytes1) (lowLabelIn bytes2) letters in coded mergedGiven (merged, mergedInto merged old)
+    let merged = mergeOf (labelIn bytes1) (labelIn bytes2) letters in coded mergedGiven (merged, mergedInto merged old)

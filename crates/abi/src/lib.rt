@@ -1,12 +1,9 @@
 // The C functions. Each takes the bytes apart, makes the call and lays its answer down in one number.
 ghost use mathlib.Core.Path.{_≡_};
-ghost use mathlib.Core.Bool.{_&&_};
-ghost use lib.Dec.{eqb};
-ghost use Rattle.refusals.specs.declared.Refusal.the-variants.{NoComponent};
 ghost use Rattle.refusals.specs.Answers.{PlaceFits, refusalGiven, codeOf, answerOf};
-ghost use Rattle.encoding.specs.Labels.{highGroups};
 ghost use Rattle.abi.specs.Answers.{afterCheck, checkAnswer, nameSpan};
 ghost use Rattle.abi.specs.Labels.{parseAnswer, printedGiven, printAnswer};
+ghost use Rattle.abi.specs.Moves.{movedGiven, moveUpAnswer};
 ghost use Rattle.abi.specs.Sessions.{openAnswer, setLabelAnswer, setRowLabelAnswer, mayReadAnswer, mayWriteAnswer};
 ghost use Rattle.abi.specs.Tables.{rowsGiven, readAnswer, updateAnswer, maskedAnswer};
 ghost use Rattle.abi.specs.TwoLabels.{dominatesAnswer, strictlyDominatesAnswer, mergeAnswer};
@@ -18,6 +15,7 @@ use encoding::bytes48;
 use encoding::bytes104;
 use image::lookup;
 use labels::answers::Parsed;
+use moves::answers::Moved;
 use printing::answers::Printed;
 use refusals::Refusal;
 use refusals::answers::Checked;
@@ -60,13 +58,6 @@ fn after_check(image: &[u8], refusal: Refusal) -> u64
     }
 }
 
-// Of an accepted image 18: a label in bytes names a group that it lacks.
-fn lacking(image: &[u8]) -> u64
-    ensures { λ r. ⌜ r ≡ answerOf (afterCheck (now (image .entry)) NoComponent) ⌝ }
-{
-    after_check(image, Refusal::NoComponent)
-}
-
 // The label that the text names, in 48 bytes. Done: 0.
 #[no_mangle]
 pub extern "C" fn brawnesk_parse(image: &[u8], text: &[u8], label: &mut [u8; 48]) -> u64
@@ -99,9 +90,6 @@ fn printed_code(answer: Printed) -> u64
 pub extern "C" fn brawnesk_print(image: &[u8], label: &[u8; 48], text: &mut [u8]) -> u64
     ensures { λ r. ⌜ (r, now (text .exit)) ≡ printAnswer (now (image .entry)) (now (label .entry)) (now (text .entry)) ⌝ }
 {
-    if !bytes48::only_low_groups(label) {
-        return lacking(image);
-    }
     printed_code(printing::print(image, bytes48::label_in(label), text))
 }
 
@@ -125,7 +113,7 @@ pub extern "C" fn brawnesk_open(image: &[u8], name: &[u8], session: &mut [u8; 10
 pub extern "C" fn brawnesk_set_label(image: &[u8], session: &mut [u8; 104], text: &[u8]) -> u64
     ensures { λ r. ⌜ (r, now (session .exit)) ≡ setLabelAnswer (now (image .entry)) (now (session .entry)) (now (text .entry)) ⌝ }
 {
-    if !bytes104::session_fits(session) {
+    if !bytes104::one_user(session) {
         return after_check(image, Refusal::SessionRules);
     }
     let change = bytes104::session_in(session).set_label(image, text);
@@ -137,7 +125,7 @@ pub extern "C" fn brawnesk_set_label(image: &[u8], session: &mut [u8; 104], text
 pub extern "C" fn brawnesk_set_row_label(image: &[u8], session: &mut [u8; 104], text: &[u8]) -> u64
     ensures { λ r. ⌜ (r, now (session .exit)) ≡ setRowLabelAnswer (now (image .entry)) (now (session .entry)) (now (text .entry)) ⌝ }
 {
-    if !bytes104::session_fits(session) {
+    if !bytes104::one_user(session) {
         return after_check(image, Refusal::SessionRules);
     }
     let change = bytes104::session_in(session).set_row_label(image, text);
@@ -149,7 +137,7 @@ pub extern "C" fn brawnesk_set_row_label(image: &[u8], session: &mut [u8; 104], 
 pub extern "C" fn brawnesk_may_read(image: &[u8], session: &[u8; 104], tag: u32) -> u64
     ensures { λ r. ⌜ r ≡ mayReadAnswer (now (image .entry)) (now (session .entry)) tag ⌝ }
 {
-    if !bytes104::session_fits(session) {
+    if !bytes104::one_user(session) {
         return after_check(image, Refusal::SessionRules);
     }
     verdict_code(bytes104::session_in(session).may_read(image, tag))
@@ -160,7 +148,7 @@ pub extern "C" fn brawnesk_may_read(image: &[u8], session: &[u8; 104], tag: u32)
 pub extern "C" fn brawnesk_may_write(image: &[u8], session: &[u8; 104], tag: u32) -> u64
     ensures { λ r. ⌜ r ≡ mayWriteAnswer (now (image .entry)) (now (session .entry)) tag ⌝ }
 {
-    if !bytes104::session_fits(session) {
+    if !bytes104::one_user(session) {
         return after_check(image, Refusal::SessionRules);
     }
     verdict_code(bytes104::session_in(session).may_write(image, tag))
@@ -188,7 +176,7 @@ pub extern "C" fn brawnesk_read(
 ) -> u64
     ensures { λ r. ⌜ (r, now (out .exit)) ≡ readAnswer (now (image .entry)) (now (session .entry)) (now (table .entry)) width (now (out .entry)) ⌝ }
 {
-    if !bytes104::session_fits(session) {
+    if !bytes104::one_user(session) {
         return after_check(image, Refusal::SessionRules);
     }
     rows_code(rows::read(image, bytes104::session_in(session), table, width, out))
@@ -206,7 +194,7 @@ pub extern "C" fn brawnesk_update(
 ) -> u64
     ensures { λ r. ⌜ (r, now (table .exit)) ≡ updateAnswer (now (image .entry)) (now (session .entry)) (now (table .entry)) width n (now (payload .entry)) ⌝ }
 {
-    if !bytes104::session_fits(session) {
+    if !bytes104::one_user(session) {
         return after_check(image, Refusal::SessionRules);
     }
     checked_code(rows::update(
@@ -232,17 +220,10 @@ pub extern "C" fn brawnesk_masked(
 ) -> u64
     ensures { λ r. ⌜ r ≡ maskedAnswer (now (image .entry)) (now (session .entry)) (now (table .entry)) width place ⌝ }
 {
-    if !bytes104::session_fits(session) {
+    if !bytes104::one_user(session) {
         return after_check(image, Refusal::SessionRules);
     }
     verdict_code(rows::masked_verdict(image, bytes104::session_in(session), table, width, place))
-}
-
-// Do both labels name only groups that an image of edition 1 can have?
-fn both_low(label1: &[u8; 48], label2: &[u8; 48]) -> bool
-    ensures { λ r. ⌜ r ≡ (eqb (highGroups (now (label1 .entry))) 0 && eqb (highGroups (now (label2 .entry))) 0) ⌝ }
-{
-    bytes48::only_low_groups(label1) & bytes48::only_low_groups(label2)
 }
 
 // Does label 1 dominate label 2? 1 yes, 0 no.
@@ -250,9 +231,6 @@ fn both_low(label1: &[u8; 48], label2: &[u8; 48]) -> bool
 pub extern "C" fn brawnesk_dominates(image: &[u8], label1: &[u8; 48], label2: &[u8; 48]) -> u64
     ensures { λ r. ⌜ r ≡ dominatesAnswer (now (image .entry)) (now (label1 .entry)) (now (label2 .entry)) ⌝ }
 {
-    if !both_low(label1, label2) {
-        return lacking(image);
-    }
     let first = bytes48::label_in(label1);
     let second = bytes48::label_in(label2);
     verdict_code(dominance::dominates(image, first, second))
@@ -267,9 +245,6 @@ pub extern "C" fn brawnesk_strictly_dominates(
 ) -> u64
     ensures { λ r. ⌜ r ≡ strictlyDominatesAnswer (now (image .entry)) (now (label1 .entry)) (now (label2 .entry)) ⌝ }
 {
-    if !both_low(label1, label2) {
-        return lacking(image);
-    }
     let first = bytes48::label_in(label1);
     let second = bytes48::label_in(label2);
     verdict_code(dominance::strictly_dominates(image, first, second))
@@ -285,8 +260,8 @@ pub extern "C" fn brawnesk_merge(
 ) -> u64
     ensures { λ r. ⌜ (r, now (merged .exit)) ≡ mergeAnswer (now (label1 .entry)) (now (label2 .entry)) (now (letters .entry)) (now (merged .entry)) ⌝ }
 {
-    let first = bytes48::low_label_in(label1);
-    let second = bytes48::low_label_in(label2);
+    let first = bytes48::label_in(label1);
+    let second = bytes48::label_in(label2);
     let answer = dominance::merge(first, second, letters);
     match answer {
         Merged::Done(label) => {
@@ -295,4 +270,23 @@ pub extern "C" fn brawnesk_merge(
         }
         Merged::Refused(r) => refused(r),
     }
+}
+
+// The new image's length, or the refusal.
+fn moved_code(answer: Moved) -> u64
+    requires { ⌜ PlaceFits (movedGiven answer) ⌝ }
+    ensures { λ r. ⌜ r ≡ codeOf (movedGiven answer) ⌝ }
+{
+    match answer {
+        Moved::Done(n) => n as u64,
+        Moved::Refused(r) => refused(r),
+    }
+}
+
+// The edition 1 image as one of edition 2 at the front of `out`. Done: its length.
+#[no_mangle]
+pub extern "C" fn brawnesk_move_up(image: &[u8], out: &mut [u8]) -> u64
+    ensures { λ r. ⌜ (r, now (out .exit)) ≡ moveUpAnswer (now (image .entry)) (now (out .entry)) ⌝ }
+{
+    moved_code(moves::move_up(image, out))
 }

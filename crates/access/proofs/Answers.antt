@@ -8,7 +8,7 @@ use Rattle.fields.proofs.Both.{parts}
 use Rattle.refusals.specs.declared.Refusal.{Refusal}
 use Rattle.refusals.specs.declared.Refusal.the-variants.{LevelNotAllowed, CompartmentsNotAllowed, GroupsNotAllowed, RowLabelOutside}
 use Rattle.sets.specs.Sets.{within}
-use Rattle.header.specs.Layout.{users, userRecord}
+use Rattle.header.specs.Layout.{editionOf, users, userRecord}
 use Rattle.records.specs.Fields.{maximumLevel, minimumLevel, readCompartments, readGroups}
 use Rattle.hierarchy.specs.Below.{below}
 use Rattle.refusals.specs.declared.answers.Checked.{Checked}
@@ -49,7 +49,7 @@ pub record SessionLabelKept (im : List ℕ) (u : ℕ) (new row : Marks) : Type 0
   pub minimum : minimumLevel (userRecord im u) ≤ new .level
   pub maximum : new .level ≤ maximumLevel (userRecord im u)
   pub compartments : within (new .compartments) (readCompartments (userRecord im u)) ≡ true
-  pub groups : within (new .groups) (below im (readGroups (userRecord im u))) ≡ true
+  pub groups : within (new .groups) (below im (readGroups (editionOf im) (userRecord im u))) ≡ true
   pub inside : Inside (rightsAt im u new) row
 
 pub session-label-means : (im : List ℕ) (u : ℕ) (new row : Marks) → allowed (sessionLabelAnswer im u new row) ≡ true → SessionLabelKept im u new row

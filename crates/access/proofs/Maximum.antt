@@ -4,7 +4,7 @@ use mathlib.Core.Path.{_≡_}
 use mathlib.Core.Bool.{true}
 use mathlib.Core.List.{List}
 use Rattle.sets.proofs.Within.{within-refl}
-use Rattle.header.specs.Layout.{userRecord}
+use Rattle.header.specs.Layout.{editionOf, userRecord}
 use Rattle.records.specs.Fields.{privileges, readGroups}
 use Rattle.image.specs.Check.{IsAccepted}
 use Rattle.image.proofs.Policy.{below-within}
@@ -22,7 +22,7 @@ module _ (im : List ℕ) (acc : IsAccepted im) (u : ℕ) (label row : Marks) whe
       record {
         level = k .maximum;
         compartments = k .compartments;
-        groups = below-within im acc (label .groups) (readGroups (userRecord im u)) (k .groups);
+        groups = below-within im acc (label .groups) (readGroups (editionOf im) (userRecord im u)) (k .groups);
         privileges = within-refl (privileges (userRecord im u));
       }
 

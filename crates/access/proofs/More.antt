@@ -12,11 +12,12 @@ use Rattle.sets.proofs.Has.{one-has}
 use Rattle.sets.proofs.Within.{within-union-right, within-refl, within-trans, within-union-left, within-has}
 use Rattle.sets.proofs.Meets.{meets-mono}
 use Rattle.image.specs.Lookup.{labelOfTag}
+use Rattle.header.specs.Layout.{editionOf}
 use Rattle.labels.specs.Label.{Marks, labelAt}
 use Rattle.labels.specs.GroupTest.{groupTest}
 use Rattle.access.specs.Rights.{Rights, withPrivileges}
 use Rattle.access.specs.Verdicts.{placeOfRead, placeOfFull, placeOfCompaccess, readsAll, writesAll, holdsCompaccess, readLevelRule, readGroupsRule, readCompartmentsRule, compaccessReads, readTests, writeLevelRule, writeGroupsRule, writeCompartmentsRule, writeSetsRule, compaccessWrites, writeTests, readsLabel, writesLabel, knownTag, mayRead, mayWrite}
-use Rattle.access.proofs.Tests.{and-mono, or-mono, cond-mono}
+use Rattle.access.proofs.Tests.{unknown-mono, and-mono, or-mono, cond-mono}
 
 -- the second has all that the first has, for reading
 pub record MoreReading (a b : Rights) : Type 0 where
@@ -108,11 +109,14 @@ module _ (a b : Rights) where
 
   pub may-read-more : MoreReading a b → (im : List ℕ) (tag : ℕ) → mayRead im a tag ≡ true → mayRead im b tag ≡ true
   unfolding mayRead
-  may-read-more more im tag = cond-mono (knownTag im tag) (reads-label-more more (labelAt im (labelOfTag im tag))) (all-read-more more)
+  may-read-more more im tag =
+      cond-mono (knownTag im tag) (reads-label-more more (labelAt im (labelOfTag im tag))) (unknown-mono (editionOf im) (all-read-more more))
 
   pub may-write-more : MoreWriting a b → (im : List ℕ) (tag : ℕ) → mayWrite im a tag ≡ true → mayWrite im b tag ≡ true
   unfolding mayWrite
-  may-write-more more im tag = cond-mono (knownTag im tag) (writes-label-more more (labelAt im (labelOfTag im tag))) (all-written-more (more .reading))
+  may-write-more more im tag =
+      cond-mono (knownTag im tag) (writes-label-more more (labelAt im (labelOfTag im tag)))
+      (unknown-mono (editionOf im) (all-written-more (more .reading)))
 
 -- ---- COMPACCESS never takes a row away
 abbrev pub withCompaccess : Rights → Rights

@@ -9,7 +9,7 @@ use Rattle.fields.proofs.Both.{parts}
 use Rattle.sets.specs.Sets.{has, empty, within, meets}
 use Rattle.sets.proofs.Within.{within-refl, within-trans, intersection-within-left}
 use Rattle.sets.proofs.Meets.{meets-mono}
-use Rattle.header.specs.Layout.{userRecord}
+use Rattle.header.specs.Layout.{editionOf, userRecord}
 use Rattle.records.specs.Fields.{writeCompartments, writeGroups}
 use Rattle.hierarchy.specs.Below.{below}
 use Rattle.image.specs.Lookup.{labelOfTag}
@@ -17,7 +17,7 @@ use Rattle.labels.specs.Label.{Marks, labelAt}
 use Rattle.labels.specs.GroupTest.{groupTest}
 use Rattle.access.specs.Rights.{Rights, rightsAt, writeCompartmentsOf, writeGroupsOf}
 use Rattle.access.specs.Verdicts.{placeOfRead, placeOfFull, readsAll, writesAll, holdsCompaccess, readLevelRule, readGroupsRule, readCompartmentsRule, compaccessReads, readTests, writeLevelRule, writeGroupsRule, writeCompartmentsRule, writeSetsRule, compaccessWrites, writeTests, readsLabel, writesLabel, knownTag, mayRead, mayWrite}
-use Rattle.access.proofs.Tests.{and-mono, or-mono, cond-mono}
+use Rattle.access.proofs.Tests.{unknown-mono, and-mono, or-mono, cond-mono}
 
 -- the write sets lie inside the sets of reading
 record WriteInRead (rights : Rights) : Type 0 where
@@ -81,7 +81,7 @@ module _ (im : List ℕ) (u : ℕ) (label : Marks) where
   write-in-read =
       record {
         compartments = intersection-within-left (label .compartments) (writeCompartments (userRecord im u));
-        groups = intersection-within-left (below im (label .groups)) (below im (writeGroups (userRecord im u)));
+        groups = intersection-within-left (below im (label .groups)) (below im (writeGroups (editionOf im) (userRecord im u)));
       }
 
   pub label-writable-readable : (row : Marks) → writesLabel (rightsAt im u label) row ≡ true → readsLabel (rightsAt im u label) row ≡ true
@@ -91,4 +91,5 @@ module _ (im : List ℕ) (u : ℕ) (label : Marks) where
   pub writable-readable : (tag : ℕ) → mayWrite im (rightsAt im u label) tag ≡ true → mayRead im (rightsAt im u label) tag ≡ true
   unfolding mayWrite mayRead
   writable-readable tag =
-      cond-mono (knownTag im tag) (label-writable-readable (labelAt im (labelOfTag im tag))) (all-writable-readable (rightsAt im u label))
+      cond-mono (knownTag im tag) (label-writable-readable (labelAt im (labelOfTag im tag)))
+      (unknown-mono (editionOf im) (all-writable-readable (rightsAt im u label)))

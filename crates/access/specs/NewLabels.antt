@@ -5,7 +5,7 @@ use mathlib.Core.List.{List}
 use lib.Dec.{leb, ltb}
 use Rattle.refusals.specs.declared.Refusal.the-variants.{LevelNotAllowed, CompartmentsNotAllowed, GroupsNotAllowed, RowLabelOutside}
 use Rattle.sets.specs.Sets.{within}
-use Rattle.header.specs.Layout.{users, userRecord}
+use Rattle.header.specs.Layout.{editionOf, users, userRecord}
 use Rattle.records.specs.Fields.{maximumLevel, minimumLevel, readCompartments, readGroups}
 use Rattle.hierarchy.specs.Below.{below}
 use Rattle.refusals.specs.declared.answers.Checked.{Checked}
@@ -27,7 +27,7 @@ rowInside rights row =
 -- ---- a new session label
 -- its groups lie in below(read)
 unfoldable pub sessionGroupsRule : List ℕ → List ℕ → ℕ → Bool
-sessionGroupsRule im rec groups = within groups (below im (readGroups rec))
+sessionGroupsRule im rec groups = within groups (below im (readGroups (editionOf im) rec))
 
 -- minimum ≤ level ≤ maximum (8); compartments in read (9); groups in below(read) (10); and the present row label has level ≤ the
 -- new level, compartments and groups inside the new write sets (11)

@@ -5,7 +5,7 @@ use mathlib.Core.List.{List}
 use lib.Dec.{leb}
 use Rattle.sets.specs.Sets.{intersection}
 use Rattle.sets.specs.Groups.{placesOf}
-use Rattle.header.specs.Layout.{userRecord}
+use Rattle.header.specs.Layout.{editionOf, userRecord}
 use Rattle.records.specs.Fields.{privileges, maximumLevel, minimumLevel, readCompartments, writeCompartments, readGroups, writeGroups}
 use Rattle.hierarchy.specs.Below.{below}
 use Rattle.labels.specs.Label.{Marks, marks}
@@ -32,7 +32,7 @@ writeCompartmentsOf rec label = intersection (label .compartments) (writeCompart
 
 -- its write groups are below(session groups) ∩ below(write groups)
 unfoldable pub writeGroupsOf : List ℕ → List ℕ → Marks → ℕ
-writeGroupsOf im rec label = intersection (below im (label .groups)) (below im (writeGroups rec))
+writeGroupsOf im rec label = intersection (below im (label .groups)) (below im (writeGroups (editionOf im) rec))
 
 -- what the user at place u has with that session label
 unfoldable pub rightsAt : List ℕ → ℕ → Marks → Rights
@@ -52,7 +52,7 @@ rightsAt im u label =
 -- the maximum read label: the user's maximum level with the read compartments and read groups
 unfoldable pub maximumReadLabel : List ℕ → ℕ → Marks
 maximumReadLabel im u =
-    let rec = userRecord im u in marks (maximumLevel rec) (readCompartments rec) (readGroups rec)
+    let rec = userRecord im u in marks (maximumLevel rec) (readCompartments rec) (readGroups (editionOf im) rec)
 
 -- what a view of the code stands for
 abbrev pub rightsOf : View → Rights

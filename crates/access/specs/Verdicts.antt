@@ -1,10 +1,12 @@
 -- Verdicts on a row's label: first the question on a label, then the tag's look-up.
 use Prim.Native.Nat.{ℕ}
-use mathlib.Core.Bool.{Bool, cond, not, _&&_, _||_}
+use mathlib.Core.Bool.{Bool, false, cond, not, _&&_, _||_}
 use mathlib.Core.List.{List}
 use lib.Dec.{leb, ltb}
 use Rattle.sets.specs.Sets.{has, empty, within, meets}
-use Rattle.header.specs.Layout.{labels}
+use Rattle.header.specs.declared.edition.Edition.{Edition}
+use Rattle.header.specs.declared.edition.Edition.the-variants.{One, Two}
+use Rattle.header.specs.Layout.{editionOf, labels}
 use Rattle.image.specs.Lookup.{labelOfTag}
 use Rattle.labels.specs.Label.{Marks, labelAt}
 use Rattle.labels.specs.GroupTest.{groupTest}
@@ -20,11 +22,11 @@ placeOfFull = 1
 abbrev pub placeOfCompaccess : ℕ
 placeOfCompaccess = 2
 
--- READ and FULL see every row
+-- READ and FULL see rows of every label
 unfoldable pub readsAll : Rights → Bool
 readsAll rights = has (rights .privileges) placeOfRead || has (rights .privileges) placeOfFull
 
--- FULL writes every row
+-- FULL writes rows of every label
 unfoldable pub writesAll : Rights → Bool
 writesAll rights = has (rights .privileges) placeOfFull
 
@@ -96,13 +98,19 @@ writesLabel rights row = writesAll rights || writeTests rights row
 unfoldable pub knownTag : List ℕ → ℕ → Bool
 knownTag im tag = ltb (labelOfTag im tag) (labels im)
 
--- READ and FULL see every row, tag 0 and unknown tags too. Otherwise those two tags are denied
-unfoldable pub mayRead : List ℕ → Rights → ℕ → Bool
-mayRead im rights tag = cond (knownTag im tag) (readsLabel rights (labelAt im (labelOfTag im tag))) (readsAll rights)
+-- tag 0 and unknown tags: in edition 1 whoever sees every row sees them too, otherwise they are denied; in edition 2 they are denied to all
+abbrev pub unknownRule : Edition → Bool → Bool
+unknownRule One all = all
+unknownRule Two all = false
 
--- and FULL writes them
+-- the label that the tag names decides; where none carries it, the edition
+unfoldable pub mayRead : List ℕ → Rights → ℕ → Bool
+mayRead im rights tag =
+    cond (knownTag im tag) (readsLabel rights (labelAt im (labelOfTag im tag))) (unknownRule (editionOf im) (readsAll rights))
+
 unfoldable pub mayWrite : List ℕ → Rights → ℕ → Bool
-mayWrite im rights tag = cond (knownTag im tag) (writesLabel rights (labelAt im (labelOfTag im tag))) (writesAll rights)
+mayWrite im rights tag =
+    cond (knownTag im tag) (writesLabel rights (labelAt im (labelOfTag im tag))) (unknownRule (editionOf im) (writesAll rights))
 
 -- what is readable at the maximum read label follows the same rules
 unfoldable pub readableAtMaximum : List ℕ → ℕ → ℕ → Bool

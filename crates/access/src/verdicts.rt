@@ -1,14 +1,17 @@
 // Verdicts: the question on a label, and the look-up of a tag before it.
-ghost use Prim.Native.Nat.{_<_};
+ghost use Prim.Native.Nat.{_<_, _≤_};
 ghost use mathlib.Core.Path.{_≡_};
-ghost use Rattle.header.specs.Layout.{labels};
+ghost use lib.ListN.{length};
+ghost use Rattle.header.specs.Layout.{editionOf, labels};
 ghost use Rattle.header.specs.Limits.{Counted};
 ghost use Rattle.image.specs.Check.{IsAccepted};
 ghost use Rattle.labels.specs.Label.{marksOf, labelAt};
 ghost use Rattle.access.specs.Rights.{rightsOf};
-ghost use Rattle.access.specs.Verdicts.{readsAll, writesAll, holdsCompaccess, readLevelRule, readGroupsRule, readTests, readsLabel, writeSetsRule, writeTests, writesLabel, mayRead, mayWrite};
+ghost use Rattle.access.specs.Verdicts.{readsAll, writesAll, holdsCompaccess, readLevelRule, readGroupsRule, readTests, readsLabel, writeSetsRule, writeTests, writesLabel, unknownRule, mayRead, mayWrite};
 use crate::rights::View;
 use crate::rights::is_between;
+use header::edition::Edition;
+use header::edition::edition_of;
 use header::layout;
 use image::given::label_of_tag;
 use labels::group_test;
@@ -111,7 +114,18 @@ pub fn label_at(image: &[u8], k: usize) -> Label
     }
 }
 
-// The tag's label decides; READ and FULL see tag 0 and unknown tags too.
+// Tag 0 and unknown tags are for those who see every row, and in edition 2 for nobody.
+fn is_unknown_seen(image: &[u8], all: bool) -> bool
+    requires { ⌜ 512 ≤ length (now image) ⌝ }
+    ensures { λ r. ⌜ r ≡ unknownRule (editionOf (now (image .entry))) all ⌝ }
+{
+    match edition_of(image) {
+        Edition::One => all,
+        Edition::Two => false,
+    }
+}
+
+// The tag's label decides; where none carries it, the edition.
 pub fn may_read(image: &[u8], view: View, tag: u32) -> bool
     requires { ⌜ IsAccepted (now image) ⌝ }
     ensures { λ r. ⌜ r ≡ mayRead (now (image .entry)) (rightsOf view) tag ⌝ }
@@ -120,10 +134,10 @@ pub fn may_read(image: &[u8], view: View, tag: u32) -> bool
     if k < layout::labels(image) {
         return reads_label(view, label_at(image, k));
     }
-    reads_all(view)
+    is_unknown_seen(image, reads_all(view))
 }
 
-// The tag's label decides; FULL writes tag 0 and unknown tags too.
+// The tag's label decides; where none carries it, the edition.
 pub fn may_write(image: &[u8], view: View, tag: u32) -> bool
     requires { ⌜ IsAccepted (now image) ⌝ }
     ensures { λ r. ⌜ r ≡ mayWrite (now (image .entry)) (rightsOf view) tag ⌝ }
@@ -132,5 +146,5 @@ pub fn may_write(image: &[u8], view: View, tag: u32) -> bool
     if k < layout::labels(image) {
         return writes_label(view, label_at(image, k));
     }
-    writes_all(view)
+    is_unknown_seen(image, writes_all(view))
 }

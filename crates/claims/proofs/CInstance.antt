@@ -1,9 +1,12 @@
 -- An instance of the claim of the C functions: MARA's calls on the sample's two tables, her sessions in bytes. Assumes nothing.
-use Prim.Native.Nat.{ℕ, _<_}
+use Prim.Native.Nat.{ℕ, _^_, _≤_, _<_}
 use mathlib.Core.Path.{_≡_, refl, ap, _∙_}
 use mathlib.Core.List.{List, [], _∷_, map}
 use native.Mathlib.Omega.{arith}
+use native.Mathlib.Nat.{lt-of-lt-of-le}
 use lib.ListN.{replicate}
+use lib.Pow.{pow-mono}
+use Rattle.sets.specs.Groups.{width}
 use Rattle.refusals.specs.declared.Refusal.the-variants.{NoUser, RowLabelOutside, TableShape, NoRow, RowNotWritable, SessionRules}
 use Rattle.refusals.specs.Answers.{answerOf}
 use Rattle.sessions.specs.Session.{SessionMarks}
@@ -48,12 +51,18 @@ cCalls byte =
     ∷ []
 
 -- a session of small numbers fits its bytes
+small-set : (g : ℕ) → g < 10 → g < 2 ^ width
+small-set g h =
+    let low : g < 2 ^ 4 = omega arith in
+    let wide : 2 ^ 4 ≤ 2 ^ width = pow-mono {i = 4} {j = width} (omega arith) in
+    lt-of-lt-of-le low wide
+
 small-fits : (u l c g : ℕ) → u < 10 → l < 10 → c < 10 → g < 10 → SessionPartsFit (record { user = u; label = marks 0 0 0; row = marks l c g })
 small-fits u l c g hu hl hc hg =
     record {
       user = omega arith;
-      label = record { level = omega arith; compartments = omega arith; groups = omega arith };
-      row = record { level = omega arith; compartments = omega arith; groups = omega arith };
+      label = record { level = omega arith; compartments = omega arith; groups = small-set 0 (omega arith) };
+      row = record { level = omega arith; compartments = omega arith; groups = small-set g hg };
     }
 
 none-held : heldAs noneHeld ≡ noSession

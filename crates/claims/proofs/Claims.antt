@@ -8,11 +8,12 @@ use mathlib.Core.Logic.{_↔_, _⊎_}
 use lib.ListN.{length}
 use Rattle.sets.specs.Sets.{has}
 use Rattle.header.specs.declared.layout.Kind.{Kind}
-use Rattle.header.specs.Layout.{groups, labels}
+use Rattle.header.specs.declared.edition.Edition.the-variants.{Two}
+use Rattle.header.specs.Layout.{editionOf, groups, labels}
 use Rattle.hierarchy.specs.Below.{Above, below}
 use Rattle.hierarchy.proofs.Under.{below-true, below-above, above-below}
 use Rattle.refusals.specs.declared.answers.Checked.the-variants.{Accepted, Refused}
-use Rattle.refusals.specs.declared.answers.Verdict.the-variants.{Yes}
+use Rattle.refusals.specs.declared.answers.Verdict.the-variants.{Yes, No}
 use Rattle.refusals.specs.declared.Refusal.the-variants.{ImageLayout, ParentRing}
 use Rattle.image.specs.declared.faults.Fault.{Fault}
 use Rattle.image.specs.declared.faults.Fault.the-variants.{Sound}
@@ -37,7 +38,7 @@ use Rattle.image.specs.Lookup.{labelOfTag}
 use Rattle.image.specs.Search.{searchWithin, searchTag}
 use Rattle.image.proofs.Halves.{eleven-steps, ten-steps}
 use Rattle.access.proofs.More.{withCompaccess, compaccess-reads, compaccess-writes}
-use Rattle.sessions.specs.Session.{SessionMarks, lentAnswer}
+use Rattle.sessions.specs.Session.{SessionMarks, lentAnswer, sessionRights}
 use Rattle.sessions.specs.Opening.{session, openOf}
 use Rattle.sessions.specs.Changes.{setLabelOf, setRowLabelOf}
 use Rattle.sessions.specs.Asking.{mayReadOf, mayWriteOf}
@@ -45,6 +46,10 @@ use Rattle.sessions.proofs.Accepting.{lent-accepted}
 use Rattle.sessions.proofs.Existing.{session-labels-exist}
 use Rattle.sessions.proofs.Passing as passing
 use Rattle.sessions.proofs.Bounded as bounded
+use Rattle.moves.specs.declared.answers.Moved.the-variants as moved
+use Rattle.moves.specs.Moving.{oldCheckOf, moveUpOf}
+use Rattle.moves.proofs.KeptByMove.{MovedBy, unknown-unread, unknown-unwritten, moved-by-call}
+use Rattle.moves.proofs.OldAccepted.{framed-refused}
 use Rattle.encoding.specs.Sessions.{sessionBytes, Holds}
 use Rattle.encoding.proofs.ReadBack.{bytes-hold}
 use Rattle.abi.proofs.Widths.{lent-widths}
@@ -90,14 +95,14 @@ pub ring-told-exactly : (im : List ℕ) → Framed im → (g : ℕ) → (checkOf
 ring-told-exactly = ring-exactly
 
 -- ---- the look-up of a tag
--- 11 steps of the search, each of which reads at most one record and compares three ways, settle every tag, known or not; where there are at most
--- 800 labels, 10 do.
+-- 11 steps of the search, each of which reads at most one record and compares three ways, settle every tag, known or not; in edition 2, which
+-- has at most 800 labels, 10 do.
 pub eleven-steps-settle : (im : List ℕ) → IsAccepted im → (tag : ℕ) → searchWithin im tag 11 0 ≡ labelOfTag im tag
 unfolding searchTag
 eleven-steps-settle im acc tag = eleven-steps im tag acc
 
-pub ten-steps-settle : (im : List ℕ) → IsAccepted im → (tag : ℕ) → labels im ≤ 800 → searchWithin im tag 10 0 ≡ labelOfTag im tag
-ten-steps-settle im acc tag few = ten-steps im tag acc few
+pub ten-steps-settle : (im : List ℕ) → IsAccepted im → (tag : ℕ) → editionOf im ≡ Two → searchWithin im tag 10 0 ≡ labelOfTag im tag
+ten-steps-settle im acc tag two = ten-steps im tag acc two
 
 -- ---- groups
 -- Below a set lie just the groups that are in it or have an ancestor in it, at any distance. (`Above im g p`: p is g or an ancestor of g.)
@@ -159,11 +164,31 @@ reads-exactly-if-dominates im s tag lent none known = (
   (λ e. reads-dominated im s tag lent none known ∙ e),
 )
 
+-- In edition 2 tag 0 and every other tag that no label carries are denied to all sessions, whatever privileges their user holds.
+pub unknown-denied : (im : List ℕ) → editionOf im ≡ Two → (s : SessionMarks) → lentAnswer im s ≡ Accepted → (tag : ℕ) → knownTag im tag ≡ false
+    → (mayReadOf im s tag ≡ No) × (mayWriteOf im s tag ≡ No)
+unfolding mayReadOf mayWriteOf
+unknown-denied im two s lent tag unknown = (
+  rw (lent, unknown-unread im two (sessionRights im s) tag unknown),
+  rw (lent, unknown-unwritten im two (sessionRights im s) tag unknown),
+)
+
 -- COMPACCESS takes no row away.
 pub compaccess-adds : (im : List ℕ) (rights : Rights) (tag : ℕ)
     → (mayRead im rights tag ≡ true → mayRead im (withCompaccess rights) tag ≡ true)
     × (mayWrite im rights tag ≡ true → mayWrite im (withCompaccess rights) tag ≡ true)
 compaccess-adds im rights tag = (compaccess-reads rights im tag, compaccess-writes rights im tag)
+
+-- ---- the move up
+-- Where the call is done, the front of the buffer is an image, of the length that is told, and later bytes stay as they were. The image is accepted,
+-- of edition 2, and holds the same components, labels and users, by the field readers of both editions; the same session opens for each name, the same
+-- sessions are accepted, and their verdicts on every known tag are the same.
+pub move-up-keeps : (im buffer after : List ℕ) (n : ℕ) → moveUpOf im buffer ≡ (moved.Done n, after) → MovedBy im buffer after n
+move-up-keeps = moved-by-call
+
+-- An image of edition 2 that neither 1 nor 2 refuses is given 31, whatever else is wrong with it.
+pub moved-once : (im : List ℕ) → Framed im → editionOf im ≡ Two → oldCheckOf im ≡ Refused ImageLayout
+moved-once = framed-refused
 
 -- ---- the sample co-operative: each of the 16 cases P1 to P16 gives what document 01 says
 pub sample-cases : (length proved ≡ 16) × (map asked proved ≡ map (λ (c : Case). c .expected) proved)

@@ -1,6 +1,6 @@
 -- Any bytes stand for a session by value: that which they hold, or, where they name two users, one that 19 refuses as it refuses them. Each
 -- C function on the bytes answers what the call on that session answers. Assumes nothing.
-use Prim.Native.Nat.{ℕ, _^_}
+use Prim.Native.Nat.{ℕ}
 use mathlib.Core.Path.{_≡_, refl, sym, ap, _∙_}
 use mathlib.Core.Bool.{Bool, true, false, cond}
 use mathlib.Core.List.{List}
@@ -24,12 +24,12 @@ use Rattle.abi.specs.Answers.{coded, afterCheck, withSession}
 use Rattle.abi.specs.Sessions.{changeAnswer, setLabelAnswer, setRowLabelAnswer}
 use Rattle.abi.specs.Tables.{rowsGiven, readAnswer, updateAnswer}
 use Rattle.abi.proofs.Widths.{rule-widths}
-use Rattle.abi.proofs.Unfit.{set-label-refused, set-row-label-refused, read-refused, update-refused}
+use Rattle.abi.proofs.Refusing.{set-label-refused, set-row-label-refused, read-refused, update-refused}
 use Rattle.abi.proofs.InBytes.{set-label-holds, set-row-label-holds}
 
--- a session of that user with a group past the 64th, which no image has
+-- a session of that user with a level past the 255th, which no image has
 abbrev pub unfitOf : ℕ → SessionMarks
-unfitOf u = sessionMarks u (marks 0 0 (2 ^ 64)) (marks 0 0 0)
+unfitOf u = sessionMarks u (marks 256 0 0) (marks 0 0 0)
 
 -- the session that stands for the bytes
 abbrev pub heldAs : List ℕ → SessionMarks
@@ -52,7 +52,7 @@ module _ (im : List ℕ) (u : ℕ) where
   unfit-rule acc = at (sessionRule im (unfitOf u .user) (unfitOf u .label) (unfitOf u .row)) refl
     where
       at : (t : Bool) → sessionRule im (unfitOf u .user) (unfitOf u .label) (unfitOf u .row) ≡ t → t ≡ false
-      at true e = let small = rule-widths im acc (unfitOf u) e .label .groups in absurd (omega (arith, small))
+      at true e = let small = rule-widths im acc (unfitOf u) e .label .level in absurd (omega (arith, small))
       at false e = refl
 
   pub unfit-refused : lentAnswer im (unfitOf u) ≡ Refused (afterCheck im SessionRules)

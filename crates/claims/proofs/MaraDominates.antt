@@ -5,7 +5,7 @@ use mathlib.Core.Bool.{true}
 use Rattle.fields.specs.Bytes.{number2, number4}
 use Rattle.fields.specs.Scan.{firstBad}
 use Rattle.sets.specs.Sets.{has}
-use Rattle.header.specs.Layout.{levels, compartments, groups, users, labels, components, firstBlock, blocksFor, recordOffset, recordAt}
+use Rattle.header.specs.Layout.{levels, compartments, groups, users, labels, components, firstBlock, blocksFor, recordOffset, recordAt, editionOf}
 use Rattle.refusals.specs.declared.answers.Verdict.the-variants.{Yes, No}
 use Rattle.image.specs.Lookup.{labelOfTag}
 use Rattle.labels.specs.Label.{labelAt}
@@ -23,7 +23,7 @@ unfolding has
 mara-none = record { read = rw no-privileges; full = rw no-privileges; compaccess = rw no-privileges }
 
 known : (knownTag cooperative 10 ≡ true) × (knownTag cooperative 20 ≡ true)
-unfolding knownTag labelOfTag cooperative number2 number4 firstBad levels compartments groups users labels components firstBlock blocksFor recordOffset recordAt
+unfolding knownTag labelOfTag cooperative number2 number4 firstBad levels compartments groups users labels components firstBlock blocksFor recordOffset recordAt editionOf
 known = (refl, refl)
 
 reads : (mayReadOf cooperative mara 10 ≡ Yes) × (mayReadOf cooperative mara 20 ≡ No)

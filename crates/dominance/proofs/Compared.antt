@@ -8,9 +8,8 @@ use Rattle.refusals.specs.declared.Refusal.the-variants.{NoComponent}
 use Rattle.refusals.specs.declared.answers.Checked.{Checked}
 use Rattle.refusals.specs.declared.answers.Checked.the-variants.{Accepted, Refused}
 use Rattle.refusals.specs.Answers.{onChecked, orRefuse}
-use Rattle.header.specs.Limits.{Counted}
 use Rattle.image.specs.Check.{checkOf, IsAccepted}
-use Rattle.image.proofs.Accepted.{refused-not, accepted-counted}
+use Rattle.image.proofs.Accepted.{refused-not}
 use Rattle.labels.specs.Label.{Marks, labelExists}
 use Rattle.dominance.specs.TwoLabels.{comparedAnswer}
 
@@ -32,6 +31,3 @@ compared-means im a b = at (checkOf im) refl (labelExists im a && labelExists im
 pub means-compared : (im : List ℕ) (a b : Marks) → Comparable im a b → comparedAnswer im a b ≡ Accepted
 unfolding comparedAnswer
 means-compared im a b k = rw (k .accepted, k .first, k .second)
-
-pub compared-counted : (im : List ℕ) (a b : Marks) → comparedAnswer im a b ≡ Accepted → Counted im
-compared-counted im a b e = accepted-counted im (compared-means im a b e .accepted)

@@ -1,6 +1,6 @@
 // Two labels compared under a policy.
 ghost use mathlib.Core.Path.{_≡_};
-ghost use Rattle.header.specs.Limits.{Counted};
+ghost use Rattle.image.specs.Check.{IsAccepted};
 ghost use Rattle.labels.specs.Label.{marksOf};
 ghost use Rattle.dominance.specs.TwoLabels.{dominatesGroups, dominates, sameLabel, strictlyDominates, comparedAnswer};
 use hierarchy::table;
@@ -28,18 +28,18 @@ pub fn compared(image: &[u8], label1: Label, label2: Label) -> Checked
 
 // Has label 2 no groups, or does one of them lie below label 1's?
 fn groups_reached(image: &[u8], label1: Label, label2: Label) -> bool
-    requires { ⌜ Counted (now image) ⌝ }
+    requires { ⌜ IsAccepted (now image) ⌝ }
     ensures { λ r. ⌜ r ≡ dominatesGroups (now (image .entry)) (marksOf label1) (marksOf label2) ⌝ }
 {
-    let mut lineages = table::EMPTY;
-    table::fill(image, &mut lineages);
-    let reached = table::below(image, &lineages, label1.groups);
+    let mut parents = table::EMPTY;
+    table::fill(image, &mut parents);
+    let reached = table::below(image, &parents, label1.groups);
     group_test::passes(reached, label2.groups)
 }
 
 // Does label 1 dominate label 2?
 pub fn is_above(image: &[u8], label1: Label, label2: Label) -> bool
-    requires { ⌜ Counted (now image) ⌝ }
+    requires { ⌜ IsAccepted (now image) ⌝ }
     ensures { λ r. ⌜ r ≡ dominates (now (image .entry)) (marksOf label1) (marksOf label2) ⌝ }
 {
     (label2.level <= label1.level)
@@ -59,7 +59,7 @@ pub fn same_label(label1: Label, label2: Label) -> bool
 
 // And do the labels differ?
 pub fn is_strictly_above(image: &[u8], label1: Label, label2: Label) -> bool
-    requires { ⌜ Counted (now image) ⌝ }
+    requires { ⌜ IsAccepted (now image) ⌝ }
     ensures { λ r. ⌜ r ≡ strictlyDominates (now (image .entry)) (marksOf label1) (marksOf label2) ⌝ }
 {
     is_above(image, label1, label2) & !same_label(label1, label2)

@@ -1,18 +1,24 @@
 -- A label and a session in bytes stand where the documents say, and read back as themselves. Assumes nothing.
-use Prim.Native.Nat.{ℕ, _+_, _*_, _/_, _%_, _^_, _<_}
+use Prim.Native.Nat.{ℕ, zero, suc, _+_, _*_, _/_, _%_, _^_, _<_}
 use mathlib.Core.Path.{_≡_, refl, sym, ap, ap₂, _∙_}
 use mathlib.Core.Bool.{true}
-use mathlib.Core.List.{List}
-use native.Mathlib.Nat.{add-comm, mul-comm, div-div-eq-div-mul, mod-eq-of-lt}
+use mathlib.Core.List.{List, _∷_, map}
+use native.Mathlib.Nat.{add-comm, mul-comm, div-div-eq-div-mul, mod-lt, mod-eq-of-lt}
 use native.Mathlib.Omega.{arith}
 use borrow.Author.Tests.{eq-eqb}
 use lib.Arith.{mod-mul}
 use lib.ListN.{length}
+use lib.Pow.{pow-pos}
 use Rattle.fields.specs.Bytes.{byteAt, part, number2, number4, number8}
+use Rattle.sets.specs.Groups.{width}
+use Rattle.sets.specs.Words.{wordOf, joined}
+use Rattle.sets.proofs.Words.{joined-whole}
+use Rattle.sets.proofs.EachWord.{each, each-wordOf}
+use Rattle.header.specs.declared.edition.Edition.the-variants.{Two}
+use Rattle.records.specs.Fields.{wordsAt, groupsAt}
 use Rattle.labels.specs.Label.{Marks}
 use Rattle.sessions.specs.Session.{SessionMarks}
-use Rattle.encoding.specs.Labels.{bytes8, labelBytes, labelIn, wordThen, highGroups, LabelFits}
-use Rattle.encoding.proofs.Wide.{word-then-none}
+use Rattle.encoding.specs.Labels.{bytes8, setBytes, labelBytes, labelIn, LabelFits}
 use Rattle.encoding.specs.Sessions.{sessionBytes, sessionIn, oneUser, SessionPartsFit, Holds}
 
 -- ---- a word in eight bytes
@@ -46,31 +52,38 @@ word-back w h =
 
 -- ---- a label in 48 bytes
 pub label-length : (m : Marks) → length (labelBytes m) ≡ 48
-unfolding labelBytes
+unfolding labelBytes setBytes
 label-length m = refl
 
 -- where its parts stand
 level-place : (m : Marks) → byteAt (labelBytes m) 4 ≡ m .level
-unfolding labelBytes
+unfolding labelBytes setBytes
 level-place m = refl
 
 compartments-place : (m : Marks) → number8 (labelBytes m) 8 ≡ number8 (bytes8 (m .compartments)) 0
-unfolding labelBytes number8 number4 number2
+unfolding labelBytes setBytes number8 number4 number2
 compartments-place m = refl
 
-groups-place : (m : Marks) → number8 (labelBytes m) 16 ≡ number8 (bytes8 (m .groups)) 0
-unfolding labelBytes number8 number4 number2
+groups-place : (m : Marks) → wordsAt 4 (labelBytes m) 16 ≡ map (λ w. number8 (bytes8 w) 0) (each (wordOf (m .groups)) 4)
+unfolding labelBytes setBytes number8 number4 number2
 groups-place m = refl
 
-no-high : (m : Marks) → highGroups (labelBytes m) ≡ 0
-unfolding labelBytes number8 number4 number2 wordThen
-no-high m = refl
+-- the words of a set, each through its bytes
+words-back : (s n : ℕ) → map (λ w. number8 (bytes8 w) 0) (each (wordOf s) n) ≡ each (wordOf s) n
+words-back s n = at (wordOf s) (λ k. mod-lt (s / 2 ^ (64 * k)) (pow-pos 64)) n
+  where
+    at : (f : ℕ → ℕ) → ((k : ℕ) → f k < 2 ^ 64) → (n : ℕ) → map (λ w. number8 (bytes8 w) 0) (each f n) ≡ each f n
+    at f h zero = refl
+    at f h (suc n) = ap₂ (λ (w : ℕ) (ws : List ℕ). w ∷ ws) (word-back (f 0) (h 0)) (at (λ k. f (suc k)) (λ k. h (suc k)) n)
+
+groups-back : (m : Marks) → m .groups < 2 ^ width → groupsAt Two (labelBytes m) 16 ≡ m .groups
+unfolding groupsAt
+groups-back m h = ap joined (groups-place m ∙ words-back (m .groups) 4 ∙ each-wordOf 4 (m .groups)) ∙ joined-whole 4 (m .groups) h
 
 pub label-back : (m : Marks) → LabelFits m → labelIn (labelBytes m) ≡ m
 unfolding labelIn
 label-back m fits =
-    at _ _ _ (level-place m) (compartments-place m ∙ word-back (m .compartments) (fits .compartments))
-    (sym (word-then-none _ _ (no-high m)) ∙ groups-place m ∙ word-back (m .groups) (fits .groups))
+    at _ _ _ (level-place m) (compartments-place m ∙ word-back (m .compartments) (fits .compartments)) (groups-back m (fits .groups))
   where
     at : (l c g : ℕ) → l ≡ m .level → c ≡ m .compartments → g ≡ m .groups → record { level = l; compartments = c; groups = g } ≡ m
     at l c g p q r = rw (p, q, r)
@@ -81,7 +94,7 @@ label-kept bytes m fits e = (e, ap labelIn e ∙ label-back m fits)
 
 -- ---- a session in 104 bytes
 pub session-length : (s : SessionMarks) → length (sessionBytes s) ≡ 104
-unfolding sessionBytes labelBytes
+unfolding sessionBytes labelBytes setBytes
 session-length s = refl
 
 -- where its parts stand
@@ -90,11 +103,11 @@ unfolding sessionBytes
 user-place s = refl
 
 pub label-place : (s : SessionMarks) → part (sessionBytes s) 8 48 ≡ labelBytes (s .label)
-unfolding sessionBytes labelBytes
+unfolding sessionBytes labelBytes setBytes
 label-place s = refl
 
 pub row-place : (s : SessionMarks) → part (sessionBytes s) 56 48 ≡ labelBytes (s .row)
-unfolding sessionBytes labelBytes
+unfolding sessionBytes labelBytes setBytes
 row-place s = refl
 
 pub one-user : (s : SessionMarks) → oneUser (sessionBytes s) ≡ true

@@ -1,9 +1,11 @@
 -- A label in 48 bytes: byte 4 the level place, 8..15 compartments, 16..47 groups, little-endian sets. The other bytes are written as zero and not looked at.
-use Prim.Native.Nat.{ℕ, _+_, _*_, _/_, _%_, _^_, _<_}
+use Prim.Native.Nat.{ℕ, _/_, _%_, _^_, _<_}
 use mathlib.Core.List.{List, [], _∷_, _++_}
-use lib.ListN.{replicate}
 use Rattle.fields.specs.Bytes.{byteAt, number8}
 use Rattle.sets.specs.Groups.{width}
+use Rattle.sets.specs.Words.{wordOf}
+use Rattle.header.specs.declared.edition.Edition.the-variants.{Two}
+use Rattle.records.specs.Fields.{groupsAt}
 use Rattle.labels.specs.Label.{Marks, marks}
 
 -- the eight bytes of a word, the lowest first
@@ -12,9 +14,12 @@ bytes8 w =
     w % 256 ∷ w / 256 % 256 ∷ w / 65536 % 256 ∷ w / 16777216 % 256 ∷ w / 4294967296 % 256 ∷ w / 1099511627776 % 256
     ∷ w / 281474976710656 % 256 ∷ w / 72057594037927936 % 256 ∷ []
 
+-- the thirty-two bytes of a set of groups
+unfoldable pub setBytes : ℕ → List ℕ
+setBytes s = (bytes8 (wordOf s 0) ++ bytes8 (wordOf s 1)) ++ bytes8 (wordOf s 2) ++ bytes8 (wordOf s 3)
+
 unfoldable pub labelBytes : Marks → List ℕ
-labelBytes m =
-    0 ∷ 0 ∷ 0 ∷ 0 ∷ m .level ∷ 0 ∷ 0 ∷ 0 ∷ bytes8 (m .compartments) ++ bytes8 (m .groups) ++ replicate 24 0
+labelBytes m = 0 ∷ 0 ∷ 0 ∷ 0 ∷ m .level ∷ 0 ∷ 0 ∷ 0 ∷ bytes8 (m .compartments) ++ setBytes (m .groups)
 
 -- each part of the label fits its bytes, as it does in every label of the code: a level of one byte, compartments of eight, and groups
 pub record LabelFits (m : Marks) : Type 0 where
@@ -22,19 +27,6 @@ pub record LabelFits (m : Marks) : Type 0 where
   pub compartments : m .compartments < 2 ^ 64
   pub groups : m .groups < 2 ^ width
 
--- the places of a word, and those of a set past the 64th
-unfoldable pub wordThen : ℕ → ℕ → ℕ
-wordThen word rest = word + 2 ^ 64 * rest
-
--- the groups past the 64th
-abbrev pub highGroups : List ℕ → ℕ
-highGroups bytes = wordThen (number8 bytes 24) (wordThen (number8 bytes 32) (number8 bytes 40))
-
--- the label that 48 bytes hold; the bytes that no field has are not looked at
+-- the label that 48 bytes hold; the bytes that no field has are not looked at. The groups stand as in a record of edition 2
 unfoldable pub labelIn : List ℕ → Marks
-labelIn bytes =
-    marks (byteAt bytes 4) (number8 bytes 8) (wordThen (number8 bytes 16) (highGroups bytes))
-
--- the label that 48 bytes hold, but for the groups past the 64th, for calls that are lent no image
-unfoldable pub lowLabelIn : List ℕ → Marks
-lowLabelIn bytes = marks (byteAt bytes 4) (number8 bytes 8) (number8 bytes 16)
+labelIn bytes = marks (byteAt bytes 4) (number8 bytes 8) (groupsAt Two bytes 16)

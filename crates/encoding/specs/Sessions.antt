@@ -2,14 +2,14 @@
 -- not looked at; 8..55 session label; 56..103 row label.
 use Prim.Native.Nat.{ℕ, _^_, _<_}
 use mathlib.Core.Path.{_≡_}
-use mathlib.Core.Bool.{Bool, true, _&&_}
+use mathlib.Core.Bool.{Bool, true}
 use mathlib.Core.List.{List, _∷_, _++_}
 use lib.Dec.{eqb}
 use Rattle.fields.specs.Bytes.{byteAt, part}
 use Rattle.refusals.specs.declared.answers.Checked.{Checked}
 use Rattle.refusals.specs.Answers.{onChecked, checkedGiven, codeOf}
 use Rattle.sessions.specs.Session.{SessionMarks, sessionMarks}
-use Rattle.encoding.specs.Labels.{labelBytes, labelIn, highGroups, LabelFits}
+use Rattle.encoding.specs.Labels.{labelBytes, labelIn, LabelFits}
 
 unfoldable pub sessionBytes : SessionMarks → List ℕ
 sessionBytes s = s .user ∷ s .user ∷ 0 ∷ 0 ∷ 0 ∷ 0 ∷ 0 ∷ 0 ∷ labelBytes (s .label) ++ labelBytes (s .row)
@@ -32,10 +32,6 @@ oneUser bytes = eqb (byteAt bytes 1) (byteAt bytes 0)
 pub record Holds (bytes : List ℕ) (s : SessionMarks) : Type 0 where
   pub one : oneUser bytes ≡ true
   pub session : sessionIn bytes ≡ s
-
--- one user, and no group past the 64th in either label: such groups no image has
-unfoldable pub sessionFits : List ℕ → Bool
-sessionFits bytes = oneUser bytes && eqb (highGroups (part bytes 8 48)) 0 && eqb (highGroups (part bytes 56 48)) 0
 
 -- what a label change leaves: 0 and the session, or the refusal and the bytes as they were
 abbrev pub changedInto : SessionMarks → Checked → List ℕ → ℕ × List ℕ

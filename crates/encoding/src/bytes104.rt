@@ -1,14 +1,12 @@
 // A session in 104 bytes.
 ghost use mathlib.Core.Path.{_≡_};
-ghost use mathlib.Core.Bool.{true};
 ghost use lib.ListN.{length};
 ghost use Rattle.refusals.specs.Answers.{PlaceFits, checkedGiven};
 ghost use Rattle.sessions.specs.Session.{sessionOf};
-ghost use Rattle.encoding.specs.Sessions.{sessionBytes, sessionIn, sessionFits, changedInto};
+ghost use Rattle.encoding.specs.Sessions.{sessionBytes, sessionIn, oneUser, changedInto};
 use crate::answers::refused;
 use crate::bytes48::label_bytes;
 use crate::bytes48::label_in;
-use crate::bytes48::only_low_groups;
 use refusals::answers::Checked;
 use sessions::answers::Changed;
 use sessions::session::Session;
@@ -27,17 +25,17 @@ pub fn session_bytes(session: Session) -> [u8; 104]
     b
 }
 
-// Has the session one user, and do its labels name only groups that an image of edition 1 can have?
-pub fn session_fits(bytes: &[u8]) -> bool
+// Is the signed-on user the user?
+pub fn one_user(bytes: &[u8]) -> bool
     requires { ⌜ length (now bytes) ≡ 104 ⌝ }
-    ensures { λ r. ⌜ r ≡ sessionFits (now (bytes .entry)) ⌝ }
+    ensures { λ r. ⌜ r ≡ oneUser (now (bytes .entry)) ⌝ }
 {
-    (bytes[1] == bytes[0]) & only_low_groups(&bytes[8..56]) & only_low_groups(&bytes[56..104])
+    bytes[1] == bytes[0]
 }
 
-// The session that the bytes hold, where they name no other groups.
+// The session that the bytes hold.
 pub fn session_in(bytes: &[u8]) -> Session
-    requires { ⌜ (length (now bytes) ≡ 104) × (sessionFits (now bytes) ≡ true) ⌝ }
+    requires { ⌜ length (now bytes) ≡ 104 ⌝ }
     ensures { λ r. ⌜ sessionOf r ≡ sessionIn (now (bytes .entry)) ⌝ }
 {
     Session {

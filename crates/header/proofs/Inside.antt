@@ -15,7 +15,8 @@ use Rattle.header.specs.declared.layout.Kind.{Kind}
 use Rattle.header.specs.declared.layout.Kind.the-variants.{Component, Label, User}
 use Rattle.header.specs.declared.layout.Shape.{Shape}
 use Rattle.header.specs.declared.layout.Contents.{Contents}
-use Rattle.header.specs.Layout.{recordSize, capacityOf, countOf, blocksFor, blocksOf, firstBlock, blocksNeeded, Fitted, shapeOf, Roomy, Shaped, recordBlock, recordSlot, recordOffset, recordAt, recordsOf, OneBlock, kindAt, contentsOf}
+use Rattle.header.proofs.Editions.{kind-roomy}
+use Rattle.header.specs.Layout.{editionOf, recordSize, countOf, blocksFor, blocksOf, firstBlock, blocksNeeded, Fitted, shapeOf, Roomy, Shaped, recordBlock, recordSlot, recordOffset, recordAt, recordsOf, OneRun, OneBlock, kindAt, contentsOf}
 
 -- ---- places counted by c at a time
 -- of i and a place j later in the same run of c
@@ -127,9 +128,7 @@ module _ (shape : Shape) (roomy : Roomy shape) where
 
 -- ---- the shapes of an image
 pub shape-roomy : (im : List ℕ) (kind : Kind) → Roomy (shapeOf im kind)
-shape-roomy im Component = record { some = omega arith; few = omega arith; room = omega arith }
-shape-roomy im Label = record { some = omega arith; few = omega arith; room = omega arith }
-shape-roomy im User = record { some = omega arith; few = omega arith; room = omega arith }
+shape-roomy im kind = kind-roomy (editionOf im) kind (firstBlock im kind) (countOf im kind)
 
 -- a kind's blocks are among those of the image
 pub blocks-among : (im : List ℕ) (kind : Kind) → firstBlock im kind + blocksOf im kind ≤ blocksNeeded im
@@ -195,6 +194,14 @@ held-is im b low high =
 pub held-by : (im : List ℕ) (b : ℕ) (c : Contents) → c ≡ contentsOf im b → 1 ≤ b → b < blocksNeeded im → Held im c
 held-by im b c e low high = rw e (held-is im b low high)
 
+-- its records are a run in one block
+pub held-run : (im : List ℕ) (b : ℕ) → OneRun im (contentsOf im b .kind) (contentsOf im b .from) (contentsOf im b .to)
+unfolding contentsOf
+held-run im b =
+    let shape : Shape = shapeOf im (kindAt im b) in
+    let first : recordSlot shape (shape .capacity * (b - shape .first)) ≡ 0 = mul-mod-right (shape .capacity) (b - shape .first) in
+    omega (arith, first)
+
 -- a block that the counts need lies inside a fitted image
 pub block-inside : (im : List ℕ) (b : ℕ) → Fitted im → b < blocksNeeded im → 512 * b + 512 ≤ length im
 block-inside im b fit h = omega arith
@@ -209,7 +216,7 @@ module _ (im : List ℕ) (fit : Fitted im) where
   unfolding blocksNeeded
   header-inside = omega arith
 
-  pub record-inside : (kind : Kind) (i : ℕ) → i < countOf im kind → recordOffset (shapeOf im kind) i + recordSize kind ≤ length im
+  pub record-inside : (kind : Kind) (i : ℕ) → i < countOf im kind → recordOffset (shapeOf im kind) i + recordSize (editionOf im) kind ≤ length im
   record-inside kind i h =
       omega (arith, record-among (shapeOf im kind) (shape-roomy im kind) i h, blocks-among im kind)
 
@@ -217,18 +224,18 @@ module _ (im : List ℕ) (fit : Fitted im) where
   record-upto kind i h =
       omega (arith, record-end (shapeOf im kind) (shape-roomy im kind) i h, blocks-among im kind)
 
-  pub record-length : (kind : Kind) (i : ℕ) → i < countOf im kind → length (recordAt im kind i) ≡ recordSize kind
+  pub record-length : (kind : Kind) (i : ℕ) → i < countOf im kind → length (recordAt im kind i) ≡ recordSize (editionOf im) kind
   unfolding recordAt
-  record-length kind i h = part-length im (recordOffset (shapeOf im kind) i) (recordSize kind) (record-inside kind i h)
+  record-length kind i h = part-length im (recordOffset (shapeOf im kind) i) (recordSize (editionOf im) kind) (record-inside kind i h)
 
 -- ---- a run of records in one block: where each of them stands
 pub one-block : (im : List ℕ) (kind : Kind) (first from to j : ℕ) → OneBlock im kind first from to → from ≤ j → j < to
-    → first + recordSize kind * (j - from) ≡ recordOffset (shapeOf im kind) j
+    → first + recordSize (editionOf im) kind * (j - from) ≡ recordOffset (shapeOf im kind) j
 one-block im kind first from to j one low high =
     let shape : Shape = shapeOf im kind in
     let h = slot-below shape (shape-roomy im kind) from in
     let e : from + (j - from) ≡ j = omega arith in
-    ap (λ (n : ℕ). n + recordSize kind * (j - from)) (one .begins)
+    ap (λ (n : ℕ). n + recordSize (editionOf im) kind * (j - from)) (one .begins)
     ∙ sym (same-block shape (shape-roomy im kind) from (j - from) (omega (arith, one .upto)))
     ∙ ap (recordOffset shape) e
 

@@ -7,11 +7,23 @@ use lib.Dec.{eqb, ltb}
 use lib.ListN.{length}
 use Rattle.fields.specs.Bytes.{byteAt, part, number2}
 use Rattle.fields.specs.Scan.{listFrom}
+use Rattle.header.specs.declared.edition.Edition.{Edition}
+use Rattle.header.specs.declared.edition.Edition.the-variants.{One, Two}
 use Rattle.header.specs.declared.layout.Kind.{Kind}
 use Rattle.header.specs.declared.layout.Kind.the-variants.{Component, Label, User}
 use Rattle.header.specs.declared.layout.Shape.{Shape}
 use Rattle.header.specs.declared.layout.Contents.{Contents}
 use Rattle.header.specs.declared.walk.RecordAt.{RecordAt}
+
+-- ---- block 0: the edition, byte 4
+-- A header whose edition is neither 1 nor 2 is at fault (`headerRule`); its counts are read as those of edition 1.
+unfoldable pub editionOf : List ℕ → Edition
+editionOf im = cond (eqb (byteAt im 4) 2) Two One
+
+-- a number that differs between the editions
+abbrev pub byEdition : Edition → ℕ → ℕ → ℕ
+byEdition One one two = one
+byEdition Two one two = two
 
 -- ---- block 0: the counts
 unfoldable pub levels : List ℕ → ℕ
@@ -20,8 +32,9 @@ levels im = byteAt im 5
 unfoldable pub compartments : List ℕ → ℕ
 compartments im = byteAt im 6
 
+-- byte 7, in edition 2 bytes 14 and 15
 unfoldable pub groups : List ℕ → ℕ
-groups im = byteAt im 7
+groups im = byEdition (editionOf im) (byteAt im 7) (number2 im 14)
 
 unfoldable pub users : List ℕ → ℕ
 users im = number2 im 8
@@ -32,14 +45,15 @@ labels im = number2 im 10
 unfoldable pub components : List ℕ → ℕ
 components im = levels im + compartments im + groups im
 
--- ---- what the rules of records ask of the counts: how many components there are of each class
+-- ---- what the rules of records ask of the header: the edition, and how many components there are of each class
 pub record Counts : Type 0 where
+  pub edition : Edition
   pub levels : ℕ
   pub compartments : ℕ
   pub groups : ℕ
 
 abbrev pub countsOf : List ℕ → Counts
-countsOf im = record { levels = levels im; compartments = compartments im; groups = groups im }
+countsOf im = record { edition = editionOf im; levels = levels im; compartments = compartments im; groups = groups im }
 
 -- ---- classes: 1 level, 2 compartment, 3 group. Levels come first, then compartments, then groups
 -- how many components a class has
@@ -61,16 +75,16 @@ kindByte Label = 76
 kindByte User = 85
 
 -- how many bytes a record has
-abbrev pub recordSize : Kind → ℕ
-recordSize Component = 40
-recordSize Label = 24
-recordSize User = 128
+abbrev pub recordSize : Edition → Kind → ℕ
+recordSize edition Component = 40
+recordSize edition Label = byEdition edition 24 48
+recordSize edition User = byEdition edition 128 200
 
 -- how many records a block holds
-abbrev pub capacityOf : Kind → ℕ
-capacityOf Component = 12
-capacityOf Label = 21
-capacityOf User = 3
+abbrev pub capacityOf : Edition → Kind → ℕ
+capacityOf edition Component = 12
+capacityOf edition Label = byEdition edition 21 10
+capacityOf edition User = byEdition edition 3 2
 
 -- how many records the counts name
 abbrev pub countOf : List ℕ → Kind → ℕ
@@ -84,7 +98,7 @@ unfoldable pub blocksFor : ℕ → ℕ → ℕ
 blocksFor capacity count = (count + (capacity - 1)) / capacity
 
 abbrev pub blocksOf : List ℕ → Kind → ℕ
-blocksOf im kind = blocksFor (capacityOf kind) (countOf im kind)
+blocksOf im kind = blocksFor (capacityOf (editionOf im) kind) (countOf im kind)
 
 unfoldable pub firstBlock : List ℕ → Kind → ℕ
 firstBlock im Component = 1
@@ -101,7 +115,8 @@ Fitted im = length im ≡ 512 * blocksNeeded im
 -- ---- a kind's shape: its first block, the size of a record, how many a block holds, how many there are
 abbrev pub shapeOf : List ℕ → Kind → Shape
 shapeOf im kind =
-    record { first = firstBlock im kind; size = recordSize kind; capacity = capacityOf kind; count = countOf im kind }
+    record
+    { first = firstBlock im kind; size = recordSize (editionOf im) kind; capacity = capacityOf (editionOf im) kind; count = countOf im kind }
 
 -- a block holds one record or more, no more than its byte 1 can tell, and has room for them
 pub record Roomy (shape : Shape) : Type 0 where
@@ -113,7 +128,7 @@ pub record Roomy (shape : Shape) : Type 0 where
 pub record Shaped (im : List ℕ) (kind : Kind) (shape : Shape) : Type 0 where
   pub is : shape ≡ shapeOf im kind
   pub roomy : Roomy shape
-  pub few : shape .count < 65536
+  pub few : shape .count < 131072
 
 -- ---- where the record at place i stands: its block, its place there, and its first byte
 abbrev pub recordBlock : Shape → ℕ → ℕ
@@ -126,7 +141,7 @@ unfoldable pub recordOffset : Shape → ℕ → ℕ
 recordOffset shape i = 512 * recordBlock shape i + 4 + shape .size * recordSlot shape i
 
 unfoldable pub recordAt : List ℕ → Kind → ℕ → List ℕ
-recordAt im kind i = part im (recordOffset (shapeOf im kind) i) (recordSize kind)
+recordAt im kind i = part im (recordOffset (shapeOf im kind) i) (recordSize (editionOf im) kind)
 
 abbrev pub componentRecord : List ℕ → ℕ → List ℕ
 componentRecord im i = recordAt im Component i
@@ -146,10 +161,14 @@ pub record Standing (shape : Shape) (j : ℕ) (here : RecordAt) : Type 0 where
   pub begins : here .at ≡ recordOffset shape j
   pub more : here .left ≡ shape .capacity - recordSlot shape j
 
--- the records from `from` up to `to` stand in one block, the first of them at `first`
+-- the records from `from` up to `to` stand in one block
+abbrev pub OneRun : List ℕ → Kind → ℕ → ℕ → Type 0
+OneRun im kind from to = to ≤ from + (capacityOf (editionOf im) kind - recordSlot (shapeOf im kind) from)
+
+-- the same, and the first of them begins at `first`
 pub record OneBlock (im : List ℕ) (kind : Kind) (first from to : ℕ) : Type 0 where
   pub begins : first ≡ recordOffset (shapeOf im kind) from
-  pub upto : to ≤ from + (capacityOf kind - recordSlot (shapeOf im kind) from)
+  pub upto : OneRun im kind from to
 
 -- where a component's name begins
 abbrev pub componentNameOffset : List ℕ → ℕ → ℕ

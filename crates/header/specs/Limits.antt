@@ -1,20 +1,24 @@
 -- The limits of an image's counts and of label text, and what code may take for granted once header and length are sound.
 use Prim.Native.Nat.{ℕ, _≤_}
 use mathlib.Core.List.{List}
-use Rattle.header.specs.Layout.{levels, compartments, groups, users, labels, Fitted}
+use Rattle.header.specs.declared.edition.Edition.{Edition}
+use Rattle.header.specs.declared.limits.Limits.{Limits}
+use Rattle.header.specs.Layout.{editionOf, byEdition, levels, compartments, groups, users, labels, Fitted}
 
 -- the most that an image may have of each, and the longest text that is read under it
-pub record Limits : Type 0 where
-  pub levels : ℕ
-  pub compartments : ℕ
-  pub groups : ℕ
-  pub users : ℕ
-  pub labels : ℕ
-  pub text : ℕ
+abbrev pub limitsIn : Edition → Limits
+limitsIn edition =
+    record {
+      levels = 32;
+      compartments = 64;
+      groups = byEdition edition 64 256;
+      users = byEdition edition 96 32;
+      labels = byEdition edition 1680 800;
+      text = byEdition edition 4096 10000;
+    }
 
--- those of edition 1, the only one
 abbrev pub limitsOf : List ℕ → Limits
-limitsOf im = record { levels = 32; compartments = 64; groups = 64; users = 96; labels = 1680; text = 4096 }
+limitsOf im = limitsIn (editionOf im)
 
 -- the length is what the counts need, and no count is past its limit
 pub record Counted (im : List ℕ) : Type 0 where

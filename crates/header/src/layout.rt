@@ -2,9 +2,13 @@
 ghost use Prim.Native.Nat.{_+_, _-_, _*_, _/_, _%_, _^_, _<_, _≤_, min};
 ghost use mathlib.Core.Path.{_≡_};
 ghost use lib.ListN.{length};
-ghost use Rattle.header.specs.Layout.{countsOf, classCount, classFirst, classAt, kindByte, recordSize, capacityOf, countOf, blocksOf, firstBlock, blocksNeeded, Fitted, Roomy, Shaped, recordBlock, recordSlot, recordOffset, recordAt, componentNameOffset};
+ghost use Rattle.header.specs.Layout.{editionOf, countsOf, classCount, classFirst, classAt, kindByte, recordSize, capacityOf, countOf, blocksOf, firstBlock, blocksNeeded, Fitted, Roomy, Shaped, recordBlock, recordSlot, recordOffset, recordAt, componentNameOffset};
 ghost use Rattle.header.specs.Layout as layout;
+ghost use Rattle.header.specs.declared.edition.Edition.the-variants.{One};
 ghost use Rattle.header.specs.declared.layout.Kind.the-variants as kind;
+use crate::edition::Edition;
+use crate::edition::by_edition;
+use crate::edition::edition_of;
 use fields::numbers::number2;
 
 // What the records of a block are.
@@ -46,9 +50,12 @@ pub fn compartments(image: &[u8]) -> usize
 
 pub fn groups(image: &[u8]) -> usize
     requires { ⌜ 512 ≤ length (now image) ⌝ }
-    ensures { λ r. ⌜ (r ≡ layout.groups (now (image .entry))) × (r < 256) ⌝ }
+    ensures { λ r. ⌜ (r ≡ layout.groups (now (image .entry))) × (r < 65536) ⌝ }
 {
-    image[7] as usize
+    match edition_of(image) {
+        Edition::One => image[7] as usize,
+        Edition::Two => number2(image, 14) as usize,
+    }
 }
 
 pub fn users(image: &[u8]) -> usize
@@ -67,7 +74,7 @@ pub fn labels(image: &[u8]) -> usize
 
 pub fn components(image: &[u8]) -> usize
     requires { ⌜ 512 ≤ length (now image) ⌝ }
-    ensures { λ r. ⌜ (r ≡ layout.components (now (image .entry))) × (r < 768) ⌝ }
+    ensures { λ r. ⌜ (r ≡ layout.components (now (image .entry))) × (r < 131072) ⌝ }
 {
     levels(image) + compartments(image) + groups(image)
 }
@@ -75,7 +82,7 @@ pub fn components(image: &[u8]) -> usize
 // How many components a class has: 1 level, 2 compartment, 3 group.
 pub fn class_count(image: &[u8], class: u8) -> usize
     requires { ⌜ 512 ≤ length (now image) ⌝ }
-    ensures { λ r. ⌜ (r ≡ classCount (countsOf (now (image .entry))) class) × (r < 256) ⌝ }
+    ensures { λ r. ⌜ (r ≡ classCount (countsOf (now (image .entry))) class) × (r < 65536) ⌝ }
 {
     if class == 1 {
         return levels(image);
@@ -126,31 +133,31 @@ pub fn kind_byte(kind: Kind) -> u8
 }
 
 // How many bytes a record has.
-pub fn size(kind: Kind) -> usize
-    ensures { λ r. ⌜ r ≡ recordSize kind ⌝ }
+pub fn size(edition: Edition, kind: Kind) -> usize
+    ensures { λ r. ⌜ r ≡ recordSize edition kind ⌝ }
 {
     match kind {
         Kind::Component => 40,
-        Kind::Label => 24,
-        Kind::User => 128,
+        Kind::Label => by_edition(edition, 24, 48),
+        Kind::User => by_edition(edition, 128, 200),
     }
 }
 
 // How many records a block holds.
-fn capacity(kind: Kind) -> usize
-    ensures { λ r. ⌜ (r ≡ capacityOf kind) × ((1 ≤ r) × (r ≤ 21)) ⌝ }
+fn capacity(edition: Edition, kind: Kind) -> usize
+    ensures { λ r. ⌜ (r ≡ capacityOf edition kind) × ((1 ≤ r) × (r ≤ 21)) ⌝ }
 {
     match kind {
         Kind::Component => 12,
-        Kind::Label => 21,
-        Kind::User => 3,
+        Kind::Label => by_edition(edition, 21, 10),
+        Kind::User => by_edition(edition, 3, 2),
     }
 }
 
 // How many records the counts name.
 pub fn count(image: &[u8], kind: Kind) -> usize
     requires { ⌜ 512 ≤ length (now image) ⌝ }
-    ensures { λ r. ⌜ (r ≡ countOf (now (image .entry)) kind) × (r < 65536) ⌝ }
+    ensures { λ r. ⌜ (r ≡ countOf (now (image .entry)) kind) × (r < 131072) ⌝ }
 {
     match kind {
         Kind::Component => components(image),
@@ -162,15 +169,15 @@ pub fn count(image: &[u8], kind: Kind) -> usize
 // How many blocks they need.
 fn blocks(image: &[u8], kind: Kind) -> usize
     requires { ⌜ 512 ≤ length (now image) ⌝ }
-    ensures { λ r. ⌜ (r ≡ blocksOf (now (image .entry)) kind) × (r < 65557) ⌝ }
+    ensures { λ r. ⌜ (r ≡ blocksOf (now (image .entry)) kind) × (r < 131093) ⌝ }
 {
-    let held = capacity(kind);
+    let held = capacity(edition_of(image), kind);
     (count(image, kind) + (held - 1)) / held
 }
 
 pub fn first_block(image: &[u8], kind: Kind) -> usize
     requires { ⌜ 512 ≤ length (now image) ⌝ }
-    ensures { λ r. ⌜ (r ≡ firstBlock (now (image .entry)) kind) × (r < 131115) ⌝ }
+    ensures { λ r. ⌜ (r ≡ firstBlock (now (image .entry)) kind) × (r < 262187) ⌝ }
 {
     match kind {
         Kind::Component => 1,
@@ -181,7 +188,7 @@ pub fn first_block(image: &[u8], kind: Kind) -> usize
 
 pub fn blocks_needed(image: &[u8]) -> usize
     requires { ⌜ 512 ≤ length (now image) ⌝ }
-    ensures { λ r. ⌜ (r ≡ blocksNeeded (now (image .entry))) × (r < 200000) ⌝ }
+    ensures { λ r. ⌜ (r ≡ blocksNeeded (now (image .entry))) × (r < 400000) ⌝ }
 {
     first_block(image, Kind::User) + blocks(image, Kind::User)
 }
@@ -190,10 +197,11 @@ pub fn shape_of(image: &[u8], kind: Kind) -> Shape
     requires { ⌜ 512 ≤ length (now image) ⌝ }
     ensures { λ r. ⌜ Shaped (now (image .entry)) kind r ⌝ }
 {
+    let edition = edition_of(image);
     Shape {
         first: first_block(image, kind),
-        size: size(kind),
-        capacity: capacity(kind),
+        size: size(edition, kind),
+        capacity: capacity(edition, kind),
         count: count(image, kind),
     }
 }
@@ -224,13 +232,28 @@ pub fn record_offset(shape: Shape, i: usize) -> usize
     512 * shape.first + 4 + shape.size * i + gap * (i / shape.capacity)
 }
 
+// The part of the image that starts at that record, which begins at `at`.
+pub fn placed_part<'a>(image: &'a [u8], shape: Shape, kind: Kind, i: usize, at: usize) -> &'a [u8]
+    requires { ⌜ Fitted (now image) × (Shaped (now image) kind shape × ((i < countOf (now image) kind) × (at ≡ recordOffset shape i))) ⌝ }
+    ensures { λ r. ⌜ (now r ≡ recordAt (now (image .entry)) kind i) × ((length (now r) ≡ recordSize (editionOf (now (image .entry))) kind) × (recordSize One kind ≤ length (now r))) ⌝ }
+{
+    &image[at..at + shape.size]
+}
+
+// The same by the shape of its kind, which a search works out once.
+pub fn shaped_part<'a>(image: &'a [u8], shape: Shape, kind: Kind, i: usize) -> &'a [u8]
+    requires { ⌜ Fitted (now image) × (Shaped (now image) kind shape × (i < countOf (now image) kind)) ⌝ }
+    ensures { λ r. ⌜ (now r ≡ recordAt (now (image .entry)) kind i) × ((length (now r) ≡ recordSize (editionOf (now (image .entry))) kind) × (recordSize One kind ≤ length (now r))) ⌝ }
+{
+    placed_part(image, shape, kind, i, record_offset(shape, i))
+}
+
 // The part of the image that starts at that record.
 pub fn record_part<'a>(image: &'a [u8], kind: Kind, i: usize) -> &'a [u8]
     requires { ⌜ Fitted (now image) × (i < countOf (now image) kind) ⌝ }
-    ensures { λ r. ⌜ (now r ≡ recordAt (now (image .entry)) kind i) × (length (now r) ≡ recordSize kind) ⌝ }
+    ensures { λ r. ⌜ (now r ≡ recordAt (now (image .entry)) kind i) × ((length (now r) ≡ recordSize (editionOf (now (image .entry))) kind) × (recordSize One kind ≤ length (now r))) ⌝ }
 {
-    let at = record_offset(shape_of(image, kind), i);
-    &image[at..at + size(kind)]
+    shaped_part(image, shape_of(image, kind), kind, i)
 }
 
 // Where the name of the component at place i among all components begins.

@@ -2,25 +2,47 @@
 ghost use Prim.Native.Nat.{_*_, _≤_};
 ghost use mathlib.Core.Path.{_≡_};
 ghost use lib.ListN.{length};
-ghost use Rattle.header.specs.Header.{headerRule, fitRule};
+ghost use Rattle.header.specs.Header.{countsRule, unusedRule, headerRule, fitRule};
+use crate::edition::Edition;
+use crate::edition::edition_of;
 use crate::layout;
+use crate::limits::limits_in;
 use fields::numbers::all_zero;
+
+// No count is past its limit, and there is a level.
+fn counts_ok(image: &[u8]) -> bool
+    requires { ⌜ 512 ≤ length (now image) ⌝ }
+    ensures { λ r. ⌜ r ≡ countsRule (now (image .entry)) ⌝ }
+{
+    let limits = limits_in(edition_of(image));
+    let levels = layout::levels(image);
+    (1 <= levels)
+        & (levels <= limits.levels)
+        & (layout::compartments(image) <= limits.compartments)
+        & (layout::groups(image) <= limits.groups)
+        & (layout::users(image) <= limits.users)
+        & (layout::labels(image) <= limits.labels)
+}
+
+fn unused_ok(image: &[u8], edition: Edition) -> bool
+    requires { ⌜ 512 ≤ length (now image) ⌝ }
+    ensures { λ r. ⌜ r ≡ unusedRule edition (now (image .entry)) ⌝ }
+{
+    match edition {
+        Edition::One => all_zero(&image[12..510]),
+        Edition::Two => { (image[7] == 0) & all_zero(&image[12..14]) & all_zero(&image[16..510]) }
+    }
+}
 
 pub fn header_ok(image: &[u8]) -> bool
     requires { ⌜ 512 ≤ length (now image) ⌝ }
     ensures { λ r. ⌜ r ≡ headerRule (now (image .entry)) ⌝ }
 {
-    let levels = layout::levels(image);
     (image[0] == 80)
         & (image[1] == 0)
-        & (image[4] == 1)
-        & (1 <= levels)
-        & (levels <= 32)
-        & (layout::compartments(image) <= 64)
-        & (layout::groups(image) <= 64)
-        & (layout::users(image) <= 96)
-        & (layout::labels(image) <= 1680)
-        & all_zero(&image[12..510])
+        & ((image[4] == 1) | (image[4] == 2))
+        & counts_ok(image)
+        & unused_ok(image, edition_of(image))
 }
 
 pub fn fit_ok(image: &[u8]) -> bool

@@ -1,16 +1,16 @@
--- The walk along parents. What n steps meet are ancestors; where the parents end within n steps, they are all of them, and
--- more steps meet no more. Assumes nothing.
+-- The walk along parents. What n steps meet are ancestors; where the parents end within n steps, they are all of them.
+-- Assumes nothing.
 use Prim.Native.Nat.{ℕ, zero, suc, _+_, _<_}
 use mathlib.Core.Path.{_≡_, refl, sym, ap, _∙_}
 use mathlib.Core.Bool.{Bool, true, false, _||_, or-true, true≢false}
 use mathlib.Core.List.{List}
 use native.Mathlib.Nat.{suc-add}
+use native.Mathlib.Numerals.{add-one}
 use borrow.Author.Tests.{eq-eqb, eqb-true, ltb-true}
 use lib.Bits.{or-zero-r}
 use lib.Dec.{eqb}
-use Rattle.sets.specs.Sets.{has, none, one, union, within}
+use Rattle.sets.specs.Sets.{has, none, one, union}
 use Rattle.sets.proofs.Has.{none-has, one-has, union-has}
-use Rattle.sets.proofs.Within.{has-within}
 use Rattle.header.specs.Layout.{groups}
 use Rattle.hierarchy.specs.Below.{parent, hasParent, Above, here, up, endsWithin, lineageWithin}
 
@@ -32,16 +32,16 @@ module _ (im : List ℕ) where
   unfolding endsWithin
   ends-none g = refl
 
-  pub lineage-step : (n g : ℕ) → hasParent im g ≡ true
+  lineage-step : (n g : ℕ) → hasParent im g ≡ true
       → lineageWithin im (suc n) g ≡ union (one g) (lineageWithin im n (parent im g))
   unfolding lineageWithin
   lineage-step n g e = rw e
 
-  pub lineage-here : (n g : ℕ) → hasParent im g ≡ false → lineageWithin im (suc n) g ≡ one g
+  lineage-here : (n g : ℕ) → hasParent im g ≡ false → lineageWithin im (suc n) g ≡ one g
   unfolding lineageWithin
   lineage-here n g e = rw e (or-zero-r (one g))
 
-  pub lineage-none : (g : ℕ) → lineageWithin im 0 g ≡ none
+  lineage-none : (g : ℕ) → lineageWithin im 0 g ≡ none
   unfolding lineageWithin
   lineage-none g = refl
 
@@ -77,7 +77,7 @@ module _ (im : List ℕ) where
       at false false e k later = absurd (true≢false (sym h ∙ here-has n g p e ∙ k))
 
   -- and where the parents end, all of them
-  ends-parent : (n g : ℕ) → endsWithin im (suc n) g ≡ true → hasParent im g ≡ true → endsWithin im n (parent im g) ≡ true
+  pub ends-parent : (n g : ℕ) → endsWithin im (suc n) g ≡ true → hasParent im g ≡ true → endsWithin im n (parent im g) ≡ true
   ends-parent n g h e = sym (ends-step n g e) ∙ h
 
   pub above-lineage : (n g p : ℕ) → endsWithin im n g ≡ true → Above im g p → has (lineageWithin im n g) p ≡ true
@@ -109,31 +109,10 @@ module _ (im : List ℕ) where
       at true e later = ends-step (n + k) g e ∙ later (ends-parent n g h e)
       at false e later = ends-here (n + k) g e
 
-  more-has : (n k g p : ℕ) → has (lineageWithin im n g) p ≡ true → has (lineageWithin im (n + k) g) p ≡ true
-  more-has zero k g p h = absurd (true≢false (sym h ∙ ap (λ (s : ℕ). has s p) (lineage-none g) ∙ none-has p))
-  more-has (suc n) k g p h = rw suc-add (at (hasParent im g) (eqb g p) refl refl (more-has n k (parent im g) p))
-    where
-      at : (t u : Bool) → hasParent im g ≡ t → eqb g p ≡ u
-          → (has (lineageWithin im n (parent im g)) p ≡ true → has (lineageWithin im (n + k) (parent im g)) p ≡ true)
-          → has (lineageWithin im (suc (n + k)) g) p ≡ true
-      at true true e d later = step-has (n + k) g p e ∙ rw d
-      at true false e d later = step-has (n + k) g p e ∙ rw d (later (sym (step-has n g p e ∙ rw d) ∙ h))
-      at false u e d later = here-has (n + k) g p e ∙ sym (here-has n g p e) ∙ h
-
-  pub lineage-mono : (n k g : ℕ) → within (lineageWithin im n g) (lineageWithin im (n + k) g) ≡ true
-  lineage-mono n k g = has-within (lineageWithin im n g) (lineageWithin im (n + k) g) (more-has n k g)
-
-  -- a walk that ended meets no more
-  pub ends-keeps : (n k g : ℕ) → endsWithin im n g ≡ true → lineageWithin im (n + k) g ≡ lineageWithin im n g
-  ends-keeps zero k g h = absurd (true≢false (sym h ∙ ends-none g))
-  ends-keeps (suc n) k g h = rw suc-add (at (hasParent im g) refl (ends-keeps n k (parent im g)))
-    where
-      at : (t : Bool) → hasParent im g ≡ t
-          → (endsWithin im n (parent im g) ≡ true → lineageWithin im (n + k) (parent im g) ≡ lineageWithin im n (parent im g))
-          → lineageWithin im (suc (n + k)) g ≡ lineageWithin im (suc n) g
-      at true e later =
-          lineage-step (n + k) g e ∙ ap (union (one g)) (later (ends-parent n g h e)) ∙ sym (lineage-step n g e)
-      at false e later = lineage-here (n + k) g e ∙ sym (lineage-here n g e)
+  -- the parents of an ancestor end too
+  pub ends-up : (n g : ℕ) → endsWithin im n g ≡ true → hasParent im g ≡ true → endsWithin im n (parent im g) ≡ true
+  ends-up zero g h e = absurd (true≢false (sym h ∙ ends-none g))
+  ends-up (suc n) g h e = rw (← add-one) (ends-mono n 1 (parent im g) (ends-parent n g h e))
 
   -- ---- where the walk ends
   pub ends-top : (n g : ℕ) → endsWithin im n g ≡ true → (p : ℕ) × (Above im g p × (hasParent im p ≡ false))

@@ -1,4 +1,4 @@
--- Groups: parents, ancestors and what lies below a set. A parent that is no group, as 255, is none: the rules of components
+-- Groups: parents, ancestors and what lies below a set. A parent that is no group is none: the rules of components
 -- leave no other one in an accepted image.
 use Prim.Native.Nat.{ℕ, zero, suc, _+_, _<_}
 use mathlib.Core.Path.{_≡_}
@@ -8,12 +8,12 @@ use lib.Dec.{ltb}
 use lib.ListN.{getD}
 use Rattle.fields.specs.Scan.{firstBad}
 use Rattle.sets.specs.Sets.{none, one, union, meets, within, collect}
-use Rattle.header.specs.Layout.{groups, users, countsOf, classFirst, componentRecord, userRecord}
+use Rattle.header.specs.Layout.{editionOf, groups, users, countsOf, classFirst, componentRecord, userRecord}
 use Rattle.records.specs.Fields.{parentOf, readGroups, writeGroups, defaultGroups, rowGroups}
 
 -- the parent's place of group g, and whether it has one
 unfoldable pub parent : List ℕ → ℕ → ℕ
-parent im g = parentOf (componentRecord im (classFirst (countsOf im) 3 + g))
+parent im g = parentOf (editionOf im) (componentRecord im (classFirst (countsOf im) 3 + g))
 
 unfoldable pub hasParent : List ℕ → ℕ → Bool
 hasParent im g = ltb (parent im g) (groups im)
@@ -26,10 +26,6 @@ endsWithin im (suc n) g = let rest = endsWithin im n (parent im g) in not (hasPa
 -- following parents from g reaches "none": it takes no more steps than there are groups
 unfoldable pub endsRule : List ℕ → ℕ → Bool
 endsRule im g = endsWithin im (groups im) g
-
--- the parents of every group before g end
-abbrev pub EndBefore : List ℕ → ℕ → Type 0
-EndBefore im g = (k : ℕ) → k < g → endsRule im k ≡ true
 
 -- the lowest group whose parents never end; the number of groups where there is none
 unfoldable pub firstRing : List ℕ → ℕ
@@ -57,13 +53,24 @@ below im s = collect (λ g. meets (lineage im g) s) (groups im)
 unfoldable pub belowRule : List ℕ → ℕ → Bool
 belowRule im u =
     let rec = userRecord im u in
-    within (writeGroups rec) (below im (readGroups rec)) && within (defaultGroups rec) (below im (readGroups rec))
-    && within (rowGroups rec) (below im (defaultGroups rec)) && within (rowGroups rec) (below im (writeGroups rec))
+    let read = readGroups (editionOf im) rec in
+    let write = writeGroups (editionOf im) rec in
+    let default = defaultGroups (editionOf im) rec in
+    let row = rowGroups (editionOf im) rec in
+    within write (below im read) && within default (below im read) && within row (below im default) && within row (below im write)
 
 -- the lowest user whose groups break that rule; the number of users where there is none
 unfoldable pub firstBadBelow : List ℕ → ℕ
 firstBadBelow im = firstBad (belowRule im) (users im) 0
 
--- the table holds the lineage of every group
+-- the parents of every group end
+abbrev pub AllEnd : List ℕ → Type 0
+AllEnd im = (g : ℕ) → g < groups im → endsRule im g ≡ true
+
+-- the table holds the parent's place of every group
+abbrev pub Parents : List ℕ → List ℕ → Type 0
+Parents im table = (g : ℕ) → g < groups im → getD table g 0 ≡ parent im g
+
+-- the same of an image whose parents all end
 abbrev pub Tabled : List ℕ → List ℕ → Type 0
-Tabled im table = (g : ℕ) → g < groups im → getD table g 0 ≡ lineage im g
+Tabled im table = Parents im table × AllEnd im

@@ -1,2 +1,3 @@
--- Groups and their parents: what lies below a set of groups.
+-- Groups and their parents: what lies below a set of groups, and the paths by which the code finds it.
 pub mod Below
+pub mod Paths

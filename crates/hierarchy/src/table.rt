@@ -1,91 +1,238 @@
-// The table of lineages, and what lies below a set of groups by it. Only this file knows how the table keeps a set.
-ghost use Prim.Native.Nat.{_<_};
+// The table of parents, and by it rings of parents and what lies below a set of groups. Each question is answered by walks
+// along the parents that stop at a place that is decided already, so its cost is in proportion to the number of groups.
+ghost use Prim.Native.Nat.{_*_, _<_};
 ghost use mathlib.Core.Path.{_≡_};
 ghost use lib.ListN.{length, getD};
 ghost use Rattle.sets.specs.Groups.{placesOf};
-ghost use Rattle.sets.specs.Sets.{within};
+ghost use Rattle.sets.specs.Words.{wordOf};
+ghost use Rattle.sets.specs.Sets.{union, within, allBelow};
 ghost use Rattle.header.specs.Layout.{groups, users};
 ghost use Rattle.header.specs.Limits.{Counted};
 ghost use Rattle.hierarchy.specs.Below as hierarchy;
-ghost use Rattle.hierarchy.specs.Below.{belowRule, firstBadBelow, Tabled};
-use crate::parents::lineage;
+ghost use Rattle.hierarchy.specs.Below.{firstRing, belowRule, firstBadBelow, Parents, Tabled};
+ghost use Rattle.hierarchy.specs.Paths as paths;
+ghost use Rattle.hierarchy.specs.Paths.{tableRoom, climbed, passed, reaching, Fits, Unmet};
+use crate::parents::parent;
 use header::layout;
 use records::users::group_sets;
 use sets::groups::Groups;
+use sets::word;
 
-pub type Table = [u64; 64];
+pub type Table = [u16; 256];
 
 // A table before it is filled.
-pub const EMPTY: Table = [0u64; 64];
+pub const EMPTY: Table = [0u16; 256];
 
-// The lineage that the table holds for g.
-fn stored(table: &Table, g: usize) -> Groups
-    requires { ⌜ g < 64 ⌝ }
-    ensures { λ r. ⌜ placesOf r ≡ getD (now (table .entry)) g 0 ⌝ }
+// A place as a number of the machine's width.
+fn wide(place: u16) -> usize
+    ensures { λ r. ⌜ r ≡ place ⌝ }
 {
-    Groups::of_word(table[g])
+    place as usize
 }
 
-// Puts the lineage of every group into the words.
-fn fill_words(image: &[u8], words: &mut [u64])
-    requires { ⌜ Counted (now image) × (length (now words) ≡ 64) ⌝ }
-    ensures { λ r. ⌜ Tabled (now (image .entry)) (now (words .exit)) ⌝ }
+// The parent's place that the table holds for g.
+fn stored(table: &Table, g: usize) -> usize
+    requires { ⌜ g < tableRoom ⌝ }
+    ensures { λ r. ⌜ r ≡ getD (now (table .entry)) g 0 ⌝ }
+{
+    wide(table[g])
+}
+
+// Puts the parent's place of every group into the places.
+fn fill_places(image: &[u8], places: &mut [u16])
+    requires { ⌜ Counted (now image) × (length (now places) ≡ tableRoom) ⌝ }
+    ensures { λ r. ⌜ Parents (now (image .entry)) (now (places .exit)) ⌝ }
 {
     let count = layout::groups(image);
     let mut g = 0;
     while g < count {
-        words[g] = lineage(image, g).word(0);
+        places[g] = parent(image, g) as u16;
         g += 1;
     }
 }
 
-// Puts the lineage of every group into the table.
+// Puts the parent's place of every group into the table.
 pub fn fill(image: &[u8], table: &mut Table)
     requires { ⌜ Counted (now image) ⌝ }
-    ensures { λ r. ⌜ Tabled (now (image .entry)) (now (table .exit)) ⌝ }
+    ensures { λ r. ⌜ Parents (now (image .entry)) (now (table .exit)) ⌝ }
 {
-    fill_words(image, table)
+    fill_places(image, table)
 }
 
-// s with every group that has an ancestor in s.
+// Does a walk along the parents stop at this place? It is no group, or `known` has it.
+fn stops(count: usize, known: Groups, at: usize) -> bool
+    ensures { λ r. ⌜ r ≡ paths.stops count (placesOf known) at ⌝ }
+{
+    (at >= count) | known.has(at)
+}
+
+// Where the walk from g stops. One that ends takes no more steps than there are groups; one that does not is broken off.
+fn climb(image: &[u8], table: &Table, known: Groups, g: usize) -> usize
+    requires { ⌜ Counted (now image) × Parents (now image) (now table) ⌝ }
+    ensures { λ r. ⌜ r ≡ climbed (now (image .entry)) (placesOf known) (groups (now (image .entry))) g ⌝ }
+{
+    let count = layout::groups(image);
+    let mut at = g;
+    let mut left = count;
+    while left > 0 {
+        if stops(count, known, at) {
+            return at;
+        }
+        at = stored(table, at);
+        left -= 1;
+    }
+    at
+}
+
+// `set` with the groups that this walk leaves.
+fn mark(image: &[u8], table: &Table, known: Groups, set: Groups, g: usize) -> Groups
+    requires { ⌜ Counted (now image) × Parents (now image) (now table) ⌝ }
+    ensures { λ r. ⌜ placesOf r ≡ union (placesOf set) (passed (now (image .entry)) (placesOf known) (groups (now (image .entry))) g) ⌝ }
+{
+    let count = layout::groups(image);
+    let mut marked = set;
+    let mut next = g;
+    let mut steps = count;
+    while steps > 0 {
+        if stops(count, known, next) {
+            return marked;
+        }
+        marked = marked.with(next);
+        next = stored(table, next);
+        steps -= 1;
+    }
+    marked
+}
+
+// The lowest group whose parents never end; the number of groups where there is none. `ended` are groups whose parents end.
+pub fn first_ring(image: &[u8], table: &Table) -> usize
+    requires { ⌜ Counted (now image) × Parents (now image) (now table) ⌝ }
+    ensures { λ r. ⌜ r ≡ firstRing (now (image .entry)) ⌝ }
+{
+    let count = layout::groups(image);
+    let mut ended = Groups::none();
+    let mut g = 0;
+    while g < count {
+        let at = climb(image, table, ended, g);
+        if !stops(count, ended, at) {
+            return g;
+        }
+        ended = mark(image, table, ended, ended, g);
+        g += 1;
+    }
+    g
+}
+
+// s with every group that has an ancestor in s. `known` are the groups of which it is known, `r` those of them that lie below s.
 pub fn below(image: &[u8], table: &Table, s: Groups) -> Groups
     requires { ⌜ Counted (now image) × Tabled (now image) (now table) ⌝ }
     ensures { λ r. ⌜ placesOf r ≡ hierarchy.below (now (image .entry)) (placesOf s) ⌝ }
 {
     let count = layout::groups(image);
-    let mut r = Groups::none();
+    let mut r = s.intersection(Groups::all_below(count));
+    let mut known = r;
     let mut g = 0;
     while g < count {
-        if stored(table, g).meets(s) {
-            r = r.with(g);
+        let at = climb(image, table, known, g);
+        if r.has(at) {
+            r = mark(image, table, known, r, g);
         }
+        known = mark(image, table, known, known, g);
         g += 1;
     }
     r
 }
 
-// Does every group of `set` lie below `other`? Those of `other` do, so the rest is asked, group after group.
-fn lies_below(image: &[u8], table: &Table, set: Groups, other: Groups) -> bool
-    requires { ⌜ Counted (now image) × Tabled (now image) (now table) ⌝ }
-    ensures { λ r. ⌜ r ≡ within (placesOf set) (hierarchy.below (now (image .entry)) (placesOf other)) ⌝ }
+// The places of `word`, which is word k of a set, from the first one on whose parent `reached` does not have. Mostly there is
+// none: this loop is short because it keeps nothing else.
+fn unmet_part(table: &Table, reached: Groups, k: usize, word: u64) -> u64
+    requires { ⌜ 64 * k < tableRoom ⌝ }
+    ensures { λ r. ⌜ Unmet (now (table .entry)) (placesOf reached) (64 * k) word r ⌝ }
 {
-    if !set.within(Groups::all_below(layout::groups(image))) {
-        return false;
-    }
-    let mut rest = set.difference(other);
-    while !rest.is_empty() {
-        let g = rest.first();
-        if !stored(table, g).meets(other) {
-            return false;
+    let from = 64 * k;
+    let mut left = word;
+    while left != 0 {
+        let q = word::first(left);
+        if !reached.has(stored(table, from + q)) {
+            return left;
         }
-        rest = rest.without(g);
+        left = word::without(left, q);
+    }
+    left
+}
+
+// The groups of `set` that remain to be asked: the parents of all others are in `reached`.
+fn unmet(table: &Table, reached: Groups, set: Groups) -> Groups
+    ensures { λ r. ⌜ Unmet (now (table .entry)) (placesOf reached) 0 (placesOf set) (placesOf r) ⌝ }
+{
+    Groups::of_words(
+        unmet_part(table, reached, 0, set.word(0)),
+        unmet_part(table, reached, 1, set.word(1)),
+        unmet_part(table, reached, 2, set.word(2)),
+        unmet_part(table, reached, 3, set.word(3)),
+    )
+}
+
+// Does the parent of each of these groups lie below `reached`? They are the places of `word`, which is word k of a set. `known` are
+// groups that lie below `reached`, so that no walk is taken twice.
+fn word_reaches(image: &[u8], table: &Table, reached: Groups, k: usize, word: u64) -> bool
+    requires { ⌜ Counted (now image) × (Tabled (now image) (now table) × ((64 * k < tableRoom) × Fits (now image) (placesOf reached) (64 * k) word)) ⌝ }
+    ensures { λ r. ⌜ r ≡ within word (wordOf (reaching (now (image .entry)) (placesOf reached)) k) ⌝ }
+{
+    let from = 64 * k;
+    let mut known = reached;
+    let mut left = word;
+    while left != 0 {
+        let q = word::first(left);
+        let p = stored(table, from + q);
+        if !known.has(p) {
+            let at = climb(image, table, known, p);
+            if !known.has(at) {
+                return false;
+            }
+            known = mark(image, table, known, known, p);
+        }
+        left = word::without(left, q);
     }
     true
 }
 
+// Does the parent of each group of `rest` lie below `reached`?
+fn all_reach(image: &[u8], table: &Table, reached: Groups, rest: Groups) -> bool
+    requires { ⌜ Counted (now image) × (Tabled (now image) (now table) × Fits (now image) (placesOf reached) 0 (placesOf rest)) ⌝ }
+    ensures { λ r. ⌜ r ≡ within (placesOf rest) (reaching (now (image .entry)) (placesOf reached)) ⌝ }
+{
+    word_reaches(image, table, reached, 0, rest.word(0))
+        & word_reaches(image, table, reached, 1, rest.word(1))
+        & word_reaches(image, table, reached, 2, rest.word(2))
+        & word_reaches(image, table, reached, 3, rest.word(3))
+}
+
+// Does every group of `set` lie below `other`? Those that are in `other` do. The others do where the parent of each lies below
+// `other` or `set`: no parents form a ring, so going up from group to group of `set` one comes to `other`. `all` are all groups.
+fn lies_below(image: &[u8], table: &Table, all: Groups, set: Groups, other: Groups) -> bool
+    requires { ⌜ Counted (now image) × (Tabled (now image) (now table) × (placesOf all ≡ allBelow (groups (now image)))) ⌝ }
+    ensures { λ r. ⌜ r ≡ within (placesOf set) (hierarchy.below (now (image .entry)) (placesOf other)) ⌝ }
+{
+    let roots = other.intersection(all);
+    let others = set.difference(roots);
+    if others.is_empty() {
+        return true;
+    }
+    if !set.within(all) {
+        return false;
+    }
+    let reached = roots.union(set);
+    let rest = unmet(table, reached, others);
+    if rest.is_empty() {
+        return true;
+    }
+    all_reach(image, table, reached, rest)
+}
+
 // Do the user's write and default groups lie below the read ones, and the row groups below the default and the write ones?
-fn below_ok(image: &[u8], table: &Table, u: usize) -> bool
-    requires { ⌜ Counted (now image) × (Tabled (now image) (now table) × (u < users (now image))) ⌝ }
+fn below_ok(image: &[u8], table: &Table, all: Groups, u: usize) -> bool
+    requires { ⌜ Counted (now image) × (Tabled (now image) (now table) × ((placesOf all ≡ allBelow (groups (now image))) × (u < users (now image)))) ⌝ }
     ensures { λ r. ⌜ r ≡ belowRule (now (image .entry)) u ⌝ }
 {
     let sets = group_sets(image, u);
@@ -93,16 +240,16 @@ fn below_ok(image: &[u8], table: &Table, u: usize) -> bool
     let write = sets.write;
     let default = sets.default;
     let row = sets.row;
-    if !lies_below(image, table, write, read) {
+    if !lies_below(image, table, all, write, read) {
         return false;
     }
-    if !lies_below(image, table, default, read) {
+    if !lies_below(image, table, all, default, read) {
         return false;
     }
-    if !lies_below(image, table, row, default) {
+    if !lies_below(image, table, all, row, default) {
         return false;
     }
-    lies_below(image, table, row, write)
+    lies_below(image, table, all, row, write)
 }
 
 // The lowest user whose groups break that rule; the number of users where there is none.
@@ -110,10 +257,11 @@ pub fn first_bad_below(image: &[u8], table: &Table) -> usize
     requires { ⌜ Counted (now image) × Tabled (now image) (now table) ⌝ }
     ensures { λ r. ⌜ r ≡ firstBadBelow (now (image .entry)) ⌝ }
 {
+    let all = Groups::all_below(layout::groups(image));
     let count = layout::users(image);
     let mut u = 0;
     while u < count {
-        if !below_ok(image, table, u) {
+        if !below_ok(image, table, all, u) {
             return u;
         }
         u += 1;

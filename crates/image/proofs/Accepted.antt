@@ -17,7 +17,7 @@ use Rattle.records.specs.Rules.{contentRule}
 use Rattle.header.specs.Limits.{Counted}
 use Rattle.records.proofs.MeaningHeader.{counted}
 use Rattle.refusals.specs.declared.Refusal.{Refusal}
-use Rattle.hierarchy.specs.Below.{endsRule, belowRule, firstRing, firstBadBelow}
+use Rattle.hierarchy.specs.Below.{endsRule, belowRule, firstRing, firstBadBelow, AllEnd}
 use Rattle.image.specs.declared.faults.Fault.{Fault}
 use Rattle.image.specs.declared.faults.Fault.the-variants.{Sound, Length, Block, Layout, Component, Label, User, Ring, Below}
 use Rattle.refusals.specs.declared.answers.Checked.{Checked}
@@ -159,3 +159,7 @@ module _ (im : List ℕ) (k : Keeps im) where
 -- the header and the length of an accepted image are sound
 pub accepted-counted : (im : List ℕ) → IsAccepted im → Counted im
 accepted-counted im acc = counted im (keeps im acc .header) (keeps im acc .fit)
+
+-- so the parents of every group end
+pub accepted-ends : (im : List ℕ) → IsAccepted im → AllEnd im
+accepted-ends im acc = keeps im acc .ends

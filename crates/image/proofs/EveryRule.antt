@@ -12,7 +12,7 @@ use Rattle.blocks.proofs.Meaning.{LengthKept, length-means, length-holds, Block
 use Rattle.header.specs.declared.layout.Kind.{Kind}
 use Rattle.header.specs.declared.layout.Kind.the-variants.{Component, Label, User}
 use Rattle.header.specs.Layout as layout
-use Rattle.header.specs.Layout.{groups, blocksNeeded, Fitted, countsOf, countOf, recordsOf, userRecord}
+use Rattle.header.specs.Layout.{editionOf, groups, blocksNeeded, Fitted, countsOf, countOf, recordsOf, userRecord}
 use Rattle.header.proofs.Inside.{record-of}
 use Rattle.records.specs.Fields.{readGroups, writeGroups, defaultGroups, rowGroups}
 use Rattle.records.specs.Rules.{ruleOf, recordRule}
@@ -35,10 +35,10 @@ Under im a b = (g : ℕ) → has a g ≡ true → (p : ℕ) × (Above im g p × 
 
 -- a user's write and default groups lie in below(read), the row groups in below(default) and in below(write)
 pub record GroupsUnder (im rec : List ℕ) : Type 0 where
-  pub writeUnderRead : Under im (writeGroups rec) (readGroups rec)
-  pub defaultUnderRead : Under im (defaultGroups rec) (readGroups rec)
-  pub rowUnderDefault : Under im (rowGroups rec) (defaultGroups rec)
-  pub rowUnderWrite : Under im (rowGroups rec) (writeGroups rec)
+  pub writeUnderRead : Under im (writeGroups (editionOf im) rec) (readGroups (editionOf im) rec)
+  pub defaultUnderRead : Under im (defaultGroups (editionOf im) rec) (readGroups (editionOf im) rec)
+  pub rowUnderDefault : Under im (rowGroups (editionOf im) rec) (defaultGroups (editionOf im) rec)
+  pub rowUnderWrite : Under im (rowGroups (editionOf im) rec) (writeGroups (editionOf im) rec)
 
 pub record EveryRule (im : List ℕ) : Type 0 where
   -- the length is not 0, a multiple of 512 and at most 65,536
@@ -66,10 +66,10 @@ module _ (im : List ℕ) where
   under-kept : {rec : List ℕ} → BelowKept im rec → GroupsUnder im rec
   under-kept {rec} k =
       record {
-        writeUnderRead = under-means (writeGroups rec) (readGroups rec) (k .writeBelowRead);
-        defaultUnderRead = under-means (defaultGroups rec) (readGroups rec) (k .defaultBelowRead);
-        rowUnderDefault = under-means (rowGroups rec) (defaultGroups rec) (k .rowBelowDefault);
-        rowUnderWrite = under-means (rowGroups rec) (writeGroups rec) (k .rowBelowWrite);
+        writeUnderRead = under-means (writeGroups (editionOf im) rec) (readGroups (editionOf im) rec) (k .writeBelowRead);
+        defaultUnderRead = under-means (defaultGroups (editionOf im) rec) (readGroups (editionOf im) rec) (k .defaultBelowRead);
+        rowUnderDefault = under-means (rowGroups (editionOf im) rec) (defaultGroups (editionOf im) rec) (k .rowBelowDefault);
+        rowUnderWrite = under-means (rowGroups (editionOf im) rec) (writeGroups (editionOf im) rec) (k .rowBelowWrite);
       }
 
   -- the other way, where the parents of every group end and the groups exist
@@ -86,10 +86,10 @@ module _ (im : List ℕ) where
       let k = subst (UserKept (countsOf im)) (record-of im User u h) (e .users u h .kept) .groupsKept in
       let g = e .groupsUnder u h in
       record {
-        writeBelowRead = under-holds e (writeGroups rec) (readGroups rec) (k .writeExist) (g .writeUnderRead);
-        defaultBelowRead = under-holds e (defaultGroups rec) (readGroups rec) (k .defaultExist) (g .defaultUnderRead);
-        rowBelowDefault = under-holds e (rowGroups rec) (defaultGroups rec) (k .rowExist) (g .rowUnderDefault);
-        rowBelowWrite = under-holds e (rowGroups rec) (writeGroups rec) (k .rowExist) (g .rowUnderWrite);
+        writeBelowRead = under-holds e (writeGroups (editionOf im) rec) (readGroups (editionOf im) rec) (k .writeExist) (g .writeUnderRead);
+        defaultBelowRead = under-holds e (defaultGroups (editionOf im) rec) (readGroups (editionOf im) rec) (k .defaultExist) (g .defaultUnderRead);
+        rowBelowDefault = under-holds e (rowGroups (editionOf im) rec) (defaultGroups (editionOf im) rec) (k .rowExist) (g .rowUnderDefault);
+        rowBelowWrite = under-holds e (rowGroups (editionOf im) rec) (writeGroups (editionOf im) rec) (k .rowExist) (g .rowUnderWrite);
       }
 
   pub accepted-keeps : IsAccepted im → EveryRule im

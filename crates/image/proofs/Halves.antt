@@ -1,6 +1,6 @@
 -- A tag looked for by halves: n steps settle every number of labels below 2 ^ n. Assumes nothing.
 use Prim.Native.Nat.{ℕ, zero, suc, _+_, _-_, _^_, _≤_, _<_}
-use mathlib.Core.Path.{_≡_, refl, sym, ap, _∙_}
+use mathlib.Core.Path.{_≡_, refl, sym, ap, _∙_, subst}
 use mathlib.Core.Bool.{Bool, true, false, cond, not}
 use mathlib.Core.List.{List}
 use mathlib.Core.Logic.{⊎-elim}
@@ -10,7 +10,11 @@ use borrow.Author.Tests.{eqb-true, eqb-false, ltb-true, ltb-false}
 use lib.Dec.{eqb, ltb}
 use lib.Pow.{pow-pos}
 use Rattle.fields.proofs.Scan.{bad-upto}
-use Rattle.header.specs.Layout.{labels, labelRecord}
+use Rattle.header.specs.declared.edition.Edition.{Edition}
+use Rattle.header.specs.declared.edition.Edition.the-variants.{Two}
+use Rattle.header.specs.Layout.{editionOf, labels, labelRecord}
+use Rattle.header.specs.Limits.{limitsIn}
+use Rattle.header.proofs.Editions.{counted-labels}
 use Rattle.records.specs.Fields.{tagOf}
 use Rattle.image.specs.Check.{IsAccepted}
 use Rattle.image.specs.Lookup.{labelOfTag}
@@ -108,8 +112,10 @@ module _ (im : List ℕ) (tag : ℕ) where
     -- so 11 steps settle every accepted image, which has at most 1,680 labels
     pub eleven-steps : searchTag im tag ≡ labelOfTag im tag
     unfolding searchTag
-    eleven-steps = steps-settle searchSteps (omega (arith, accepted-counted im acc .labelsLimit))
+    eleven-steps = steps-settle searchSteps (omega (arith, counted-labels im (accepted-counted im acc)))
 
-    -- and 10 steps one of at most 800
-    pub ten-steps : labels im ≤ 800 → searchWithin im tag 10 0 ≡ labelOfTag im tag
-    ten-steps few = steps-settle 10 (omega arith)
+    -- and 10 steps one of edition 2, which has at most 800
+    pub ten-steps : editionOf im ≡ Two → searchWithin im tag 10 0 ≡ labelOfTag im tag
+    ten-steps e =
+        let few : labels im ≤ 800 = subst (λ (edition : Edition). labels im ≤ limitsIn edition .labels) e (accepted-counted im acc .labelsLimit) in
+        steps-settle 10 (omega arith)

@@ -1,5 +1,5 @@
 -- The place that a refused check tells fits 32 bits: there are at most 127 blocks, and at most 255 records in one. Assumes nothing.
-use Prim.Native.Nat.{ℕ, _+_, _-_, _/_, _^_, _<_}
+use Prim.Native.Nat.{ℕ, _+_, _-_, _/_, _^_, _≤_, _<_}
 use mathlib.Core.Path.{_≡_, refl, subst}
 use mathlib.Core.Bool.{Bool, true, false, cond, _&&_}
 use mathlib.Core.List.{List}
@@ -12,9 +12,12 @@ use Rattle.blocks.specs.Blocks.{lengthRule, blockCount, firstBadBlock}
 use Rattle.blocks.proofs.Meaning.{length-means}
 use Rattle.header.specs.declared.layout.Kind.{Kind}
 use Rattle.header.specs.declared.layout.Kind.the-variants as kind
-use Rattle.header.specs.Layout.{groups, users, components, blocksFor, blocksNeeded, shapeOf, kindAt, contentsOf}
+use Rattle.header.specs.declared.edition.Edition.{Edition}
+use Rattle.header.specs.declared.edition.Edition.the-variants.{One, Two}
+use Rattle.header.proofs.Editions.{counted-groups}
+use Rattle.header.specs.Layout.{groups, users, components, blocksFor, blocksNeeded, shapeOf, kindAt, contentsOf, editionOf, levels, compartments, labels, capacityOf}
 use Rattle.header.specs.Header.{headerRule, fitRule}
-use Rattle.header.specs.Limits.{Counted}
+use Rattle.header.specs.Limits.{limitsIn, Counted}
 use Rattle.header.proofs.Inside.{shape-roomy, slot-below, block-among, blocks-among}
 use Rattle.records.specs.Rules.{recordRule, layoutRule, firstBadRecord}
 use Rattle.records.proofs.MeaningHeader.{counted}
@@ -33,9 +36,20 @@ use Rattle.image.specs.Lookup.{hasComponent, nameAnswer}
 use Rattle.image.proofs.Told.{found-lowest}
 
 -- ---- blocks and records are few
+-- in either edition
+blocks-most : (edition : Edition) (components users labels : ℕ) → components ≤ 96 + limitsIn edition .groups → users ≤ limitsIn edition .users
+    → labels ≤ limitsIn edition .labels
+    → 1 + blocksFor (capacityOf edition kind.Component) components + blocksFor (capacityOf edition kind.Label) labels
+    + blocksFor (capacityOf edition kind.User) users < 128
+unfolding blocksFor
+blocks-most One components users labels c u l = omega arith
+blocks-most Two components users labels c u l = omega arith
+
 pub blocks-few : (im : List ℕ) → Counted im → blocksNeeded im < 128
-unfolding blocksNeeded blocksFor components
-blocks-few im k = omega (arith, k .levelsLimit, k .compartmentsLimit, k .groupsLimit, k .usersLimit, k .labelsLimit)
+unfolding blocksNeeded components
+blocks-few im k =
+    blocks-most (editionOf im) (levels im + compartments im + groups im) (users im) (labels im)
+    (omega (arith, k .levelsLimit, k .compartmentsLimit, k .groupsLimit)) (k .usersLimit) (k .labelsLimit)
 
 -- the place of a block's lowest bad record
 pub slot-few : (im : List ℕ) (b : ℕ) → firstBadRecord im b - contentsOf im b .from < 256
@@ -78,12 +92,13 @@ counted-place im k =
         → placeTold (shownAs (cond c (contentFault im (firstBadContent im))
         (cond r (Ring (firstRing im)) (cond u (belowFault im (firstBadBelow im)) Sound)))) < 2 ^ 32
     at true e r d u f = content-place im (firstBadContent im) (omega (arith, ltb-true (firstBadContent im) (blocksNeeded im) e, blocks-few im k))
-    at false e true d u f = omega (arith, ltb-true (firstRing im) (groups im) d, k .groupsLimit)
+    at false e true d u f = omega (arith, ltb-true (firstRing im) (groups im) d, counted-groups im k)
     at false e false d true f =
         omega (
           arith,
           user-block-few im k (firstBadBelow im) (ltb-true (firstBadBelow im) (users im) f),
           slot-below (shapeOf im kind.User) (shape-roomy im kind.User) (firstBadBelow im),
+          shape-roomy im kind.User .few,
         )
     at false e false d false f = omega arith
 

@@ -13,7 +13,7 @@ use Rattle.fields.proofs.Meaning.{same-means, same-refl, found-at, found-first,
 use Rattle.sets.specs.Sets.{within}
 use Rattle.header.specs.declared.layout.Kind.{Kind}
 use Rattle.header.specs.declared.layout.Kind.the-variants.{Component, Label, User}
-use Rattle.header.specs.Layout.{components, labels, users, groups, countsOf, classAt, countOf, componentRecord, labelRecord, userRecord, recordsOf}
+use Rattle.header.specs.Layout.{editionOf, components, labels, users, groups, countsOf, classAt, countOf, componentRecord, labelRecord, userRecord, recordsOf}
 use Rattle.header.proofs.Inside.{records-count, record-of}
 use Rattle.records.specs.Fields.{componentName, numericForm, tagOf, userName, readGroups, writeGroups, defaultGroups, rowGroups}
 use Rattle.records.specs.Rules.{ruleOf, recordRule}
@@ -29,10 +29,10 @@ use Rattle.image.proofs.Accepted.{keeps}
 
 -- a user's groups lie below one another as the rule asks
 pub record BelowKept (im rec : List ℕ) : Type 0 where
-  pub writeBelowRead : within (writeGroups rec) (below im (readGroups rec)) ≡ true
-  pub defaultBelowRead : within (defaultGroups rec) (below im (readGroups rec)) ≡ true
-  pub rowBelowDefault : within (rowGroups rec) (below im (defaultGroups rec)) ≡ true
-  pub rowBelowWrite : within (rowGroups rec) (below im (writeGroups rec)) ≡ true
+  pub writeBelowRead : within (writeGroups (editionOf im) rec) (below im (readGroups (editionOf im) rec)) ≡ true
+  pub defaultBelowRead : within (defaultGroups (editionOf im) rec) (below im (readGroups (editionOf im) rec)) ≡ true
+  pub rowBelowDefault : within (rowGroups (editionOf im) rec) (below im (defaultGroups (editionOf im) rec)) ≡ true
+  pub rowBelowWrite : within (rowGroups (editionOf im) rec) (below im (writeGroups (editionOf im) rec)) ≡ true
 
 pub below-means : (im : List ℕ) (u : ℕ) → belowRule im u ≡ true → BelowKept im (userRecord im u)
 unfolding belowRule
@@ -64,9 +64,9 @@ module _ (im : List ℕ) (acc : IsAccepted im) where
   user-among u h = user-means (countsOf im) (recordsOf im User) u (record-kept User u h)
 
   -- so each is what a record of its kind must be
-  pub component-kept : (i : ℕ) → i < components im → ComponentKept (classAt (countsOf im) i) (groups im) (componentRecord im i)
+  pub component-kept : (i : ℕ) → i < components im → ComponentKept (editionOf im) (classAt (countsOf im) i) (groups im) (componentRecord im i)
   component-kept i h =
-      subst (ComponentKept (classAt (countsOf im) i) (groups im)) (record-of im Component i h) (component-among i h .kept)
+      subst (ComponentKept (editionOf im) (classAt (countsOf im) i) (groups im)) (record-of im Component i h) (component-among i h .kept)
 
   pub label-kept : (k : ℕ) → k < labels im → LabelKept (countsOf im) (labelRecord im k)
   label-kept k h = subst (LabelKept (countsOf im)) (record-of im Label k h) (label-among k h .kept)

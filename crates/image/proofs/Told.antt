@@ -12,7 +12,7 @@ use Rattle.fields.specs.Names.{nameBefore}
 use Rattle.fields.specs.Scan.{listFrom}
 use Rattle.blocks.specs.Blocks.{lengthRule, blockCount, blockRule, firstBadBlock}
 use Rattle.header.specs.declared.layout.Kind.the-variants as kind
-use Rattle.header.specs.Layout.{groups, users, blocksNeeded, capacityOf, shapeOf, recordBlock, recordSlot}
+use Rattle.header.specs.Layout.{editionOf, groups, users, blocksNeeded, capacityOf, shapeOf, recordBlock, recordSlot}
 use Rattle.header.specs.declared.layout.Shape.{Shape}
 use Rattle.header.proofs.Inside.{shape-roomy}
 use Rattle.header.specs.Header.{headerRule, fitRule}
@@ -37,7 +37,7 @@ later-record c i j pos h = at (ltb (i / c) (j / c)) refl
         inr (same, omega (arith, low, div-add-mod j c))
 
 below-rise : (im : List ℕ) (i j : ℕ) → i < j → keyBefore (keyOf (belowFault im i)) (keyOf (belowFault im j)) ≡ true
-below-rise im i j h = at (later-record (capacityOf kind.User) i j (shape-roomy im kind.User .some) h)
+below-rise im i j h = at (later-record (capacityOf (editionOf im) kind.User) i j (shape-roomy im kind.User .some) h)
   where
     s : Shape
     s = shapeOf im kind.User

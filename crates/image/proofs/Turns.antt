@@ -2,26 +2,16 @@
 use Prim.Native.Nat.{ℕ, suc, zero-le, _+_, _-_, _*_, _%_, _^_, _≤_, _<_}
 use mathlib.Core.Path.{_≡_, refl, sym, ap, _∙_}
 use mathlib.Core.List.{List}
-use native.Mathlib.Nat.{add-zero, add-assoc, le-refl}
+use native.Mathlib.Nat.{le-refl}
 use native.Mathlib.Omega.{arith}
 use borrow.Author.Tests.{eq-eqb, ne-eqb, lt-ltb, le-ltb}
 use lib.Pow.{pow-pos, pow-mono}
-use Rattle.fields.specs.Bytes.{number2, number4}
-use Rattle.fields.proofs.Laws.{part-byte}
 use Rattle.sets.proofs.Bounds.{one-shifted}
 use Rattle.header.specs.declared.layout.Kind.the-variants.{Label}
 use Rattle.header.specs.declared.layout.Shape.{Shape}
-use Rattle.header.specs.Layout.{labels, recordSize, Shaped, shapeOf, recordOffset, recordAt}
+use Rattle.header.specs.Layout.{labels, Shaped}
 use Rattle.image.specs.Search.{searchWithin, searchSteps, searchTag}
 use Rattle.image.proofs.Halves.{tagAt, middleOf}
-
--- a label record begins with its tag
-pub tag-there : (im : List ℕ) (k : ℕ) → number4 im (recordOffset (shapeOf im Label) k) ≡ tagAt im k
-unfolding recordAt number4 number2
-tag-there im k =
-    let at : ℕ = recordOffset (shapeOf im Label) k in
-    let b = part-byte im at (recordSize Label) in
-    rw (b 0 (omega arith), b 1 (omega arith), b 2 (omega arith), b 3 (omega arith), add-zero, add-assoc at 2 1)
 
 -- ---- what a step does
 module _ (im : List ℕ) (tag n low : ℕ) where

@@ -3,27 +3,17 @@
 ghost use Prim.Native.Nat.{_<_};
 ghost use mathlib.Core.Path.{_≡_};
 ghost use Rattle.fields.specs.Names.{sameName};
-ghost use Rattle.header.specs.declared.layout.Kind.the-variants.{Label};
-ghost use Rattle.header.specs.Layout.{Shaped, labels, users, labelRecord, userRecord};
-ghost use Rattle.records.specs.Fields.{tagOf, userName};
+ghost use Rattle.header.specs.Layout.{users, userRecord};
+ghost use Rattle.records.specs.Fields.{userName};
 ghost use Rattle.header.specs.Limits.{Counted};
 ghost use Rattle.image.specs.Check.{IsAccepted};
 ghost use Rattle.image.specs.Lookup.{labelOfTag, userOfName};
 ghost use Rattle.image.specs.Search.{searchTag};
 use fields::names::same_name;
-use fields::numbers::number4;
 use header::layout;
 use header::layout::Kind;
-use header::layout::Shape;
+use records::labels::tag_at;
 use records::users;
-
-// The tag of the label record at place k, by the shape of the label records.
-fn tag_at(image: &[u8], shape: Shape, k: usize) -> u32
-    requires { ⌜ Counted (now image) × (Shaped (now image) Label shape × (k < labels (now image))) ⌝ }
-    ensures { λ r. ⌜ r ≡ tagOf (labelRecord (now (image .entry)) k) ⌝ }
-{
-    number4(image, layout::record_offset(shape, k))
-}
 
 // The label record that carries the tag; the number of labels where none is found. There are at most 11 turns. Each looks
 // at the middle of the places that are left, reads at most that one record, and leaves the half after it or the half

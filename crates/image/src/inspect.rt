@@ -15,7 +15,6 @@ use header::layout;
 use header::layout::Kind;
 use header::rules::fit_ok;
 use header::rules::header_ok;
-use hierarchy::parents::first_ring;
 use hierarchy::table;
 use records::blocks::content_ok;
 use records::blocks::first_bad_record;
@@ -74,13 +73,13 @@ fn counted_fault(image: &[u8]) -> Fault
     if b < layout::blocks_needed(image) {
         return content_fault(image, b);
     }
-    let g = first_ring(image);
+    let mut parents = table::EMPTY;
+    table::fill(image, &mut parents);
+    let g = table::first_ring(image, &parents);
     if g < layout::groups(image) {
         return Fault::Ring(g);
     }
-    let mut lineages = table::EMPTY;
-    table::fill(image, &mut lineages);
-    let u = table::first_bad_below(image, &lineages);
+    let u = table::first_bad_below(image, &parents);
     if u < layout::users(image) {
         return below_fault(image, u);
     }

@@ -63,7 +63,8 @@ abbrev pub started : List ℕ → SessionMarks → State
 started table s = record { table = table; session = s }
 
 -- Demand 3 speaks of a well-formed image and of a user with neither READ nor FULL. The claim needs neither: a bad image refuses every
--- call alike, and with READ or FULL every row is in the list, so the tables are equal. A session of a place without user is 19
+-- call alike, and the list is of the rows that the user could ever read, whatever the privileges. With READ or FULL that is every row in edition
+-- 1, and in edition 2 every row of a known tag. A session of a place without user is 19
 pub record Premises (im : List ℕ) (u : ℕ) (table1 table2 : List ℕ) (width : ℕ) (start : SessionMarks) (calls1 calls2 : List Call) : Type 0 where
   -- 12 refuses neither table with the row width
   pub table1-accepted : tableShape table1 width ≡ Accepted

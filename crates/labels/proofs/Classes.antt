@@ -13,6 +13,7 @@ use Rattle.sets.specs.Groups.{width}
 use Rattle.header.specs.Layout.{levels, compartments, groups, components, countsOf, classFirst}
 use Rattle.records.specs.Rules.{otherName, othersNamed}
 use Rattle.header.specs.Limits.{Counted}
+use Rattle.header.proofs.Editions.{counted-groups}
 use Rattle.image.specs.Lookup.{hasComponent, componentIndex}
 use Rattle.labels.specs.Parse.{matches, classCount, placeOfName}
 
@@ -35,8 +36,8 @@ class-limit im class k = at (eqb class 1) (eqb class 2)
   where
     at : (s t : Bool) → cond s (levels im) (cond t (compartments im) (groups im)) ≤ width
     at true t = omega (arith, k .levelsLimit)
-    at false true = k .compartmentsLimit
-    at false false = k .groupsLimit
+    at false true = omega (arith, k .compartmentsLimit)
+    at false false = counted-groups im k
 
 -- ---- a class's components follow one another
 module _ (im : List ℕ) (class : ℕ) where

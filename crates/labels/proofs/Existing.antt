@@ -10,7 +10,7 @@ use Rattle.sets.specs.Sets.{has, none, one, union}
 use Rattle.fields.proofs.Both.{parts}
 use Rattle.sets.proofs.Bounds.{none-below, one-below, union-below, within-below, below-within}
 use Rattle.records.proofs.MeaningLabels.{exist-holds}
-use Rattle.header.specs.Layout.{levels, compartments, groups, labels, labelRecord}
+use Rattle.header.specs.Layout.{editionOf, levels, compartments, groups, labels, labelRecord}
 use Rattle.records.specs.Fields.{labelCompartments, labelGroups}
 use Rattle.image.specs.Check.{IsAccepted}
 use Rattle.image.proofs.Policy.{label-kept}
@@ -54,7 +54,7 @@ record-exists im acc k h =
     (record {
       level = kept .levelExists;
       compartments = within-below _ (compartments im) (exist-holds (labelCompartments (labelRecord im k)) (compartments im) (kept .compartmentsExist));
-      groups = within-below _ (groups im) (exist-holds (labelGroups (labelRecord im k)) (groups im) (kept .groupsExist));
+      groups = within-below _ (groups im) (exist-holds (labelGroups (editionOf im) (labelRecord im k)) (groups im) (kept .groupsExist));
     })
 
 -- ---- a list

@@ -11,7 +11,8 @@ use Rattle.fields.proofs.Both.{both-left}
 use Rattle.sets.specs.Sets.{has, none, one, union}
 use Rattle.refusals.specs.declared.Refusal.{Refusal}
 use Rattle.refusals.specs.Refusals.{placeOf}
-use Rattle.header.specs.Layout.{levels}
+use Rattle.header.specs.Layout.{editionOf, levels}
+use Rattle.header.proofs.Editions.{most-text}
 use Rattle.header.specs.Limits.{limitsOf}
 use Rattle.refusals.specs.declared.answers.Checked.{Checked}
 use Rattle.refusals.specs.declared.answers.Checked.the-variants.{Accepted, Refused}
@@ -106,7 +107,7 @@ text-told im text = at (shapeRule (limitsOf im .text) text) refl
 
     at : (t : Bool) → shapeRule (limitsOf im .text) text ≡ t
         → told (cond t (readParts im (split colon text)) (refused Shape)) < 2 ^ 32
-    at true e = omega (arith, parts-told im (split colon text), split-spans colon text, short e)
+    at true e = omega (arith, parts-told im (split colon text), split-spans colon text, short e, most-text (editionOf im))
     at false e = omega arith
 
 -- ---- so an answer that holds the place has room for it

@@ -5,7 +5,7 @@ use mathlib.Core.List.{List}
 use lib.Dec.{ltb}
 use Rattle.sets.specs.Sets.{within, allBelow}
 use Rattle.sets.specs.Groups.{placesOf}
-use Rattle.header.specs.Layout.{levels, compartments, groups, labelRecord}
+use Rattle.header.specs.Layout.{editionOf, levels, compartments, groups, labelRecord}
 use Rattle.records.specs.Fields.{labelLevel, labelCompartments, labelGroups}
 use Rattle.labels.specs.declared.label.Label.{Label}
 
@@ -24,7 +24,7 @@ marksOf l = marks (l .level) (l .compartments) (placesOf (l .groups))
 -- the label of the k-th label record
 unfoldable pub labelAt : List ℕ → ℕ → Marks
 labelAt im k =
-    let rec = labelRecord im k in marks (labelLevel rec) (labelCompartments rec) (labelGroups rec)
+    let rec = labelRecord im k in marks (labelLevel rec) (labelCompartments rec) (labelGroups (editionOf im) rec)
 
 -- the policy has every component that the label names
 unfoldable pub labelExists : List ℕ → Marks → Bool

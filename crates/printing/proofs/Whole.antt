@@ -1,5 +1,5 @@
 -- The whole text of a label that the policy has. Assumes nothing.
-use Prim.Native.Nat.{ℕ, _+_, _≤_}
+use Prim.Native.Nat.{ℕ, _+_, _*_, _≤_}
 use mathlib.Core.Path.{_≡_, refl, sym, ap, ap₂, _∙_}
 use mathlib.Core.Bool.{Bool, true, false, cond, _&&_}
 use mathlib.Core.List.{List, [], _++_, append-nil, append-assoc}
@@ -8,8 +8,11 @@ use borrow.Author.Tests.{lt-ltb}
 use lib.ListN.{length, length-append}
 use Rattle.fields.proofs.Both.{parts}
 use Rattle.sets.specs.Sets.{empty}
-use Rattle.header.specs.Layout.{levels, compartments, groups}
-use Rattle.header.specs.Limits.{limitsOf}
+use Rattle.header.specs.declared.edition.Edition.{Edition}
+use Rattle.header.specs.declared.edition.Edition.the-variants.{One, Two}
+use Rattle.header.specs.Layout.{editionOf, levels, compartments, groups}
+use Rattle.header.proofs.Editions.{counted-groups}
+use Rattle.header.specs.Limits.{limitsIn, limitsOf}
 use Rattle.image.specs.Check.{IsAccepted}
 use Rattle.image.specs.Lookup.{hasComponent}
 use Rattle.image.proofs.Accepted.{accepted-counted}
@@ -29,12 +32,12 @@ has-level im m e = rw (lt-ltb (m .level) (levels im) (exists-means im m e .level
 pub named-compartments : (im : List ℕ) → IsAccepted im → Named im 2 (compartments im)
 unfolding hasComponent
 named-compartments im acc =
-    record { accepted = acc; present = λ p h. rw (lt-ltb p (compartments im) h); few = accepted-counted im acc .compartmentsLimit }
+    record { accepted = acc; present = λ p h. rw (lt-ltb p (compartments im) h); few = omega (arith, accepted-counted im acc .compartmentsLimit) }
 
 pub named-groups : (im : List ℕ) → IsAccepted im → Named im 3 (groups im)
 unfolding hasComponent
 named-groups im acc =
-    record { accepted = acc; present = λ p h. lt-ltb p (groups im) h; few = accepted-counted im acc .groupsLimit }
+    record { accepted = acc; present = λ p h. lt-ltb p (groups im) h; few = counted-groups im (accepted-counted im acc) }
 
 -- ---- which parts the text has
 module _ (im : List ℕ) (m : Marks) where
@@ -131,12 +134,17 @@ module _ (im : List ℕ) (m : Marks) (b name : List ℕ) (n : name ≡ nameAt im
     written-both e u = rw (text-both im m e, ← n) (written-then fits-two two u)
 
 -- ---- a label's text is no longer than a text that is read may be
-section-short : (im : List ℕ) (class s count : ℕ) → Named im class count → length (section im class count s) ≤ 1985
+section-short : (im : List ℕ) (class s count : ℕ) → Named im class count → length (section im class count s) ≤ 1 + 31 * count
 section-short im class s count k =
     let l = section-length im class s count in
     let f = listed-short im (k .accepted) class s count 0 (λ p h. k .present p (omega arith)) in
-    let w = k .few in
     omega arith
+
+-- of a level of 30 bytes, and of as many compartments and groups as an edition allows
+most-short : (edition : Edition) (c g : ℕ) → c ≤ limitsIn edition .compartments → g ≤ limitsIn edition .groups
+    → 30 + (1 + 31 * c) + (1 + 31 * g) ≤ limitsIn edition .text
+most-short One c g h k = omega arith
+most-short Two c g h k = omega arith
 
 pub text-short : (im : List ℕ) → IsAccepted im → (m : Marks) → labelExists im m ≡ true → length (textOf im m) ≤ limitsOf im .text
 text-short im acc m h = at (empty (m .groups)) refl (empty (m .compartments)) refl
@@ -146,11 +154,13 @@ text-short im acc m h = at (empty (m .groups)) refl (empty (m .compartments)) re
         let name = name-short im acc 1 (m .level) (has-level im m h) in
         let one = section-short im 2 (m .compartments) (compartments im) (named-compartments im acc) in
         let two = section-short im 3 (m .groups) (groups im) (named-groups im acc) in
-        by g e c d name one two
+        let k = accepted-counted im acc in
+        by g e c d name one two (most-short (editionOf im) (compartments im) (groups im) (k .compartmentsLimit) (k .groupsLimit))
       where
         by : (g : Bool) → empty (m .groups) ≡ g → (c : Bool) → empty (m .compartments) ≡ c
-            → length (nameAt im 1 (m .level)) ≤ 30 → length (first im m) ≤ 1985 → length (second im m) ≤ 1985
+            → length (nameAt im 1 (m .level)) ≤ 30 → length (first im m) ≤ 1 + 31 * compartments im → length (second im m) ≤ 1 + 31 * groups im
+            → 30 + (1 + 31 * compartments im) + (1 + 31 * groups im) ≤ limitsOf im .text
             → length (textOf im m) ≤ limitsOf im .text
-        by true e true d name one two = let l = length-level im m refl (rw (e, d)) in omega arith
-        by true e false d name one two = let l = length-first im m refl (rw (e, d)) e refl in omega arith
-        by false e c d name one two = let l = length-both im m refl e refl refl in omega arith
+        by true e true d name one two most = let l = length-level im m refl (rw (e, d)) in omega arith
+        by true e false d name one two most = let l = length-first im m refl (rw (e, d)) e refl in omega arith
+        by false e c d name one two most = let l = length-both im m refl e refl refl in omega arith

@@ -141,7 +141,7 @@ fn compartments_length(image: &[u8], set: u64) -> usize
 // How many bytes a colon and the groups need.
 fn groups_length(image: &[u8], set: Groups) -> usize
     requires { ⌜ IsAccepted (now image) ⌝ }
-    ensures { λ r. ⌜ (r ≡ length (section (now (image .entry)) 3 (groups (now (image .entry))) (placesOf set))) × (r ≤ 1985) ⌝ }
+    ensures { λ r. ⌜ (r ≡ length (section (now (image .entry)) 3 (groups (now (image .entry))) (placesOf set))) × (r ≤ 7937) ⌝ }
 {
     section_length(image, 3, layout::groups(image), set)
 }

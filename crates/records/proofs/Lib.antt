@@ -4,3 +4,4 @@ pub mod MeaningHeader
 pub mod MeaningLabels
 pub mod MeaningUsers
 pub mod Rising
+pub mod Rooms

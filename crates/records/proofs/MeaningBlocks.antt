@@ -15,7 +15,7 @@ use Rattle.fields.proofs.Scan.{good-before, all-good}
 use Rattle.header.specs.declared.layout.Kind.{Kind}
 use Rattle.header.specs.declared.layout.Shape.{Shape}
 use Rattle.header.specs.declared.layout.Contents.{Contents}
-use Rattle.header.specs.Layout.{countOf, capacityOf, blocksOf, firstBlock, blocksNeeded, kindByte, shapeOf, recordBlock, held, kindAt, contentsOf}
+use Rattle.header.specs.Layout.{editionOf, countOf, capacityOf, blocksOf, firstBlock, blocksNeeded, kindByte, shapeOf, recordBlock, held, kindAt, contentsOf}
 use Rattle.header.proofs.Inside.{Held, held-is, shape-roomy, slot-below, block-among, blocks-among, blocks-after, kind-of}
 use Rattle.records.specs.Rules.{recordRule, layoutRule, firstBadRecord, contentRule}
 
@@ -94,10 +94,10 @@ module _ (im : List ℕ) (kind : Kind) (i : ℕ) (here : i < countOf im kind) wh
   holds-it = rw (kind-of im kind block block-from block-upto)
 
   held-from : held kind (shapeOf im kind) block .from ≤ i
-  held-from = rw add-sub-cancel-left (omega (arith, div-add-mod i (capacityOf kind)))
+  held-from = rw add-sub-cancel-left (omega (arith, div-add-mod i (capacityOf (editionOf im) kind)))
 
   held-upto : i < held kind (shapeOf im kind) block .to
-  held-upto = rw add-sub-cancel-left (omega (arith, here, div-add-mod i (capacityOf kind), slot-below (shapeOf im kind) (shape-roomy im kind) i))
+  held-upto = rw add-sub-cancel-left (omega (arith, here, div-add-mod i (capacityOf (editionOf im) kind), slot-below (shapeOf im kind) (shape-roomy im kind) i))
 
 -- so where every block is right, every record keeps its rule
 pub records-kept : (im : List ℕ) → ((b : ℕ) → 1 ≤ b → b < blocksNeeded im → contentRule im b ≡ true)

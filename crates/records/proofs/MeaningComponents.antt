@@ -14,8 +14,9 @@ use Rattle.fields.specs.Names.{sameName}
 use Rattle.fields.proofs.Both.{parts, either, both, or-left, or-right}
 use Rattle.fields.proofs.Meaning.{zero-rest, rest-zero, NameKept, name-means, name-holds, differ-means, same-means}
 use Rattle.fields.proofs.Scan.{everywhere-at, all-good}
+use Rattle.header.specs.declared.edition.Edition.{Edition}
 use Rattle.header.specs.Layout.{Counts, classFirst, classAt}
-use Rattle.records.specs.Fields.{classOf, componentNameField, componentName, numericForm, parentOf}
+use Rattle.records.specs.Fields.{classOf, componentNameField, componentName, numericForm, parentOf, noParent, componentEnd}
 use Rattle.records.specs.Rules.{recordIn, classStart, parentRule, componentShape, numericRule, otherName, newNameRule, componentRule}
 use Rattle.records.proofs.Rising.{rise, apart}
 
@@ -72,31 +73,31 @@ class-between n j k =
     at false e false d false f false g low high = refl
 
 -- ---- a record by itself
--- a level or a compartment has no parent; a group has none, 255, or a group that exists
-abbrev pub ParentKept : ℕ → ℕ → ℕ → Type 0
-ParentKept class count parent = (parent ≡ 255) ⊎ ((class ≡ 3) × (parent < count))
+-- a level or a compartment has no parent; a group has none, or a group that exists
+abbrev pub ParentKept : Edition → ℕ → ℕ → ℕ → Type 0
+ParentKept edition class count parent = (parent ≡ noParent edition) ⊎ ((class ≡ 3) × (parent < count))
 
-pub parent-means : (class count parent : ℕ) → parentRule class count parent ≡ true → ParentKept class count parent
+pub parent-means : (edition : Edition) (class count parent : ℕ) → parentRule edition class count parent ≡ true → ParentKept edition class count parent
 unfolding parentRule
-parent-means class count parent e =
-    ⊎-elim (λ p. inl (eqb-true parent 255 p))
+parent-means edition class count parent e =
+    ⊎-elim (λ p. inl (eqb-true parent (noParent edition) p))
     (λ p. let q = parts _ _ p in inr (eqb-true class 3 (q .0), ltb-true parent count (q .1)))
     (either _ _ e)
 
-pub parent-holds : (class count parent : ℕ) → ParentKept class count parent → parentRule class count parent ≡ true
+pub parent-holds : (edition : Edition) (class count parent : ℕ) → ParentKept edition class count parent → parentRule edition class count parent ≡ true
 unfolding parentRule
-parent-holds class count parent (inl e) = or-left _ _ (eq-eqb parent 255 e)
-parent-holds class count parent (inr (e, h)) = or-right (eqb parent 255) _ (rw (eq-eqb class 3 e, lt-ltb parent count h))
+parent-holds edition class count parent (inl e) = or-left _ _ (eq-eqb parent (noParent edition) e)
+parent-holds edition class count parent (inr (e, h)) = or-right (eqb parent (noParent edition)) _ (rw (eq-eqb class 3 e, lt-ltb parent count h))
 
-pub record ComponentKept (class count : ℕ) (rec : List ℕ) : Type 0 where
+pub record ComponentKept (edition : Edition) (class count : ℕ) (rec : List ℕ) : Type 0 where
   pub classed : classOf rec ≡ class
   pub named : NameKept (componentNameField rec)
   pub numericLimit : numericForm rec ≤ 9999
-  pub parent : ParentKept class count (parentOf rec)
-  pub unused : (i : ℕ) → 35 ≤ i → byteAt rec i ≡ 0
+  pub parent : ParentKept edition class count (parentOf edition rec)
+  pub unused : (i : ℕ) → componentEnd edition ≤ i → byteAt rec i ≡ 0
 
-module _ (class count : ℕ) (rec : List ℕ) where
-  pub component-shape-means : componentShape class count rec ≡ true → ComponentKept class count rec
+module _ (edition : Edition) (class count : ℕ) (rec : List ℕ) where
+  pub component-shape-means : componentShape edition class count rec ≡ true → ComponentKept edition class count rec
   unfolding componentShape
   component-shape-means e =
       let q4 = parts _ _ e in
@@ -107,23 +108,23 @@ module _ (class count : ℕ) (rec : List ℕ) where
         classed = eqb-true _ _ (q1 .0);
         named = name-means _ (q1 .1);
         numericLimit = leb-true _ _ (q2 .1);
-        parent = parent-means class count (parentOf rec) (q3 .1);
-        unused = zero-rest rec 35 (q4 .1);
+        parent = parent-means edition class count (parentOf edition rec) (q3 .1);
+        unused = zero-rest rec (componentEnd edition) (q4 .1);
       }
 
-  pub component-shape-holds : ComponentKept class count rec → componentShape class count rec ≡ true
+  pub component-shape-holds : ComponentKept edition class count rec → componentShape edition class count rec ≡ true
   unfolding componentShape
   component-shape-holds k =
       rw (
         eq-eqb _ _ (k .classed),
         name-holds _ (k .named),
         le-leb _ _ (k .numericLimit),
-        parent-holds class count (parentOf rec) (k .parent),
-        rest-zero rec 35 (k .unused),
+        parent-holds edition class count (parentOf edition rec) (k .parent),
+        rest-zero rec (componentEnd edition) (k .unused),
       )
 
-  -- so a level or a compartment holds 255
-  pub no-parent : ComponentKept class count rec → (class ≡ 3 → ⊥) → parentOf rec ≡ 255
+  -- so a level or a compartment has none
+  pub no-parent : ComponentKept edition class count rec → (class ≡ 3 → ⊥) → parentOf edition rec ≡ noParent edition
   no-parent k other = ⊎-elim (λ e. e) (λ p. absurd (other (p .0))) (k .parent)
 
 -- ---- among the others
@@ -167,7 +168,7 @@ module _ (n : Counts) (records : List (List ℕ)) (i : ℕ) where
           at false e = refl
 
   pub record ComponentAmong : Type 0 where
-    pub kept : ComponentKept (classAt n i) (n .groups) (recordIn records i)
+    pub kept : ComponentKept (n .edition) (classAt n i) (n .groups) (recordIn records i)
     pub rises : NumericRises
     pub nameNew : NameNew
 
@@ -177,7 +178,7 @@ module _ (n : Counts) (records : List (List ℕ)) (i : ℕ) where
       let q2 = parts _ _ e in
       let q1 = parts _ _ (q2 .0) in
       record {
-        kept = component-shape-means (classAt n i) (n .groups) (recordIn records i) (q1 .0);
+        kept = component-shape-means (n .edition) (classAt n i) (n .groups) (recordIn records i) (q1 .0);
         rises = numeric-means (q1 .1);
         nameNew = new-name-means (q2 .1);
       }
@@ -185,7 +186,7 @@ module _ (n : Counts) (records : List (List ℕ)) (i : ℕ) where
   pub component-holds : ComponentAmong → componentRule n records i ≡ true
   unfolding componentRule
   component-holds a =
-      rw (component-shape-holds (classAt n i) (n .groups) (recordIn records i) (a .kept), numeric-holds (a .rises), new-name-holds (a .nameNew))
+      rw (component-shape-holds (n .edition) (classAt n i) (n .groups) (recordIn records i) (a .kept), numeric-holds (a .rises), new-name-holds (a .nameNew))
 
 -- ---- all of them
 module _ (n : Counts) (records : List (List ℕ)) where

@@ -36,7 +36,7 @@ pub record LabelKept (n : Counts) (rec : List ℕ) : Type 0 where
   pub levelExists : labelLevel rec < n .levels
   pub unused : (i : ℕ) → 5 ≤ i → i < 8 → byteAt rec i ≡ 0
   pub compartmentsExist : (p : ℕ) → has (labelCompartments rec) p ≡ true → p < n .compartments
-  pub groupsExist : (p : ℕ) → has (labelGroups rec) p ≡ true → p < n .groups
+  pub groupsExist : (p : ℕ) → has (labelGroups (n .edition) rec) p ≡ true → p < n .groups
 
 module _ (n : Counts) (rec : List ℕ) where
   pub label-shape-means : labelShape n rec ≡ true → LabelKept n rec
@@ -53,7 +53,7 @@ module _ (n : Counts) (rec : List ℕ) where
         levelExists = ltb-true _ _ (q2 .1);
         unused = zero-part rec 5 3 (q3 .1);
         compartmentsExist = exist-means (labelCompartments rec) (n .compartments) (q4 .1);
-        groupsExist = exist-means (labelGroups rec) (n .groups) (q5 .1);
+        groupsExist = exist-means (labelGroups (n .edition) rec) (n .groups) (q5 .1);
       }
 
   pub label-shape-holds : LabelKept n rec → labelShape n rec ≡ true
@@ -65,7 +65,7 @@ module _ (n : Counts) (rec : List ℕ) where
         lt-ltb _ _ (k .levelExists),
         part-zero rec 5 3 (k .unused),
         exist-holds (labelCompartments rec) (n .compartments) (k .compartmentsExist),
-        exist-holds (labelGroups rec) (n .groups) (k .groupsExist),
+        exist-holds (labelGroups (n .edition) rec) (n .groups) (k .groupsExist),
       )
 
 -- ---- among the others

@@ -16,8 +16,9 @@ use Rattle.fields.proofs.Meaning.{zero-part, part-zero, zero-rest, rest-zero, N
 use Rattle.sets.specs.Sets.{has}
 use Rattle.sets.proofs.Bounds.{below-lacks}
 use Rattle.sets.proofs.Within.{within-has, has-within}
+use Rattle.header.specs.declared.edition.Edition.{Edition}
 use Rattle.header.specs.Layout.{Counts}
-use Rattle.records.specs.Fields.{userNameField, userName, privileges, maximumLevel, minimumLevel, defaultLevel, rowLevel, readCompartments, writeCompartments, defaultCompartments, rowCompartments, readGroups, writeGroups, defaultGroups, rowGroups}
+use Rattle.records.specs.Fields.{userNameField, userName, privileges, maximumLevel, minimumLevel, defaultLevel, rowLevel, readCompartments, writeCompartments, defaultCompartments, rowCompartments, readGroups, writeGroups, defaultGroups, rowGroups, userEnd}
 use Rattle.records.specs.Rules.{recordIn, userLevelsRule, userCompartmentsRule, userGroupsRule, userShape, userNameRule, userRule}
 use Rattle.records.proofs.MeaningLabels.{exist-means, exist-holds}
 use Rattle.records.proofs.Rising.{rise, apart}
@@ -82,45 +83,45 @@ user-compartments-holds count rec k =
     )
 
 -- ---- groups: all four sets name only groups that exist
-pub record GroupsKept (count : ℕ) (rec : List ℕ) : Type 0 where
-  pub readExist : (p : ℕ) → has (readGroups rec) p ≡ true → p < count
-  pub writeExist : (p : ℕ) → has (writeGroups rec) p ≡ true → p < count
-  pub defaultExist : (p : ℕ) → has (defaultGroups rec) p ≡ true → p < count
-  pub rowExist : (p : ℕ) → has (rowGroups rec) p ≡ true → p < count
+pub record GroupsKept (edition : Edition) (count : ℕ) (rec : List ℕ) : Type 0 where
+  pub readExist : (p : ℕ) → has (readGroups edition rec) p ≡ true → p < count
+  pub writeExist : (p : ℕ) → has (writeGroups edition rec) p ≡ true → p < count
+  pub defaultExist : (p : ℕ) → has (defaultGroups edition rec) p ≡ true → p < count
+  pub rowExist : (p : ℕ) → has (rowGroups edition rec) p ≡ true → p < count
 
-pub user-groups-means : (count : ℕ) (rec : List ℕ) → userGroupsRule count rec ≡ true → GroupsKept count rec
+pub user-groups-means : (edition : Edition) (count : ℕ) (rec : List ℕ) → userGroupsRule edition count rec ≡ true → GroupsKept edition count rec
 unfolding userGroupsRule
-user-groups-means count rec e =
+user-groups-means edition count rec e =
     let q3 = parts _ _ e in
     let q2 = parts _ _ (q3 .0) in
     let q1 = parts _ _ (q2 .0) in
     record {
-      readExist = exist-means (readGroups rec) count (q1 .0);
-      writeExist = exist-means (writeGroups rec) count (q1 .1);
-      defaultExist = exist-means (defaultGroups rec) count (q2 .1);
-      rowExist = exist-means (rowGroups rec) count (q3 .1);
+      readExist = exist-means (readGroups edition rec) count (q1 .0);
+      writeExist = exist-means (writeGroups edition rec) count (q1 .1);
+      defaultExist = exist-means (defaultGroups edition rec) count (q2 .1);
+      rowExist = exist-means (rowGroups edition rec) count (q3 .1);
     }
 
-pub user-groups-holds : (count : ℕ) (rec : List ℕ) → GroupsKept count rec → userGroupsRule count rec ≡ true
+pub user-groups-holds : (edition : Edition) (count : ℕ) (rec : List ℕ) → GroupsKept edition count rec → userGroupsRule edition count rec ≡ true
 unfolding userGroupsRule
-user-groups-holds count rec k =
+user-groups-holds edition count rec k =
     rw (
-      exist-holds (readGroups rec) count (k .readExist),
-      exist-holds (writeGroups rec) count (k .writeExist),
-      exist-holds (defaultGroups rec) count (k .defaultExist),
-      exist-holds (rowGroups rec) count (k .rowExist),
+      exist-holds (readGroups edition rec) count (k .readExist),
+      exist-holds (writeGroups edition rec) count (k .writeExist),
+      exist-holds (defaultGroups edition rec) count (k .defaultExist),
+      exist-holds (rowGroups edition rec) count (k .rowExist),
     )
 
 -- ---- a record by itself
--- every privilege is a bit below 128; bytes 36..39 and those from 104 on are unused
+-- every privilege is a bit below 128; bytes 36..39 and those after the sets are unused
 pub record UserKept (n : Counts) (rec : List ℕ) : Type 0 where
   pub named : NameKept (userNameField rec)
   pub privilegesLimit : privileges rec < 128
   pub unusedLevels : (i : ℕ) → 36 ≤ i → i < 40 → byteAt rec i ≡ 0
-  pub unusedEnd : (i : ℕ) → 104 ≤ i → byteAt rec i ≡ 0
+  pub unusedEnd : (i : ℕ) → userEnd (n .edition) ≤ i → byteAt rec i ≡ 0
   pub levelsKept : LevelsKept (n .levels) rec
   pub compartmentsKept : CompartmentsKept (n .compartments) rec
-  pub groupsKept : GroupsKept (n .groups) rec
+  pub groupsKept : GroupsKept (n .edition) (n .groups) rec
 
 module _ (n : Counts) (rec : List ℕ) where
   pub user-shape-means : userShape n rec ≡ true → UserKept n rec
@@ -136,10 +137,10 @@ module _ (n : Counts) (rec : List ℕ) where
         named = name-means _ (q1 .0);
         privilegesLimit = ltb-true _ _ (q1 .1);
         unusedLevels = zero-part rec 36 4 (q2 .1);
-        unusedEnd = zero-rest rec 104 (q3 .1);
+        unusedEnd = zero-rest rec (userEnd (n .edition)) (q3 .1);
         levelsKept = user-levels-means (n .levels) rec (q4 .1);
         compartmentsKept = user-compartments-means (n .compartments) rec (q5 .1);
-        groupsKept = user-groups-means (n .groups) rec (q6 .1);
+        groupsKept = user-groups-means (n .edition) (n .groups) rec (q6 .1);
       }
 
   pub user-shape-holds : UserKept n rec → userShape n rec ≡ true
@@ -149,10 +150,10 @@ module _ (n : Counts) (rec : List ℕ) where
         name-holds _ (k .named),
         lt-ltb _ _ (k .privilegesLimit),
         part-zero rec 36 4 (k .unusedLevels),
-        rest-zero rec 104 (k .unusedEnd),
+        rest-zero rec (userEnd (n .edition)) (k .unusedEnd),
         user-levels-holds (n .levels) rec (k .levelsKept),
         user-compartments-holds (n .compartments) rec (k .compartmentsKept),
-        user-groups-holds (n .groups) rec (k .groupsKept),
+        user-groups-holds (n .edition) (n .groups) rec (k .groupsKept),
       )
 
   -- the last privilege bit is zero

@@ -1,10 +1,21 @@
--- What the records hold, field by field, from the record's first byte.
-use Prim.Native.Nat.{ℕ}
-use mathlib.Core.List.{List}
+-- What the records hold, field by field, from the record's first byte. Where a field stands and how wide it is may differ by edition.
+use Prim.Native.Nat.{ℕ, zero, suc, _+_}
+use mathlib.Core.List.{List, [], _∷_}
 use Rattle.fields.specs.Bytes.{byteAt, part, number2, number4, number8}
 use Rattle.fields.specs.Names.{nameIn}
+use Rattle.sets.specs.Words.{joined}
+use Rattle.header.specs.declared.edition.Edition.{Edition}
+use Rattle.header.specs.Layout.{byEdition}
 
--- ---- a component: class, name, numeric form, parent's place among groups or 255 for none
+-- ---- a set of groups: one word of eight bytes, in edition 2 four, the lowest places first
+abbrev pub wordsAt : ℕ → List ℕ → ℕ → List ℕ
+wordsAt zero rec k = []
+wordsAt (suc n) rec k = number8 rec k ∷ wordsAt n rec (k + 8)
+
+unfoldable pub groupsAt : Edition → List ℕ → ℕ → ℕ
+groupsAt edition rec k = joined (wordsAt (byEdition edition 1 4) rec k)
+
+-- ---- a component: class, name, numeric form, parent's place among groups or none
 abbrev pub classOf : List ℕ → ℕ
 classOf rec = byteAt rec 0
 
@@ -20,8 +31,17 @@ componentName rec = nameIn (componentNameField rec)
 abbrev pub numericForm : List ℕ → ℕ
 numericForm rec = number2 rec 32
 
-abbrev pub parentOf : List ℕ → ℕ
-parentOf rec = byteAt rec 34
+-- byte 34, in edition 2 bytes 34 and 35
+abbrev pub parentOf : Edition → List ℕ → ℕ
+parentOf edition rec = byEdition edition (byteAt rec 34) (number2 rec 34)
+
+-- what stands there for none
+abbrev pub noParent : Edition → ℕ
+noParent edition = byEdition edition 255 65535
+
+-- the bytes from there on are unused
+abbrev pub componentEnd : Edition → ℕ
+componentEnd edition = byEdition edition 35 36
 
 -- ---- a label: tag, level place, compartments and groups as sets
 abbrev pub tagOf : List ℕ → ℕ
@@ -33,8 +53,8 @@ labelLevel rec = byteAt rec 4
 abbrev pub labelCompartments : List ℕ → ℕ
 labelCompartments rec = number8 rec 8
 
-abbrev pub labelGroups : List ℕ → ℕ
-labelGroups rec = number8 rec 16
+abbrev pub labelGroups : Edition → List ℕ → ℕ
+labelGroups edition rec = groupsAt edition rec 16
 
 -- ---- a user: name, privileges, four levels, four compartment sets and four group sets
 abbrev pub userNameField : List ℕ → List ℕ
@@ -70,14 +90,18 @@ defaultCompartments rec = number8 rec 56
 abbrev pub rowCompartments : List ℕ → ℕ
 rowCompartments rec = number8 rec 64
 
-abbrev pub readGroups : List ℕ → ℕ
-readGroups rec = number8 rec 72
+abbrev pub readGroups : Edition → List ℕ → ℕ
+readGroups edition rec = groupsAt edition rec 72
 
-abbrev pub writeGroups : List ℕ → ℕ
-writeGroups rec = number8 rec 80
+abbrev pub writeGroups : Edition → List ℕ → ℕ
+writeGroups edition rec = groupsAt edition rec (byEdition edition 80 104)
 
-abbrev pub defaultGroups : List ℕ → ℕ
-defaultGroups rec = number8 rec 88
+abbrev pub defaultGroups : Edition → List ℕ → ℕ
+defaultGroups edition rec = groupsAt edition rec (byEdition edition 88 136)
 
-abbrev pub rowGroups : List ℕ → ℕ
-rowGroups rec = number8 rec 96
+abbrev pub rowGroups : Edition → List ℕ → ℕ
+rowGroups edition rec = groupsAt edition rec (byEdition edition 96 168)
+
+-- the bytes from there on are unused
+abbrev pub userEnd : Edition → ℕ
+userEnd edition = byEdition edition 104 200

@@ -1,4 +1,5 @@
 -- The records of an image: what they hold, and the rules that each keeps.
 pub mod Fields
 pub mod Users
+pub mod Existing
 pub mod Rules

@@ -9,10 +9,11 @@ use Rattle.fields.specs.Bytes.{byteAt, part, allZero}
 use Rattle.fields.specs.Names.{nameRule, sameName, nameBefore}
 use Rattle.fields.specs.Scan.{firstBad, everywhere}
 use Rattle.sets.specs.Sets.{within, allBelow}
+use Rattle.header.specs.declared.edition.Edition.{Edition}
 use Rattle.header.specs.declared.layout.Kind.{Kind}
 use Rattle.header.specs.declared.layout.Kind.the-variants.{Component, Label, User}
 use Rattle.header.specs.Layout.{Counts, countsOf, classFirst, classAt, kindByte, recordAt, recordsOf, contentsOf}
-use Rattle.records.specs.Fields.{classOf, componentNameField, componentName, numericForm, parentOf, tagOf, labelLevel, labelCompartments, labelGroups, userNameField, userName, privileges, maximumLevel, minimumLevel, defaultLevel, rowLevel, readCompartments, writeCompartments, defaultCompartments, rowCompartments, readGroups, writeGroups, defaultGroups, rowGroups}
+use Rattle.records.specs.Fields.{classOf, componentNameField, componentName, numericForm, parentOf, noParent, componentEnd, tagOf, labelLevel, labelCompartments, labelGroups, userNameField, userName, privileges, maximumLevel, minimumLevel, defaultLevel, rowLevel, readCompartments, writeCompartments, defaultCompartments, rowCompartments, readGroups, writeGroups, defaultGroups, rowGroups, userEnd}
 
 -- ---- lists of records
 -- the record at place i
@@ -24,16 +25,16 @@ recordIn records i = getD records i []
 abbrev pub classStart : Counts → ℕ → ℕ
 classStart n i = classFirst n (classAt n i)
 
--- a parent is 255 for none; a group may have a group that exists
-unfoldable pub parentRule : ℕ → ℕ → ℕ → Bool
-parentRule class count parent = eqb parent 255 || eqb class 3 && ltb parent count
+-- a parent is none, or, of a group, a group that exists
+unfoldable pub parentRule : Edition → ℕ → ℕ → ℕ → Bool
+parentRule edition class count parent = eqb parent (noParent edition) || eqb class 3 && ltb parent count
 
 -- what a component record must be, whatever the others are; class is the one that the counts put at its place, so that a record of another
 -- class is at fault itself; count is the number of groups
-unfoldable pub componentShape : ℕ → ℕ → List ℕ → Bool
-componentShape class count rec =
+unfoldable pub componentShape : Edition → ℕ → ℕ → List ℕ → Bool
+componentShape edition class count rec =
     eqb (classOf rec) class && nameRule (componentNameField rec) && leb (numericForm rec) 9999
-    && parentRule class count (parentOf rec) && allZero (drop 35 rec)
+    && parentRule edition class count (parentOf edition rec) && allZero (drop (componentEnd edition) rec)
 
 -- of two records that clash the later is at fault: each of the rules below looks at records before its own. Where all before rise, the one
 -- right before is enough
@@ -58,14 +59,14 @@ newNameRule n records i =
 -- the component at place i, among all
 unfoldable pub componentRule : Counts → List (List ℕ) → ℕ → Bool
 componentRule n records i =
-    componentShape (classAt n i) (n .groups) (recordIn records i) && numericRule n records i && newNameRule n records i
+    componentShape (n .edition) (classAt n i) (n .groups) (recordIn records i) && numericRule n records i && newNameRule n records i
 
 -- ---- labels
 -- what a label record must be, whatever the others are: tag 1 to 99,999,999, level and sets that exist, the rest unused
 unfoldable pub labelShape : Counts → List ℕ → Bool
 labelShape n rec =
     leb 1 (tagOf rec) && leb (tagOf rec) 99999999 && ltb (labelLevel rec) (n .levels) && allZero (part rec 5 3)
-    && within (labelCompartments rec) (allBelow (n .compartments)) && within (labelGroups rec) (allBelow (n .groups))
+    && within (labelCompartments rec) (allBelow (n .compartments)) && within (labelGroups (n .edition) rec) (allBelow (n .groups))
 
 -- tags rise strictly
 unfoldable pub tagRule : List (List ℕ) → ℕ → Bool
@@ -90,16 +91,16 @@ userCompartmentsRule count rec =
     && within (rowCompartments rec) (writeCompartments rec)
 
 -- the four group sets name only groups that exist
-unfoldable pub userGroupsRule : ℕ → List ℕ → Bool
-userGroupsRule count rec =
-    within (readGroups rec) (allBelow count) && within (writeGroups rec) (allBelow count)
-    && within (defaultGroups rec) (allBelow count) && within (rowGroups rec) (allBelow count)
+unfoldable pub userGroupsRule : Edition → ℕ → List ℕ → Bool
+userGroupsRule edition count rec =
+    within (readGroups edition rec) (allBelow count) && within (writeGroups edition rec) (allBelow count)
+    && within (defaultGroups edition rec) (allBelow count) && within (rowGroups edition rec) (allBelow count)
 
 -- what a user record must be, whatever the others are; privilege bit 128 is zero
 unfoldable pub userShape : Counts → List ℕ → Bool
 userShape n rec =
-    nameRule (userNameField rec) && ltb (privileges rec) 128 && allZero (part rec 36 4) && allZero (drop 104 rec)
-    && userLevelsRule (n .levels) rec && userCompartmentsRule (n .compartments) rec && userGroupsRule (n .groups) rec
+    nameRule (userNameField rec) && ltb (privileges rec) 128 && allZero (part rec 36 4) && allZero (drop (userEnd (n .edition)) rec)
+    && userLevelsRule (n .levels) rec && userCompartmentsRule (n .compartments) rec && userGroupsRule (n .edition) (n .groups) rec
 
 -- user names rise strictly in byte order
 unfoldable pub userNameRule : List (List ℕ) → ℕ → Bool

@@ -3,6 +3,7 @@ use Prim.Native.Nat.{ℕ}
 use mathlib.Core.Path.{_≡_}
 use mathlib.Core.List.{List}
 use Rattle.sets.specs.Groups.{placesOf}
+use Rattle.header.specs.declared.edition.Edition.{Edition}
 use Rattle.records.specs.declared.users.Levels.{Levels}
 use Rattle.records.specs.declared.users.CompartmentSets.{CompartmentSets}
 use Rattle.records.specs.declared.users.GroupSets.{GroupSets}
@@ -18,8 +19,8 @@ compartmentsOf rec =
     { read = readCompartments rec; write = writeCompartments rec; default = defaultCompartments rec; row = rowCompartments rec }
 
 -- the four values are the record's four sets of groups
-pub record GroupsAre (rec : List ℕ) (sets : GroupSets) : Type 0 where
-  pub read : placesOf (sets .read) ≡ readGroups rec
-  pub write : placesOf (sets .write) ≡ writeGroups rec
-  pub default : placesOf (sets .default) ≡ defaultGroups rec
-  pub row : placesOf (sets .row) ≡ rowGroups rec
+pub record GroupsAre (edition : Edition) (rec : List ℕ) (sets : GroupSets) : Type 0 where
+  pub read : placesOf (sets .read) ≡ readGroups edition rec
+  pub write : placesOf (sets .write) ≡ writeGroups edition rec
+  pub default : placesOf (sets .default) ≡ defaultGroups edition rec
+  pub row : placesOf (sets .row) ≡ rowGroups edition rec

@@ -2,37 +2,55 @@
 ghost use Prim.Native.Nat.{_-_, _<_, _≤_};
 ghost use mathlib.Core.Path.{_≡_};
 ghost use Rattle.fields.specs.Scan.{firstBad};
-ghost use Rattle.header.specs.Layout.{countOf, blocksNeeded};
+ghost use Rattle.header.specs.Layout.{countOf, blocksNeeded, Shaped, recordOffset, OneRun};
 ghost use Rattle.records.specs.Rules.{recordRule, layoutRule, firstBadRecord, contentRule};
 ghost use Rattle.header.specs.Limits.{Counted};
+ghost use Rattle.records.specs.Existing.{Exist};
 use crate::components::component_ok;
+use crate::existing::Existing;
+use crate::existing::existing_in;
 use crate::labels::label_ok;
 use crate::users::user_ok;
 use fields::numbers::all_zero;
 use header::contents::block_contents;
+use header::layout;
 use header::layout::Kind;
+use header::layout::Shape;
 use header::layout::kind_byte;
 
-fn record_ok(image: &[u8], kind: Kind, i: usize) -> bool
-    requires { ⌜ Counted (now image) × (i < countOf (now image) kind) ⌝ }
+// The record begins at `at`.
+fn record_ok(
+    image: &[u8],
+    existing: Existing,
+    shape: Shape,
+    kind: Kind,
+    i: usize,
+    at: usize,
+) -> bool
+    requires { ⌜ Counted (now image) × (Exist (now image) existing × (Shaped (now image) kind shape × ((i < countOf (now image) kind) × (at ≡ recordOffset shape i)))) ⌝ }
     ensures { λ r. ⌜ r ≡ recordRule (now (image .entry)) kind i ⌝ }
 {
     match kind {
         Kind::Component => component_ok(image, i),
-        Kind::Label => label_ok(image, i),
+        Kind::Label => label_ok(image, existing, shape, i, at),
         Kind::User => user_ok(image, i),
     }
 }
 
+// The records stand in one block, so that the next one begins where one ends.
 fn first_bad(image: &[u8], kind: Kind, from: usize, to: usize) -> usize
-    requires { ⌜ Counted (now image) × ((from ≤ to) × (to ≤ countOf (now image) kind)) ⌝ }
+    requires { ⌜ Counted (now image) × ((from ≤ to) × ((to ≤ countOf (now image) kind) × OneRun (now image) kind from to)) ⌝ }
     ensures { λ r. ⌜ r ≡ firstBad (recordRule (now (image .entry)) kind) (to - from) from ⌝ }
 {
+    let existing = existing_in(image);
+    let shape = layout::shape_of(image, kind);
+    let mut at = layout::record_offset(shape, from);
     let mut i = from;
     while i < to {
-        if !record_ok(image, kind, i) {
+        if !record_ok(image, existing, shape, kind, i, at) {
             return i;
         }
+        at += shape.size;
         i += 1;
     }
     i

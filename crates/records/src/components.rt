@@ -5,34 +5,49 @@ ghost use lib.ListN.{length};
 ghost use Rattle.fields.specs.Names.{sameName};
 ghost use Rattle.fields.specs.Scan.{firstBad};
 ghost use Rattle.header.specs.declared.layout.Kind.the-variants.{Component};
-ghost use Rattle.header.specs.Layout.{countsOf, countOf, recordSize, Fitted, recordAt, recordsOf, OneBlock};
+ghost use Rattle.header.specs.Layout.{editionOf, countsOf, countOf, recordSize, Fitted, recordAt, recordsOf, OneBlock};
 ghost use Rattle.records.specs.Fields.{componentNameLength, componentName, numericForm, parentOf};
 ghost use Rattle.records.specs.Rules.{classStart, parentRule, componentShape, numericRule, othersNamed, newNameRule, recordRule};
 use fields::names;
 use fields::numbers::all_zero;
 use fields::numbers::number2;
 use header::contents::lower;
+use header::edition::Edition;
+use header::edition::by_edition;
+use header::edition::edition_of;
 use header::layout;
 use header::layout::Kind;
 use header::walk;
 
-// A level or a compartment has no parent; a group has none, 255, or a group that exists.
-fn parent_ok(class: u8, count: usize, parent: usize) -> bool
-    ensures { λ r. ⌜ r ≡ parentRule class count parent ⌝ }
+// A level or a compartment has no parent; a group has none, or a group that exists.
+fn parent_ok(edition: Edition, class: u8, count: usize, parent: usize) -> bool
+    ensures { λ r. ⌜ r ≡ parentRule edition class count parent ⌝ }
 {
-    (parent == 255) | ((class == 3) & (parent < count))
+    (parent == by_edition(edition, 255, 65535)) | ((class == 3) & (parent < count))
+}
+
+// The parent's place among groups, as the record has it.
+fn parent_in(edition: Edition, rec: &[u8]) -> usize
+    requires { ⌜ length (now rec) ≡ recordSize edition Component ⌝ }
+    ensures { λ r. ⌜ (r ≡ parentOf edition (now (rec .entry))) × (r < 65536) ⌝ }
+{
+    match edition {
+        Edition::One => rec[34] as usize,
+        Edition::Two => number2(rec, 34) as usize,
+    }
 }
 
 // What a record must be whatever the others are.
-fn shape_ok(rec: &[u8], class: u8, count: usize) -> bool
-    requires { ⌜ length (now rec) ≡ recordSize Component ⌝ }
-    ensures { λ r. ⌜ r ≡ componentShape class count (now (rec .entry)) ⌝ }
+fn shape_ok(edition: Edition, rec: &[u8], class: u8, count: usize) -> bool
+    requires { ⌜ length (now rec) ≡ recordSize edition Component ⌝ }
+    ensures { λ r. ⌜ r ≡ componentShape edition class count (now (rec .entry)) ⌝ }
 {
+    let end = by_edition(edition, 35, 36);
     (rec[0] == class)
         & names::name_ok(&rec[1..32])
         & (number2(rec, 32) <= 9999)
-        & parent_ok(class, count, rec[34] as usize)
-        & all_zero(&rec[35..])
+        & parent_ok(edition, class, count, parent_in(edition, rec))
+        & all_zero(&rec[end..])
 }
 
 pub fn component_name<'a>(image: &'a [u8], i: usize) -> &'a [u8]
@@ -54,10 +69,10 @@ pub fn name_length(image: &[u8], i: usize) -> usize
 // The parent's place among groups, as the record has it.
 pub fn parent(image: &[u8], i: usize) -> usize
     requires { ⌜ Fitted (now image) × (i < countOf (now image) Component) ⌝ }
-    ensures { λ r. ⌜ (r ≡ parentOf (recordAt (now (image .entry)) Component i)) × (r < 256) ⌝ }
+    ensures { λ r. ⌜ (r ≡ parentOf (editionOf (now (image .entry))) (recordAt (now (image .entry)) Component i)) × (r < 65536) ⌝ }
 {
     let rec = layout::record_part(image, Kind::Component, i);
-    rec[34] as usize
+    parent_in(edition_of(image), rec)
 }
 
 fn numeric_form(image: &[u8], i: usize) -> u32
@@ -89,7 +104,7 @@ fn numeric_ok(image: &[u8], i: usize) -> bool
 // Does the component have that name? Most names differ in length. A stored length past the field counts as 30, so the stored
 // byte alone tells only of names shorter than that.
 fn is_named(rec: &[u8], name: &[u8]) -> bool
-    requires { ⌜ length (now rec) ≡ recordSize Component ⌝ }
+    requires { ⌜ length (now rec) ≡ 40 ⌝ }
     ensures { λ r. ⌜ r ≡ sameName (componentName (now (rec .entry))) (now (name .entry)) ⌝ }
 {
     let n = rec[1] as usize;
@@ -105,7 +120,7 @@ fn first_in_block(image: &[u8], first: usize, from: usize, to: usize, name: &[u8
     requires { ⌜ Fitted (now image) × ((to ≤ countOf (now image) Component) × ((from ≤ to) × OneBlock (now image) Component first from to)) ⌝ }
     ensures { λ r. ⌜ r ≡ firstBad (othersNamed (now (image .entry)) (now (name .entry))) (to - from) from ⌝ }
 {
-    let size = layout::size(Kind::Component);
+    let size = layout::size(edition_of(image), Kind::Component);
     let mut at = first;
     let mut j = from;
     while j < to {
@@ -152,7 +167,8 @@ pub fn component_ok(image: &[u8], i: usize) -> bool
     ensures { λ r. ⌜ r ≡ recordRule (now (image .entry)) Component i ⌝ }
 {
     let rec = layout::record_part(image, Kind::Component, i);
-    shape_ok(rec, layout::class_at(image, i), layout::groups(image))
+    let class = layout::class_at(image, i);
+    shape_ok(edition_of(image), rec, class, layout::groups(image))
         & numeric_ok(image, i)
         & new_name_ok(image, i)
 }

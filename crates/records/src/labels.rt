@@ -1,26 +1,39 @@
 // The rules of a label record.
-ghost use Prim.Native.Nat.{_<_};
+ghost use Prim.Native.Nat.{_<_, _≤_};
 ghost use mathlib.Core.Path.{_≡_};
 ghost use lib.ListN.{length};
 ghost use Rattle.sets.specs.Groups.{placesOf};
 ghost use Rattle.header.specs.declared.layout.Kind.the-variants.{Label};
-ghost use Rattle.header.specs.Layout.{labels, countsOf, recordSize, labelRecord, recordsOf};
+ghost use Rattle.header.specs.Layout.{editionOf, labels, countsOf, recordSize, Shaped, recordOffset, labelRecord, recordsOf};
 ghost use Rattle.records.specs.Fields.{tagOf, labelLevel, labelCompartments, labelGroups};
 ghost use Rattle.records.specs.Rules.{labelShape, tagRule, recordRule};
 ghost use Rattle.header.specs.Limits.{Counted};
+ghost use Rattle.records.specs.Existing.{Exist};
+use crate::existing::Existing;
+use crate::group_sets::group_set;
 use fields::numbers::all_zero;
 use fields::numbers::number4;
 use fields::numbers::number8;
+use header::edition::edition_of;
 use header::layout;
 use header::layout::Kind;
+use header::layout::Shape;
 use sets::groups::Groups;
 use sets::word;
+
+// By the shape of the label records, which a loop or a search works out once.
+pub fn tag_at(image: &[u8], shape: Shape, k: usize) -> u32
+    requires { ⌜ Counted (now image) × (Shaped (now image) Label shape × (k < labels (now image))) ⌝ }
+    ensures { λ r. ⌜ r ≡ tagOf (labelRecord (now (image .entry)) k) ⌝ }
+{
+    number4(layout::shaped_part(image, shape, Kind::Label, k), 0)
+}
 
 pub fn tag(image: &[u8], k: usize) -> u32
     requires { ⌜ Counted (now image) × (k < labels (now image)) ⌝ }
     ensures { λ r. ⌜ r ≡ tagOf (labelRecord (now (image .entry)) k) ⌝ }
 {
-    number4(layout::record_part(image, Kind::Label, k), 0)
+    tag_at(image, layout::shape_of(image, Kind::Label), k)
 }
 
 pub fn level(image: &[u8], k: usize) -> u8
@@ -40,43 +53,44 @@ pub fn compartments(image: &[u8], k: usize) -> u64
 
 pub fn groups(image: &[u8], k: usize) -> Groups
     requires { ⌜ Counted (now image) × (k < labels (now image)) ⌝ }
-    ensures { λ r. ⌜ placesOf r ≡ labelGroups (labelRecord (now (image .entry)) k) ⌝ }
+    ensures { λ r. ⌜ placesOf r ≡ labelGroups (editionOf (now (image .entry))) (labelRecord (now (image .entry)) k) ⌝ }
 {
-    Groups::of_word(number8(layout::record_part(image, Kind::Label, k), 16))
+    let rec = layout::record_part(image, Kind::Label, k);
+    group_set(edition_of(image), rec, 16)
 }
 
 // What a record must be whatever the others are.
-fn shape_ok(image: &[u8], rec: &[u8]) -> bool
-    requires { ⌜ Counted (now image) × (length (now rec) ≡ recordSize Label) ⌝ }
+fn shape_ok(image: &[u8], existing: Existing, rec: &[u8]) -> bool
+    requires { ⌜ Exist (now image) existing × ((length (now rec) ≡ recordSize (editionOf (now image)) Label) × (24 ≤ length (now rec))) ⌝ }
     ensures { λ r. ⌜ r ≡ labelShape (countsOf (now (image .entry))) (now (rec .entry)) ⌝ }
 {
+    let edition = existing.edition;
+    let all = existing.groups;
     let tag = number4(rec, 0);
-    let all = Groups::all_below(layout::groups(image));
     (1 <= tag)
         & (tag <= 99999999)
-        & ((rec[4] as usize) < layout::levels(image))
+        & ((rec[4] as usize) < existing.levels)
         & all_zero(&rec[5..8])
-        & word::within(
-            number8(rec, 8),
-            word::all_below(layout::compartments(image)),
-        )
-        & Groups::of_word(number8(rec, 16)).within(all)
+        & word::within(number8(rec, 8), existing.compartments)
+        & group_set(edition, rec, 16).within(all)
 }
 
-// Tags rise strictly.
-fn tag_ok(image: &[u8], k: usize) -> bool
-    requires { ⌜ Counted (now image) × (k < labels (now image)) ⌝ }
+// Tags rise strictly. `here` is the tag of the record at place k.
+fn tag_ok(image: &[u8], shape: Shape, k: usize, here: u32) -> bool
+    requires { ⌜ Counted (now image) × (Shaped (now image) Label shape × ((k < labels (now image)) × (here ≡ tagOf (labelRecord (now image) k)))) ⌝ }
     ensures { λ r. ⌜ r ≡ tagRule (recordsOf (now (image .entry)) Label) k ⌝ }
 {
     if k == 0 {
         return true;
     }
-    tag(image, k - 1) < tag(image, k)
+    tag_at(image, shape, k - 1) < here
 }
 
-pub fn label_ok(image: &[u8], k: usize) -> bool
-    requires { ⌜ Counted (now image) × (k < labels (now image)) ⌝ }
+// The record begins at `at`.
+pub fn label_ok(image: &[u8], existing: Existing, shape: Shape, k: usize, at: usize) -> bool
+    requires { ⌜ Counted (now image) × (Exist (now image) existing × (Shaped (now image) Label shape × ((k < labels (now image)) × (at ≡ recordOffset shape k)))) ⌝ }
     ensures { λ r. ⌜ r ≡ recordRule (now (image .entry)) Label k ⌝ }
 {
-    shape_ok(image, layout::record_part(image, Kind::Label, k)) & tag_ok(image, k)
+    let rec = layout::placed_part(image, shape, Kind::Label, k, at);
+    shape_ok(image, existing, rec) & tag_ok(image, shape, k, number4(rec, 0))
 }

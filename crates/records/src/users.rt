@@ -2,18 +2,21 @@
 ghost use Prim.Native.Nat.{_+_, _<_, _≤_};
 ghost use mathlib.Core.Path.{_≡_};
 ghost use lib.ListN.{length};
-ghost use Rattle.fields.specs.Bytes.{number8};
-ghost use Rattle.sets.specs.Groups.{placesOf};
+ghost use Rattle.sets.specs.Groups.{width};
 ghost use Rattle.header.specs.declared.layout.Kind.the-variants.{User};
-ghost use Rattle.header.specs.Layout.{users, countsOf, recordSize, userRecord, recordsOf};
+ghost use Rattle.header.specs.Layout.{editionOf, users, countsOf, recordSize, userRecord, recordsOf};
 ghost use Rattle.records.specs.Fields as fields;
 ghost use Rattle.records.specs.Fields.{userName};
 ghost use Rattle.records.specs.Users.{levelsOf, compartmentsOf, GroupsAre};
 ghost use Rattle.records.specs.Rules.{userLevelsRule, userCompartmentsRule, userGroupsRule, userShape, userNameRule, recordRule};
 ghost use Rattle.header.specs.Limits.{Counted};
+use crate::group_sets::group_set;
 use fields::names;
 use fields::numbers::all_zero;
 use fields::numbers::number8;
+use header::edition::Edition;
+use header::edition::by_edition;
+use header::edition::edition_of;
 use header::layout;
 use header::layout::Kind;
 use sets::groups::Groups;
@@ -25,14 +28,6 @@ pub fn name<'a>(image: &'a [u8], u: usize) -> &'a [u8]
 {
     let rec = layout::record_part(image, Kind::User, u);
     names::name_in(&rec[0..31])
-}
-
-// The set of groups in the eight bytes from k on.
-pub fn group_set(rec: &[u8], k: usize) -> Groups
-    requires { ⌜ (length (now rec) ≡ recordSize User) × (k + 8 ≤ recordSize User) ⌝ }
-    ensures { λ r. ⌜ placesOf r ≡ number8 (now (rec .entry)) k ⌝ }
-{
-    Groups::of_word(number8(rec, k))
 }
 
 pub fn privileges(image: &[u8], u: usize) -> u8
@@ -93,21 +88,28 @@ pub struct GroupSets {
     pub row: Groups,
 }
 
-pub fn group_sets(image: &[u8], u: usize) -> GroupSets
-    requires { ⌜ Counted (now image) × (u < users (now image)) ⌝ }
-    ensures { λ r. ⌜ GroupsAre (userRecord (now (image .entry)) u) r ⌝ }
+fn sets_in(edition: Edition, rec: &[u8]) -> GroupSets
+    requires { ⌜ length (now rec) ≡ recordSize edition User ⌝ }
+    ensures { λ r. ⌜ GroupsAre edition (now (rec .entry)) r ⌝ }
 {
-    let rec = layout::record_part(image, Kind::User, u);
     GroupSets {
-        read: group_set(rec, 72),
-        write: group_set(rec, 80),
-        default: group_set(rec, 88),
-        row: group_set(rec, 96),
+        read: group_set(edition, rec, 72),
+        write: group_set(edition, rec, by_edition(edition, 80, 104)),
+        default: group_set(edition, rec, by_edition(edition, 88, 136)),
+        row: group_set(edition, rec, by_edition(edition, 96, 168)),
     }
 }
 
+pub fn group_sets(image: &[u8], u: usize) -> GroupSets
+    requires { ⌜ Counted (now image) × (u < users (now image)) ⌝ }
+    ensures { λ r. ⌜ GroupsAre (editionOf (now (image .entry))) (userRecord (now (image .entry)) u) r ⌝ }
+{
+    let rec = layout::record_part(image, Kind::User, u);
+    sets_in(edition_of(image), rec)
+}
+
 fn levels_ok(rec: &[u8], count: usize) -> bool
-    requires { ⌜ length (now rec) ≡ recordSize User ⌝ }
+    requires { ⌜ 128 ≤ length (now rec) ⌝ }
     ensures { λ r. ⌜ r ≡ userLevelsRule count (now (rec .entry)) ⌝ }
 {
     (rec[33] <= rec[35])
@@ -117,7 +119,7 @@ fn levels_ok(rec: &[u8], count: usize) -> bool
 }
 
 fn compartments_ok(rec: &[u8], count: usize) -> bool
-    requires { ⌜ (length (now rec) ≡ recordSize User) × (count ≤ 64) ⌝ }
+    requires { ⌜ (128 ≤ length (now rec)) × (count ≤ 64) ⌝ }
     ensures { λ r. ⌜ r ≡ userCompartmentsRule count (now (rec .entry)) ⌝ }
 {
     let read = number8(rec, 40);
@@ -131,29 +133,29 @@ fn compartments_ok(rec: &[u8], count: usize) -> bool
         & word::within(row, write)
 }
 
-fn groups_ok(rec: &[u8], count: usize) -> bool
-    requires { ⌜ (length (now rec) ≡ recordSize User) × (count ≤ 64) ⌝ }
-    ensures { λ r. ⌜ r ≡ userGroupsRule count (now (rec .entry)) ⌝ }
+fn groups_ok(edition: Edition, rec: &[u8], count: usize) -> bool
+    requires { ⌜ (length (now rec) ≡ recordSize edition User) × (count ≤ width) ⌝ }
+    ensures { λ r. ⌜ r ≡ userGroupsRule edition count (now (rec .entry)) ⌝ }
 {
     let all = Groups::all_below(count);
-    group_set(rec, 72).within(all)
-        & group_set(rec, 80).within(all)
-        & group_set(rec, 88).within(all)
-        & group_set(rec, 96).within(all)
+    let sets = sets_in(edition, rec);
+    sets.read.within(all) & sets.write.within(all) & sets.default.within(all) & sets.row.within(all)
 }
 
 // What a record must be whatever the others are.
 fn shape_ok(image: &[u8], rec: &[u8]) -> bool
-    requires { ⌜ Counted (now image) × (length (now rec) ≡ recordSize User) ⌝ }
+    requires { ⌜ Counted (now image) × ((length (now rec) ≡ recordSize (editionOf (now image)) User) × (128 ≤ length (now rec))) ⌝ }
     ensures { λ r. ⌜ r ≡ userShape (countsOf (now (image .entry))) (now (rec .entry)) ⌝ }
 {
+    let edition = edition_of(image);
+    let end = by_edition(edition, 104, 200);
     names::name_ok(&rec[0..31])
         & (rec[31] < 128)
         & all_zero(&rec[36..40])
-        & all_zero(&rec[104..])
+        & all_zero(&rec[end..])
         & levels_ok(rec, layout::levels(image))
         & compartments_ok(rec, layout::compartments(image))
-        & groups_ok(rec, layout::groups(image))
+        & groups_ok(edition, rec, layout::groups(image))
 }
 
 // User names rise strictly in byte order.

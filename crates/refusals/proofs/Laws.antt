@@ -1,4 +1,4 @@
--- What a refusal's number tells: with the values returned beside it, the whole refusal. Numbers run from 1 to 35.
+-- What a refusal's number tells: with the values returned beside it, the whole refusal. Numbers run from 1 to 37.
 -- So what an answer gives back tells the answer. Assumes nothing.
 use mathlib.Core.Path.{_≡_, refl, sym, ap, ap₂, _∙_}
 use mathlib.Core.Bool.{Bool, true, cond, _&&_, and-eq-true-iff}
@@ -15,22 +15,23 @@ use Rattle.refusals.specs.declared.answers.Checked.the-variants.{Accepte
 use Rattle.refusals.specs.declared.Refusal.{Refusal}
 use Rattle.refusals.specs.declared.Refusal.the-variants.{ImageLength, BlockCheck, ImageLayout, ComponentRecord, LabelRecord, UserRecord, ParentRing, NoUser, TextShape, UnknownName, RepeatedName}
 use Rattle.refusals.specs.declared.Refusal.the-variants.{LevelNotAllowed, CompartmentsNotAllowed, GroupsNotAllowed, RowLabelOutside, TableShape, Room}
-use Rattle.refusals.specs.declared.Refusal.the-variants.{NoRow, RowNotWritable, PayloadLength, MergeLetters, NoComponent, SessionRules}
+use Rattle.refusals.specs.declared.Refusal.the-variants.{NoRow, RowNotWritable, PayloadLength, MergeLetters, NoComponent, SessionRules, MoveLimits}
 
--- the refusals by their numbers, 1 to 19 and then 31 to 35, each with the values p and q where it has them. No refusal has the number 3
+-- the refusals by their numbers, 1 to 19 and then 31 to 37, each with the values p and q where it has them. No refusal has the number 3
+-- or 36
 abbrev table : ℕ → ℕ → List Refusal
 table p q =
     ImageLength ∷ BlockCheck p ∷ ImageLength ∷ NoUser ∷ TextShape ∷ UnknownName p ∷ RepeatedName p ∷ LevelNotAllowed
     ∷ CompartmentsNotAllowed ∷ GroupsNotAllowed ∷ RowLabelOutside ∷ TableShape ∷ Room ∷ NoRow ∷ RowNotWritable
     ∷ PayloadLength ∷ MergeLetters ∷ NoComponent ∷ SessionRules
-    ∷ ImageLayout ∷ ComponentRecord p q ∷ LabelRecord p q ∷ UserRecord p q ∷ ParentRing p ∷ []
+    ∷ ImageLayout ∷ ComponentRecord p q ∷ LabelRecord p q ∷ UserRecord p q ∷ ParentRing p ∷ ImageLength ∷ MoveLimits ∷ []
 
 -- the refusal with a number and values: the way back from `numberOf` and `valuesOf`
 abbrev pub refusalOf : ℕ → List ℕ → Refusal
 refusalOf n values = getD (table (getD values 0 0) (getD values 1 0)) (cond (ltb n 31) (n - 1) (n - 12)) ImageLength
 
 abbrev inRange : ℕ → Bool
-inRange n = leb 1 n && leb n 35
+inRange n = leb 1 n && leb n 37
 
 -- each line of the table: it is found again by its number and values, and its number is in the range of the table's
 line : (r : Refusal) → (refusalOf (numberOf r) (valuesOf r) ≡ r) × (inRange (numberOf r) ≡ true)
@@ -57,6 +58,7 @@ line PayloadLength = (refl, refl)
 line MergeLetters = (refl, refl)
 line NoComponent = (refl, refl)
 line SessionRules = (refl, refl)
+line MoveLimits = (refl, refl)
 
 pub refusal-found : (r : Refusal) → refusalOf (numberOf r) (valuesOf r) ≡ r
 refusal-found r = line r .0
@@ -66,10 +68,10 @@ pub number-tells : (r s : Refusal) → numberOf r ≡ numberOf s → valuesOf r 
 number-tells r s n v = sym (refusal-found r) ∙ ap₂ refusalOf n v ∙ refusal-found s
 
 pub number-from : (r : Refusal) → 1 ≤ numberOf r
-number-from r = leb-true 1 (numberOf r) (and-eq-true-iff (leb 1 (numberOf r)) (leb (numberOf r) 35) .0 (line r .1) .0)
+number-from r = leb-true 1 (numberOf r) (and-eq-true-iff (leb 1 (numberOf r)) (leb (numberOf r) 37) .0 (line r .1) .0)
 
-pub number-to : (r : Refusal) → numberOf r ≤ 35
-number-to r = leb-true (numberOf r) 35 (and-eq-true-iff (leb 1 (numberOf r)) (leb (numberOf r) 35) .0 (line r .1) .1)
+pub number-to : (r : Refusal) → numberOf r ≤ 37
+number-to r = leb-true (numberOf r) 37 (and-eq-true-iff (leb 1 (numberOf r)) (leb (numberOf r) 37) .0 (line r .1) .1)
 
 -- ---- block and record, as a C caller takes them from one number
 pub packed-block : (block slot : ℕ) → slot < 65536 → packedPlace block slot / 65536 ≡ block

@@ -38,8 +38,8 @@ fn table_ok(table: &[u8], width: usize) -> bool
 fn table_rights(image: &[u8], session: Session, table: &[u8], width: usize) -> Lent
     ensures { λ r. ⌜ TableGives (now (image .entry)) (sessionOf session) (now (table .entry)) width r ⌝ }
 {
-    let mut ancestors = table::EMPTY;
-    let found = lent_rights(image, &mut ancestors, session);
+    let mut parents = table::EMPTY;
+    let found = lent_rights(image, &mut parents, session);
     match found {
         Lent::At(view) => {
             if !table_ok(table, width) {

@@ -5,11 +5,13 @@ use mathlib.Core.Path.{_≡_, refl, sym, ap, _∙_, subst}
 use mathlib.Core.Bool.{true, false}
 use native.Mathlib.Omega.{arith}
 use lib.Dec.{lit≤, lit<}
+use Rattle.sets.specs.Words.{joined}
+use Rattle.records.specs.Fields.{groupsAt}
 use Rattle.fields.specs.Bytes.{number2, number4, number8}
 use Rattle.fields.specs.Scan.{firstBad}
 use Rattle.sets.specs.Sets.{has, within, meets, empty, collect}
 use Rattle.sets.proofs.Bounds.{none-below}
-use Rattle.header.specs.Layout.{levels, compartments, groups, components, firstBlock, blocksFor, recordOffset, recordAt, classFirst}
+use Rattle.header.specs.Layout.{levels, compartments, groups, components, firstBlock, blocksFor, recordOffset, recordAt, classFirst, editionOf}
 use Rattle.hierarchy.specs.Below.{parent, hasParent, lineageWithin, lineage, below}
 use Rattle.refusals.specs.declared.answers.Verdict.the-variants.{Yes, No}
 use Rattle.refusals.specs.Answers.{verdictOf}
@@ -44,7 +46,7 @@ computed : ((dominates cooperative north dock ≡ true) × (dominates cooperativ
     × (dominates cooperative dock north ≡ false))
     × ((dominates cooperative north northSouth ≡ true) × (dominates cooperative northSouth south ≡ true)
     × (dominates cooperative north south ≡ false))
-unfolding cooperative number2 number4 number8 firstBad has within meets empty collect levels compartments groups components firstBlock blocksFor recordOffset recordAt classFirst parent hasParent lineageWithin lineage below groupTest dominatesLevel dominatesCompartments dominatesGroups dominates
+unfolding cooperative number2 number4 number8 firstBad has within meets empty collect levels compartments groups components firstBlock blocksFor recordOffset recordAt classFirst parent hasParent lineageWithin lineage below groupTest dominatesLevel dominatesCompartments dominatesGroups dominates editionOf groupsAt joined
 computed = ((refl, refl, refl), (refl, refl, refl))
 
 -- the policy has every label at CREW of its four groups
@@ -54,7 +56,7 @@ exist g h =
     (record { level = counted .0; compartments = none-below (compartments cooperative); groups = subst (λ (n : ℕ). g < 2 ^ n) (sym (counted .1)) (omega arith) })
   where
     counted : (1 < levels cooperative) × (groups cooperative ≡ 4)
-    counted = unfold cooperative levels groups in (lit< tt, refl)
+    counted = unfold cooperative levels groups editionOf in (lit< tt, refl)
 
 answered : (a b : ℕ) → a ≤ 15 → b ≤ 15 → dominatesOf cooperative (crew a) (crew b) ≡ verdictOf (dominates cooperative (crew a) (crew b))
 unfolding dominatesOf

@@ -2,13 +2,14 @@
 -- from these facts. Assumes nothing.
 use mathlib.Core.Path.{_≡_, refl}
 use mathlib.Core.Bool.{true, false}
+use Rattle.sets.specs.Words.{joined}
 use Rattle.fields.specs.Bytes.{number2, number4, number8, all}
 use Rattle.fields.specs.Names.{nameByte, nameIn, sameName}
 use Rattle.fields.specs.Scan.{firstBad}
 use Rattle.sets.specs.Sets.{has, empty, within, meets, collect}
 use Rattle.refusals.specs.declared.Refusal.the-variants.{NoUser, RowLabelOutside, SessionRules}
-use Rattle.header.specs.Layout.{levels, compartments, groups, users, labels, components, firstBlock, blocksFor, recordOffset, recordAt, classFirst, userRecord}
-use Rattle.records.specs.Fields.{privileges}
+use Rattle.header.specs.Layout.{levels, compartments, groups, users, labels, components, firstBlock, blocksFor, recordOffset, recordAt, classFirst, userRecord, editionOf}
+use Rattle.records.specs.Fields.{privileges, groupsAt}
 use Rattle.hierarchy.specs.Below.{parent, hasParent, lineageWithin, lineage, below}
 use Rattle.refusals.specs.declared.answers.Checked.the-variants.{Accepted, Refused}
 use Rattle.image.specs.Lookup.{componentIndex, labelOfTag, userOfName}
@@ -30,7 +31,7 @@ use Rattle.sample.proofs.Mara.{mara}
 -- ---- MARA
 -- neither READ nor FULL
 pub no-privileges : privileges (userRecord cooperative 0) ≡ 0
-unfolding cooperative number2 levels compartments groups users labels components firstBlock blocksFor recordOffset recordAt
+unfolding cooperative number2 levels compartments groups users labels components firstBlock blocksFor recordOffset recordAt editionOf
 no-privileges = refl
 
 -- what she could ever read
@@ -42,7 +43,7 @@ pub record Ever : Type 0 where
   pub never77 : readableAtMaximum cooperative 0 77 ≡ false
 
 pub ever : Ever
-unfolding readableAtMaximum maximumReadLabel mayRead knownTag labelAt readsLabel readTests readLevelRule readGroupsRule groupTest readCompartmentsRule compaccessReads holdsCompaccess readsAll rightsAt writeCompartmentsOf writeGroupsOf cooperative number2 number4 number8 has empty within meets collect firstBad levels compartments groups users labels components firstBlock blocksFor recordOffset recordAt parent classFirst hasParent lineageWithin lineage below labelOfTag
+unfolding readableAtMaximum maximumReadLabel mayRead knownTag labelAt readsLabel readTests readLevelRule readGroupsRule groupTest readCompartmentsRule compaccessReads holdsCompaccess readsAll rightsAt writeCompartmentsOf writeGroupsOf cooperative number2 number4 number8 has empty within meets collect firstBad levels compartments groups users labels components firstBlock blocksFor recordOffset recordAt parent classFirst hasParent lineageWithin lineage below labelOfTag editionOf groupsAt joined
 ever = record { ever10 = refl; ever30 = refl; never20 = refl; never0 = refl; never77 = refl }
 
 -- ---- sessions that read all of that
@@ -55,24 +56,24 @@ pub record Verdicts (s : SessionMarks) : Type 0 where
   pub writes30 : mayWrite cooperative (sessionRights cooperative s) 30 ≡ false
 
 pub mara-verdicts : Verdicts mara
-unfolding mayRead knownTag labelAt readsLabel readTests readLevelRule readGroupsRule groupTest readCompartmentsRule compaccessReads holdsCompaccess readsAll mayWrite writesAll writesLabel writeTests writeLevelRule writeSetsRule writeGroupsRule writeCompartmentsRule compaccessWrites rightsAt writeCompartmentsOf writeGroupsOf cooperative number2 number4 number8 has empty within meets collect firstBad levels compartments groups users labels components firstBlock blocksFor recordOffset recordAt parent classFirst hasParent lineageWithin lineage below labelOfTag
+unfolding mayRead knownTag labelAt readsLabel readTests readLevelRule readGroupsRule groupTest readCompartmentsRule compaccessReads holdsCompaccess readsAll mayWrite writesAll writesLabel writeTests writeLevelRule writeSetsRule writeGroupsRule writeCompartmentsRule compaccessWrites rightsAt writeCompartmentsOf writeGroupsOf cooperative number2 number4 number8 has empty within meets collect firstBad levels compartments groups users labels components firstBlock blocksFor recordOffset recordAt parent classFirst hasParent lineageWithin lineage below labelOfTag editionOf groupsAt joined
 mara-verdicts = record { reads10 = refl; reads30 = refl; hides20 = refl; hides0 = refl; writes10 = refl; writes30 = refl }
 
 pub vaulted-passes : lentAnswer cooperative vaulted ≡ Accepted
-unfolding lentAnswer sessionRule sessionLabelAnswer rowLabelAnswer rowInside sessionGroupsRule rightsAt writeCompartmentsOf writeGroupsOf cooperative number2 number4 number8 within meets collect levels compartments groups users labels components firstBlock blocksFor recordOffset recordAt parent classFirst hasParent lineageWithin lineage below
+unfolding lentAnswer sessionRule sessionLabelAnswer rowLabelAnswer rowInside sessionGroupsRule rightsAt writeCompartmentsOf writeGroupsOf cooperative number2 number4 number8 within meets collect levels compartments groups users labels components firstBlock blocksFor recordOffset recordAt parent classFirst hasParent lineageWithin lineage below editionOf groupsAt joined
 vaulted-passes = rw sample-accepted
 
 pub vaulted-verdicts : Verdicts vaulted
-unfolding mayRead knownTag labelAt readsLabel readTests readLevelRule readGroupsRule groupTest readCompartmentsRule compaccessReads holdsCompaccess readsAll mayWrite writesAll writesLabel writeTests writeLevelRule writeSetsRule writeGroupsRule writeCompartmentsRule compaccessWrites rightsAt writeCompartmentsOf writeGroupsOf cooperative number2 number4 number8 has empty within meets collect firstBad levels compartments groups users labels components firstBlock blocksFor recordOffset recordAt parent classFirst hasParent lineageWithin lineage below labelOfTag
+unfolding mayRead knownTag labelAt readsLabel readTests readLevelRule readGroupsRule groupTest readCompartmentsRule compaccessReads holdsCompaccess readsAll mayWrite writesAll writesLabel writeTests writeLevelRule writeSetsRule writeGroupsRule writeCompartmentsRule compaccessWrites rightsAt writeCompartmentsOf writeGroupsOf cooperative number2 number4 number8 has empty within meets collect firstBad levels compartments groups users labels components firstBlock blocksFor recordOffset recordAt parent classFirst hasParent lineageWithin lineage below labelOfTag editionOf groupsAt joined
 vaulted-verdicts = record { reads10 = refl; reads30 = refl; hides20 = refl; hides0 = refl; writes10 = refl; writes30 = refl }
 
 -- ---- a session that reads less than she could ever read
 pub bare-passes : lentAnswer cooperative bare ≡ Accepted
-unfolding lentAnswer sessionRule sessionLabelAnswer rowLabelAnswer rowInside sessionGroupsRule rightsAt writeCompartmentsOf writeGroupsOf cooperative number2 number4 number8 within meets collect levels compartments groups users labels components firstBlock blocksFor recordOffset recordAt parent classFirst hasParent lineageWithin lineage below
+unfolding lentAnswer sessionRule sessionLabelAnswer rowLabelAnswer rowInside sessionGroupsRule rightsAt writeCompartmentsOf writeGroupsOf cooperative number2 number4 number8 within meets collect levels compartments groups users labels components firstBlock blocksFor recordOffset recordAt parent classFirst hasParent lineageWithin lineage below editionOf groupsAt joined
 bare-passes = rw sample-accepted
 
 pub glazed-passes : lentAnswer cooperative glazed ≡ Accepted
-unfolding lentAnswer sessionRule sessionLabelAnswer rowLabelAnswer rowInside sessionGroupsRule rightsAt writeCompartmentsOf writeGroupsOf cooperative number2 number4 number8 within meets collect levels compartments groups users labels components firstBlock blocksFor recordOffset recordAt parent classFirst hasParent lineageWithin lineage below
+unfolding lentAnswer sessionRule sessionLabelAnswer rowLabelAnswer rowInside sessionGroupsRule rightsAt writeCompartmentsOf writeGroupsOf cooperative number2 number4 number8 within meets collect levels compartments groups users labels components firstBlock blocksFor recordOffset recordAt parent classFirst hasParent lineageWithin lineage below editionOf groupsAt joined
 glazed-passes = rw sample-accepted
 
 pub record LessVerdicts (s : SessionMarks) : Type 0 where
@@ -82,29 +83,29 @@ pub record LessVerdicts (s : SessionMarks) : Type 0 where
   pub hides0 : mayRead cooperative (sessionRights cooperative s) 0 ≡ false
 
 pub glazed-verdicts : LessVerdicts glazed
-unfolding mayRead knownTag labelAt readsLabel readTests readLevelRule readGroupsRule groupTest readCompartmentsRule compaccessReads holdsCompaccess readsAll rightsAt writeCompartmentsOf writeGroupsOf cooperative number2 number4 number8 has empty within meets collect firstBad levels compartments groups users labels components firstBlock blocksFor recordOffset recordAt parent classFirst hasParent lineageWithin lineage below labelOfTag
+unfolding mayRead knownTag labelAt readsLabel readTests readLevelRule readGroupsRule groupTest readCompartmentsRule compaccessReads holdsCompaccess readsAll rightsAt writeCompartmentsOf writeGroupsOf cooperative number2 number4 number8 has empty within meets collect firstBad levels compartments groups users labels components firstBlock blocksFor recordOffset recordAt parent classFirst hasParent lineageWithin lineage below labelOfTag editionOf groupsAt joined
 glazed-verdicts = record { hides10 = refl; reads30 = refl; hides20 = refl; hides0 = refl }
 
 -- ---- label changes
 -- the row label CREW:KILN:DOCK does not lie inside CREW:GLAZE:NORTH
 pub glaze-refused : setLabelOf cooperative vaulted textGlaze ≡ (vaulted, Refused RowLabelOutside)
-unfolding setLabelOf labelChange sessionLabelAnswer rowInside sessionGroupsRule rightsAt writeCompartmentsOf writeGroupsOf cooperative number2 number4 number8 all textByte nameByte nameIn sameName firstBad has within meets collect levels compartments groups users labels components firstBlock blocksFor recordOffset recordAt componentIndex classFirst parent hasParent lineageWithin lineage below split isName isList shapeRule matches placeOfName readNames
+unfolding setLabelOf labelChange sessionLabelAnswer rowInside sessionGroupsRule rightsAt writeCompartmentsOf writeGroupsOf cooperative number2 number4 number8 all textByte nameByte nameIn sameName firstBad has within meets collect levels compartments groups users labels components firstBlock blocksFor recordOffset recordAt componentIndex classFirst parent hasParent lineageWithin lineage below split isName isList shapeRule matches placeOfName readNames editionOf groupsAt joined
 glaze-refused = rw vaulted-passes
 
 pub crew-accepted : setRowLabelOf cooperative vaulted textCrew ≡ (bare, Accepted)
-unfolding setRowLabelOf rowLabelChange rowLabelAnswer rightsAt writeCompartmentsOf writeGroupsOf cooperative number2 number4 number8 all textByte nameByte nameIn sameName firstBad has within meets collect levels compartments groups users labels components firstBlock blocksFor recordOffset recordAt componentIndex classFirst parent hasParent lineageWithin lineage below split isName isList shapeRule matches placeOfName readNames
+unfolding setRowLabelOf rowLabelChange rowLabelAnswer rightsAt writeCompartmentsOf writeGroupsOf cooperative number2 number4 number8 all textByte nameByte nameIn sameName firstBad has within meets collect levels compartments groups users labels components firstBlock blocksFor recordOffset recordAt componentIndex classFirst parent hasParent lineageWithin lineage below split isName isList shapeRule matches placeOfName readNames editionOf groupsAt joined
 crew-accepted = rw vaulted-passes
 
 -- CREW does
 pub glaze-accepted : setLabelOf cooperative bare textGlaze ≡ (glazed, Accepted)
-unfolding setLabelOf labelChange sessionLabelAnswer rowInside sessionGroupsRule rightsAt writeCompartmentsOf writeGroupsOf cooperative number2 number4 number8 all textByte nameByte nameIn sameName firstBad has within meets collect levels compartments groups users labels components firstBlock blocksFor recordOffset recordAt componentIndex classFirst parent hasParent lineageWithin lineage below split isName isList shapeRule matches placeOfName readNames
+unfolding setLabelOf labelChange sessionLabelAnswer rowInside sessionGroupsRule rightsAt writeCompartmentsOf writeGroupsOf cooperative number2 number4 number8 all textByte nameByte nameIn sameName firstBad has within meets collect levels compartments groups users labels components firstBlock blocksFor recordOffset recordAt componentIndex classFirst parent hasParent lineageWithin lineage below split isName isList shapeRule matches placeOfName readNames editionOf groupsAt joined
 glaze-accepted = rw bare-passes
 
 -- ---- refusals of an opening and of a lent session
 pub mark-refused : openOf cooperative nameMark ≡ refused NoUser
-unfolding openOf openAccepted cooperative number2 nameIn sameName firstBad levels compartments groups users labels components firstBlock blocksFor recordOffset recordAt userOfName
+unfolding openOf openAccepted cooperative number2 nameIn sameName firstBad levels compartments groups users labels components firstBlock blocksFor recordOffset recordAt userOfName editionOf
 mark-refused = rw sample-accepted
 
 pub too-low-refused : lentAnswer cooperative tooLow ≡ Refused SessionRules
-unfolding lentAnswer sessionRule sessionLabelAnswer rowLabelAnswer rowInside sessionGroupsRule rightsAt writeCompartmentsOf writeGroupsOf cooperative number2 number4 number8 within meets collect levels compartments groups users labels components firstBlock blocksFor recordOffset recordAt parent classFirst hasParent lineageWithin lineage below
+unfolding lentAnswer sessionRule sessionLabelAnswer rowLabelAnswer rowInside sessionGroupsRule rightsAt writeCompartmentsOf writeGroupsOf cooperative number2 number4 number8 within meets collect levels compartments groups users labels components firstBlock blocksFor recordOffset recordAt parent classFirst hasParent lineageWithin lineage below editionOf groupsAt joined
 too-low-refused = rw sample-accepted

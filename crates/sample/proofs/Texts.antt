@@ -3,7 +3,7 @@ use mathlib.Core.Path.{_≡_, refl}
 use mathlib.Core.List.{[], _∷_, _++_}
 use Rattle.fields.specs.Names.{nameIn}
 use Rattle.sets.specs.Sets.{has, empty}
-use Rattle.header.specs.Layout.{levels, compartments, groups, firstBlock, recordOffset, recordAt, classFirst}
+use Rattle.header.specs.Layout.{levels, compartments, groups, firstBlock, recordOffset, recordAt, classFirst, editionOf}
 use Rattle.image.specs.Lookup.{componentIndex}
 use Rattle.labels.specs.Text.{comma, colon, split}
 use Rattle.printing.specs.Print.{entryAt, listed, listText, section, textOf}
@@ -15,7 +15,7 @@ use Rattle.labels.specs.Label.{marks}
 
 -- "OPEN::NORTH,SOUTH", printed
 pub groups-alone : textOf cooperative (marks 0 0 10) ≡ open-level ++ colon ∷ colon ∷ north ++ comma ∷ south
-unfolding cooperative nameIn has empty levels compartments groups firstBlock recordOffset recordAt componentIndex classFirst entryAt listed listText section textOf
+unfolding cooperative nameIn has empty levels compartments groups firstBlock recordOffset recordAt componentIndex classFirst entryAt listed listText section textOf editionOf
 groups-alone = refl
 
 -- the text of P15 has the names of its print in another order

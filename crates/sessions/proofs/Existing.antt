@@ -7,7 +7,7 @@ use native.Mathlib.Omega.{arith}
 use borrow.Author.Tests.{lt-ltb}
 use Rattle.sets.specs.Sets.{intersection}
 use Rattle.sets.proofs.Bounds.{within-below, part-below, intersection-below}
-use Rattle.header.specs.Layout.{levels, compartments, groups, userRecord, countsOf}
+use Rattle.header.specs.Layout.{editionOf, levels, compartments, groups, userRecord, countsOf}
 use Rattle.records.specs.Fields.{readCompartments, writeCompartments, readGroups, writeGroups}
 use Rattle.records.proofs.MeaningLabels.{exist-holds}
 use Rattle.records.proofs.MeaningUsers.{UserKept}
@@ -42,8 +42,8 @@ module _ (im : List ℕ) (s : SessionMarks) (lent : lentAnswer im s ≡ Accepted
 
   groups-exist : s .label .groups < 2 ^ groups im
   groups-exist =
-      let read = below im (readGroups (userRecord im (s .user))) in
-      part-below (s .label .groups) read (groups im) (kept .groups) (below-limit im (readGroups (userRecord im (s .user))))
+      let read = below im (readGroups (editionOf im) (userRecord im (s .user))) in
+      part-below (s .label .groups) read (groups im) (kept .groups) (below-limit im (readGroups (editionOf im) (userRecord im (s .user))))
 
   -- the row label's lie in the session's
   row-level-exists : s .row .level < levels im
@@ -61,7 +61,7 @@ module _ (im : List ℕ) (s : SessionMarks) (lent : lentAnswer im s ≡ Accepted
   unfolding rightsAt writeGroupsOf
   row-groups-exist =
       let held = below im (s .label .groups) in
-      let written = below im (writeGroups (userRecord im (s .user))) in
+      let written = below im (writeGroups (editionOf im) (userRecord im (s .user))) in
       part-below (s .row .groups) (intersection held written) (groups im) (kept .inside .groups)
       (intersection-below held written (groups im) (below-limit im (s .label .groups)))
 

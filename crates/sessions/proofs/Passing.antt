@@ -7,7 +7,7 @@ use native.Mathlib.Omega.{arith}
 use borrow.Author.Tests.{ltb-true}
 use lib.Dec.{ltb}
 use Rattle.sets.proofs.Within.{has-within, within-intersection}
-use Rattle.header.specs.Layout.{users, userRecord}
+use Rattle.header.specs.Layout.{editionOf, users, userRecord}
 use Rattle.records.specs.Fields.{readCompartments, writeCompartments, defaultCompartments, rowCompartments, writeGroups, defaultGroups, rowGroups}
 use Rattle.hierarchy.specs.Below.{below}
 use Rattle.refusals.specs.declared.answers.Checked.{Checked}
@@ -32,7 +32,7 @@ use Rattle.sessions.proofs.Accepting.{lent-accepted, lent-means, means-
 
 module _ (im : List ℕ) (acc : IsAccepted im) (u : ℕ) (here : u < users im) where
   -- the record's default labels keep the rules of sessions
-  default-inside : Inside (rightsAt im u (defaultLabel (userRecord im u))) (defaultRowLabel (userRecord im u))
+  default-inside : Inside (rightsAt im u (defaultLabel (editionOf im) (userRecord im u))) (defaultRowLabel (editionOf im) (userRecord im u))
   unfolding rightsAt defaultLabel defaultRowLabel writeCompartmentsOf writeGroupsOf
   default-inside =
       let k = user-kept im acc u here in
@@ -44,16 +44,18 @@ module _ (im : List ℕ) (acc : IsAccepted im) (u : ℕ) (here : u < users im) w
             within-intersection (defaultCompartments r) (writeCompartments r) (rowCompartments r)
             (has-within (rowCompartments r) (defaultCompartments r) (k .compartmentsKept .rowInDefault))
             (has-within (rowCompartments r) (writeCompartments r) (k .compartmentsKept .rowInWrite));
-        groups = within-intersection (below im (defaultGroups r)) (below im (writeGroups r)) (rowGroups r) (b .rowBelowDefault) (b .rowBelowWrite);
+        groups =
+            within-intersection (below im (defaultGroups (editionOf im) r)) (below im (writeGroups (editionOf im) r)) (rowGroups (editionOf im) r)
+            (b .rowBelowDefault) (b .rowBelowWrite);
       }
 
-  pub default-passes : sessionRule im u (defaultLabel (userRecord im u)) (defaultRowLabel (userRecord im u)) ≡ true
+  pub default-passes : sessionRule im u (defaultLabel (editionOf im) (userRecord im u)) (defaultRowLabel (editionOf im) (userRecord im u)) ≡ true
   unfolding defaultRowLabel
   default-passes =
       let k = user-kept im acc u here in
       let b = user-below im acc u here in
       let r = userRecord im u in
-      means-session im u (defaultLabel r) (defaultRowLabel r)
+      means-session im u (defaultLabel (editionOf im) r) (defaultRowLabel (editionOf im) r)
       (record {
         user = here;
         sessionLabel = unfold defaultLabel in

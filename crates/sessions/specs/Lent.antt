@@ -9,7 +9,7 @@ use Rattle.sessions.specs.declared.given.Lent.{Lent}
 use Rattle.sessions.specs.declared.given.Lent.the-variants.{At, Refused}
 use Rattle.sessions.specs.Session.{SessionMarks, lentAnswer, sessionRights}
 
--- where image and session are accepted, what the session gives its user, with a table of ancestors; else the refusal
+-- where image and session are accepted, what the session gives its user, with a table of parents; else the refusal
 abbrev pub LentGives : List ℕ → List ℕ → SessionMarks → Lent → Type 0
 LentGives im table s (At view) =
     (lentAnswer im s ≡ checked.Accepted) × (Tabled im table × (rightsOf view ≡ sessionRights im s))

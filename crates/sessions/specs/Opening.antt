@@ -5,7 +5,8 @@ use mathlib.Core.List.{List}
 use lib.Dec.{ltb}
 use Rattle.refusals.specs.declared.Refusal.{Refusal}
 use Rattle.refusals.specs.declared.Refusal.the-variants.{NoUser}
-use Rattle.header.specs.Layout.{users, userRecord}
+use Rattle.header.specs.declared.edition.Edition.{Edition}
+use Rattle.header.specs.Layout.{editionOf, users, userRecord}
 use Rattle.records.specs.Fields.{defaultLevel, defaultCompartments, defaultGroups, rowLevel, rowCompartments, rowGroups}
 use Rattle.image.specs.Check.{checkOf}
 use Rattle.refusals.specs.Answers.{onChecked}
@@ -15,16 +16,16 @@ use Rattle.sessions.specs.Session.{SessionMarks, sessionMarks, sessionOf
 use Rattle.sessions.specs.declared.answers.Opened.{Opened}
 use Rattle.sessions.specs.declared.answers.Opened.the-variants as opened
 
-unfoldable pub defaultLabel : List ℕ → Marks
-defaultLabel rec = marks (defaultLevel rec) (defaultCompartments rec) (defaultGroups rec)
+unfoldable pub defaultLabel : Edition → List ℕ → Marks
+defaultLabel edition rec = marks (defaultLevel rec) (defaultCompartments rec) (defaultGroups edition rec)
 
-unfoldable pub defaultRowLabel : List ℕ → Marks
-defaultRowLabel rec = marks (rowLevel rec) (rowCompartments rec) (rowGroups rec)
+unfoldable pub defaultRowLabel : Edition → List ℕ → Marks
+defaultRowLabel edition rec = marks (rowLevel rec) (rowCompartments rec) (rowGroups edition rec)
 
 -- the session that opens for the user at place u
 unfoldable pub defaultSession : List ℕ → ℕ → SessionMarks
 defaultSession im u =
-    let rec = userRecord im u in sessionMarks u (defaultLabel rec) (defaultRowLabel rec)
+    let rec = userRecord im u in sessionMarks u (defaultLabel (editionOf im) rec) (defaultRowLabel (editionOf im) rec)
 
 -- ---- the answer of `open`: a session, or a refusal
 pub data Opening : Type 0 where

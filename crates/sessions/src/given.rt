@@ -52,7 +52,7 @@ fn lent_accepted(image: &[u8], table: &mut Table, session: Session) -> Lent
     Lent::At(view)
 }
 
-// The session's rights, and the table of ancestors that they were found by; the table is the caller's scratch room. Refusals: 1, 2,
+// The session's rights, and the table of parents that they were found by; the table is the caller's scratch room. Refusals: 1, 2,
 // 3, 19.
 pub fn lent_rights(image: &[u8], table: &mut Table, session: Session) -> Lent
     ensures { λ r. ⌜ LentGives (now (image .entry)) (now (table .exit)) (sessionOf session) r ⌝ }

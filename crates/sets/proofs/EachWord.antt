@@ -1,7 +1,7 @@
 -- Sets of several words, word by word: what an operation or a test of two such sets does to their words, one place put in or taken out, the
 -- places below n, and the lowest place. Each law holds for any number of words. The tests are joined from the left, as the code joins
 -- them: `t0 & t1 & t2`. Assumes nothing.
-use mathlib.Core.Path.{_≡_, refl, sym, ap, ap₂, _∙_, fun-ext}
+use mathlib.Core.Path.{_≡_, refl, sym, ap, ap₂, _∙_, fun-ext, subst}
 use mathlib.Core.Bool.{Bool, true, false, not, _&&_, _||_, and-true, or-false, and-assoc, or-assoc}
 use mathlib.Core.List.{List, [], _∷_, map, zipWith, foldl}
 use Prim.Native.Nat.{ℕ, zero, suc, _+_, _-_, _*_, _/_, _%_, _^_, _≤_, _<_, min}
@@ -15,8 +15,9 @@ use lib.Pow.{high, low}
 use lib.Seq.{getD-set-same, getD-set-other}
 use Rattle.sets.specs.Sets.{has, one, allBelow, union, intersection, difference, within, meets, empty, Lowest}
 use Rattle.sets.specs.Words.{wordOf, wordsOf, joined}
-use Rattle.sets.proofs.Has.{has-ext, one-has, allBelow-has, union-has, intersection-has, difference-has}
+use Rattle.sets.proofs.Has.{has-ext, none-has, one-has, allBelow-has, union-has, intersection-has, difference-has}
 use Rattle.sets.proofs.Bounds.{allBelow-below}
+use Rattle.sets.proofs.Lowest.{lowest-in}
 use Rattle.sets.proofs.Words.{AreWords, wordOf-has, wordOf-zero, wordOf-suc, joined-first, joined-past, joined-has, joined-whole}
 
 -- ---- an operation that goes place by place: f on the tests
@@ -246,10 +247,6 @@ in-first n w ws q l h f =
 pub lowest-here : (w : ℕ) (ws : List ℕ) (q : ℕ) → Lowest 64 w q → q < 64 → Lowest (64 * length (w ∷ ws)) (joined (w ∷ ws)) q
 lowest-here w ws q l h = in-first (64 * length (w ∷ ws)) w ws q l (omega arith) (λ m. h)
 
--- in the only word, or in none
-pub lowest-last : (w q : ℕ) → Lowest 64 w q → Lowest 64 (joined (w ∷ [])) q
-lowest-last w q l = in-first 64 w [] q l (l .upto) (λ m. m)
-
 -- past a first word that has no place
 pub lowest-past : (w : ℕ) (ws : List ℕ) (q r : ℕ) → Lowest 64 w q → 64 ≤ q → Lowest (64 * length ws) (joined ws) r
     → Lowest (64 * length (w ∷ ws)) (joined (w ∷ ws)) (64 + r)
@@ -267,3 +264,18 @@ lowest-past w ws q r l h m =
     at p j false e =
         let i : p ≡ 64 + (p - 64) = omega (arith, ltb-false p 64 e) in
         ap (has (joined (w ∷ ws))) i ∙ joined-past w ws (p - 64) ∙ m .lower (p - 64) (omega arith)
+
+-- the first word has a place, or it has none and the rest tells
+module _ (w : ℕ) (ws : List ℕ) where
+  pub lowest-found : (q : ℕ) → w < 2 ^ 64 → (w ≡ 0 → ⊥) → Lowest 64 w q → Lowest (64 * length (w ∷ ws)) (joined (w ∷ ws)) q
+  unfolding empty
+  lowest-found q h some l = lowest-here w ws q l (lowest-in 64 w q l h (ne-eqb w 0 some) .0)
+
+  pub lowest-rest : (r p : ℕ) → w ≡ 0 → p ≡ 64 + r → Lowest (64 * length ws) (joined ws) r → Lowest (64 * length (w ∷ ws)) (joined (w ∷ ws)) p
+  lowest-rest r p zeros e m =
+      subst (λ (x : ℕ). Lowest (64 * length (w ∷ ws)) (joined (w ∷ ws)) x) (sym e)
+      (lowest-past w ws 64 r (record { upto = omega arith; here = λ h. absurd (omega arith); lower = λ q h. rw zeros (none-has q) }) (omega arith) m)
+
+-- the last word, which may have no place
+pub lowest-last : (w q : ℕ) → Lowest 64 w q → Lowest 64 (joined (w ∷ [])) q
+lowest-last w q l = in-first 64 w [] q l (l .upto) (λ m. m)

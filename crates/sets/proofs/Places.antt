@@ -3,13 +3,8 @@ use mathlib.Core.Path.{_≡_}
 use Prim.Native.Nat.{_^_, _<_}
 use Rattle.sets.specs.Groups.{placesOf, wordsIn, width}
 use Rattle.sets.specs.declared.groups.Groups.{Groups}
-use Rattle.sets.proofs.Words.{joined-below, joined-alone}
+use Rattle.sets.proofs.Words.{joined-below}
 
 pub places-below : (g : Groups) → placesOf g < 2 ^ width
 unfolding placesOf
 places-below g = joined-below (wordsIn g)
-
--- for this crate's own proofs: what is kept is a word
-pub places-word : (g : Groups) → g .w0 < 2 ^ 64 → placesOf g ≡ g .w0
-unfolding placesOf
-places-word g h = joined-alone (g .w0) 0 h

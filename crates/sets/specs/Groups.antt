@@ -6,11 +6,11 @@ use Rattle.sets.specs.declared.groups.Groups.{Groups}
 
 -- how many places a set of groups has room for
 abbrev pub width : ℕ
-width = 64
+width = 256
 
 -- the words of g, the lowest first
 abbrev pub wordsIn : Groups → List ℕ
-wordsIn g = g .w0 ∷ []
+wordsIn g = g .w0 ∷ g .w1 ∷ g .w2 ∷ g .w3 ∷ []
 
 -- the places of g
 unfoldable pub placesOf : Groups → ℕ

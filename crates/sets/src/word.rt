@@ -1,6 +1,6 @@
 // Sets of places below 64 in one word: bit p is 1 exactly if place p is in the set.
 ghost use mathlib.Core.Path.{_≡_};
-ghost use Prim.Native.Nat.{_<_, _≤_};
+ghost use Prim.Native.Nat.{_-_, _<_, _≤_, min};
 ghost use Rattle.sets.specs.Sets as sets;
 ghost use Rattle.sets.specs.Sets.{one, allBelow, Lowest};
 
@@ -27,6 +27,21 @@ pub fn all_below(n: usize) -> u64
         (1u64 << n) - 1
     } else {
         0xffff_ffff_ffff_ffff
+    }
+}
+
+// The places below n from `from` on, moved down to 0..63.
+pub fn all_below_from(n: usize, from: usize) -> u64
+    ensures { λ r. ⌜ r ≡ allBelow (min 64 (n - from)) ⌝ }
+{
+    if n <= from {
+        return 0;
+    }
+    let left = n - from;
+    if left < 64 {
+        all_below(left)
+    } else {
+        all_below(64)
     }
 }
 

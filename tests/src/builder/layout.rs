@@ -10,20 +10,35 @@ pub struct Shape {
     pub in_block: usize,
 }
 
+/// Components of either edition.
 pub const COMPONENTS: Shape = Shape {
     kind: 67,
     size: 40,
     in_block: 12,
 };
-pub const LABELS: Shape = Shape {
+
+/// Labels and users of edition 1.
+pub const LABELS_1: Shape = Shape {
     kind: 76,
     size: 24,
     in_block: 21,
 };
-pub const USERS: Shape = Shape {
+pub const USERS_1: Shape = Shape {
     kind: 85,
     size: 128,
     in_block: 3,
+};
+
+/// Labels and users of edition 2.
+pub const LABELS_2: Shape = Shape {
+    kind: 76,
+    size: 48,
+    in_block: 10,
+};
+pub const USERS_2: Shape = Shape {
+    kind: 85,
+    size: 200,
+    in_block: 2,
 };
 
 /// The blocks of one kind.
@@ -70,8 +85,8 @@ impl Policy {
     pub fn runs(&self) -> [Run; 3] {
         let kinds = [
             (&COMPONENTS, self.components()),
-            (&LABELS, self.labels.len()),
-            (&USERS, self.users.len()),
+            (self.edition.labels(), self.labels.len()),
+            (self.edition.users(), self.users.len()),
         ];
         let mut next = 1;
         kinds.map(|(shape, count)| {

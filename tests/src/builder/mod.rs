@@ -1,13 +1,21 @@
 //! A policy as a value, and its image.
 
+mod edition;
 pub mod layout;
 mod random;
 mod sample;
+mod set;
+mod sizes;
+mod trees;
 
-pub use random::{first, full, letters, random, Sizes};
+pub use edition::Edition;
+pub use random::{full, letters, random, random_with};
 pub use sample::sample;
+pub use set::Set;
+pub use sizes::Sizes;
+pub use trees::Tree;
 
-use layout::{seal, Shape, BLOCK, COMPONENTS, LABELS, USERS};
+use layout::{seal, Shape, BLOCK, COMPONENTS};
 use std::iter;
 
 /// A level, a compartment or a group. Only a group may have a parent, by its place among groups.
@@ -15,23 +23,25 @@ use std::iter;
 pub struct Component {
     pub name: String,
     pub number: u16,
-    pub parent: Option<u8>,
+    pub parent: Option<u16>,
 }
 
 #[derive(Clone, Debug)]
 pub struct Label {
     pub tag: u32,
     pub level: u8,
-    pub compartments: u64,
-    pub groups: u64,
+    pub compartments: Set,
+    pub groups: Set,
 }
 
 impl Label {
-    /// The 48 bytes of the label in the C functions, which are those of its record without the tag.
+    /// The 48 bytes of the label in the C functions, which are those of its record in edition 2 without
+    /// the tag.
     pub fn to_bytes(&self) -> [u8; 48] {
         let mut bytes = [0; 48];
-        bytes[..LABELS.size].copy_from_slice(&label_record(self));
-        bytes[..4].fill(0);
+        bytes[4] = self.level;
+        bytes[8..16].copy_from_slice(&self.compartments.to_bytes()[..8]);
+        bytes[16..].copy_from_slice(&self.groups.to_bytes());
         bytes
     }
 }
@@ -45,12 +55,12 @@ pub struct Levels {
 }
 
 /// A user's sets of compartments or of groups.
-#[derive(Clone, Debug)]
+#[derive(Clone, Debug, Default)]
 pub struct Rights {
-    pub read: u64,
-    pub write: u64,
-    pub default: u64,
-    pub row: u64,
+    pub read: Set,
+    pub write: Set,
+    pub default: Set,
+    pub row: Set,
 }
 
 #[derive(Clone, Debug)]
@@ -64,6 +74,7 @@ pub struct User {
 
 #[derive(Clone, Debug)]
 pub struct Policy {
+    pub edition: Edition,
     pub levels: Vec<Component>,
     pub compartments: Vec<Component>,
     pub groups: Vec<Component>,
@@ -72,29 +83,44 @@ pub struct Policy {
 }
 
 impl Policy {
+    /// The same in an edition, which may have lower limits than the policy goes to.
+    pub fn in_edition(self, edition: Edition) -> Policy {
+        Policy { edition, ..self }
+    }
+
     /// S with every group that has an ancestor in S: subgroups are added until none is left to add.
-    pub fn below(&self, set: u64) -> u64 {
+    pub fn below(&self, set: Set) -> Set {
         let mut found = set;
         loop {
-            let mut next = found;
-            for (place, group) in self.groups.iter().enumerate().take(64) {
-                if group.parent.is_some_and(|parent| found >> parent & 1 == 1) {
-                    next |= 1 << place;
+            let before = found;
+            for (place, group) in self.groups.iter().enumerate().take(Set::PLACES) {
+                let is_under = |parent| found.has(usize::from(parent));
+                if !found.has(place) && group.parent.is_some_and(is_under) {
+                    found |= Set::of(place);
                 }
             }
-            if next == found {
+            if before == found {
                 return found;
             }
-            found = next;
         }
     }
 
     /// A group and its ancestors. The walk is cut after as many steps as there are groups, since a
     /// damaged policy may have a ring of parents.
-    pub fn with_ancestors(&self, group: usize) -> u64 {
+    pub fn with_ancestors(&self, group: usize) -> Set {
         let parent = |&group: &usize| self.groups[group].parent.map(usize::from);
-        let walk = iter::successors(Some(group), parent).take(self.groups.len());
-        walk.fold(0, |set, place| set | 1 << place)
+        let walk = iter::successors(Some(group), parent);
+        walk.take(self.groups.len()).collect()
+    }
+
+    /// All compartments that there are.
+    pub fn all_compartments(&self) -> Set {
+        Set::first(self.compartments.len())
+    }
+
+    /// All groups that there are.
+    pub fn all_groups(&self) -> Set {
+        Set::first(self.groups.len())
     }
 
     /// How many components there are in all three classes.
@@ -105,18 +131,13 @@ impl Policy {
 
 /// The policy's image. A policy that breaks a rule gives an image that breaks it.
 pub fn to_image(policy: &Policy) -> Vec<u8> {
+    let edition = policy.edition;
+    let labels = policy.labels.iter().map(|it| label_record(edition, it));
+    let users = policy.users.iter().map(|it| user_record(edition, it));
     let mut image = header(policy);
     pack(&mut image, &COMPONENTS, component_records(policy));
-    pack(
-        &mut image,
-        &LABELS,
-        policy.labels.iter().map(label_record).collect(),
-    );
-    pack(
-        &mut image,
-        &USERS,
-        policy.users.iter().map(user_record).collect(),
-    );
+    pack(&mut image, edition.labels(), labels.collect());
+    pack(&mut image, edition.users(), users.collect());
     for block in 0..image.len() / BLOCK {
         let place = (block as u16).to_le_bytes();
         image[block * BLOCK + 2..][..2].copy_from_slice(&place);
@@ -128,13 +149,22 @@ pub fn to_image(policy: &Policy) -> Vec<u8> {
 fn header(policy: &Policy) -> Vec<u8> {
     let mut block = vec![0; BLOCK];
     block[0] = 80;
-    block[4] = 1;
+    block[4] = policy.edition.number();
     block[5] = policy.levels.len() as u8;
     block[6] = policy.compartments.len() as u8;
-    block[7] = policy.groups.len() as u8;
-    block[8..10].copy_from_slice(&(policy.users.len() as u16).to_le_bytes());
-    block[10..12].copy_from_slice(&(policy.labels.len() as u16).to_le_bytes());
+    put(
+        &mut block[policy.edition.group_count()],
+        policy.groups.len(),
+    );
+    put(&mut block[8..10], policy.users.len());
+    put(&mut block[10..12], policy.labels.len());
     block
+}
+
+/// Lays a number down in as many bytes as there are.
+pub fn put(bytes: &mut [u8], number: usize) {
+    let length = bytes.len();
+    bytes.copy_from_slice(&number.to_le_bytes()[..length]);
 }
 
 fn pack(image: &mut Vec<u8>, shape: &Shape, records: Vec<Vec<u8>>) {
@@ -153,32 +183,32 @@ fn component_records(policy: &Policy) -> Vec<Vec<u8>> {
         .flat_map(|(components, class)| {
             components
                 .iter()
-                .map(move |component| component_record(class, component))
+                .map(move |component| component_record(policy.edition, class, component))
         })
         .collect()
 }
 
-fn component_record(class: u8, component: &Component) -> Vec<u8> {
+fn component_record(edition: Edition, class: u8, component: &Component) -> Vec<u8> {
     let mut record = vec![0; COMPONENTS.size];
     record[0] = class;
     record[1] = component.name.len() as u8;
     record[2..][..component.name.len()].copy_from_slice(component.name.as_bytes());
-    record[32..34].copy_from_slice(&component.number.to_le_bytes());
-    record[34] = component.parent.unwrap_or(255);
+    put(&mut record[32..34], component.number.into());
+    let parent = component.parent.map_or(edition.no_parent(), usize::from);
+    put(&mut record[edition.parent()], parent);
     record
 }
 
-fn label_record(label: &Label) -> Vec<u8> {
-    let mut record = vec![0; LABELS.size];
+/// In edition 1 groups past the 64th have no place in a record.
+fn label_record(edition: Edition, label: &Label) -> Vec<u8> {
+    let mut record = label.to_bytes().to_vec();
     record[..4].copy_from_slice(&label.tag.to_le_bytes());
-    record[4] = label.level;
-    record[8..16].copy_from_slice(&label.compartments.to_le_bytes());
-    record[16..24].copy_from_slice(&label.groups.to_le_bytes());
+    record.truncate(edition.labels().size);
     record
 }
 
-pub fn user_record(user: &User) -> Vec<u8> {
-    let mut record = vec![0; USERS.size];
+pub fn user_record(edition: Edition, user: &User) -> Vec<u8> {
+    let mut record = vec![0; edition.users().size];
     record[0] = user.name.len() as u8;
     record[1..][..user.name.len()].copy_from_slice(user.name.as_bytes());
     record[31] = user.privileges;
@@ -189,13 +219,15 @@ pub fn user_record(user: &User) -> Vec<u8> {
         row,
     } = user.levels;
     record[32..36].copy_from_slice(&[maximum, minimum, default, row]);
-    record[40..72].copy_from_slice(&rights(&user.compartments));
-    record[72..104].copy_from_slice(&rights(&user.groups));
+    record[40..72].copy_from_slice(&rights(&user.compartments, 8));
+    let groups = rights(&user.groups, edition.group_set());
+    record[72..72 + groups.len()].copy_from_slice(&groups);
     record
 }
 
-fn rights(rights: &Rights) -> Vec<u8> {
+/// The four sets, each in so many bytes.
+fn rights(rights: &Rights, size: usize) -> Vec<u8> {
     [rights.read, rights.write, rights.default, rights.row]
-        .map(u64::to_le_bytes)
+        .map(|set| set.to_bytes()[..size].to_vec())
         .concat()
 }

@@ -1,89 +1,29 @@
-//! Random well-formed policies, up to all limits of document 01.
+//! Random well-formed policies, up to all limits of an edition.
 
-use super::{Component, Label, Levels, Policy, Rights, User};
+use super::{Component, Edition, Label, Levels, Policy, Rights, Set, Sizes, Tree, User};
 use crate::rng::Rng;
 use std::collections::BTreeSet;
 
-/// How many of each a policy has.
-#[derive(Clone, Copy, Debug)]
-pub struct Sizes {
-    pub levels: usize,
-    pub compartments: usize,
-    pub groups: usize,
-    pub users: usize,
-    pub labels: usize,
-}
+/// From how many groups on a user often has few of them, so that not all groups lie below these.
+const MANY_GROUPS: usize = 64;
 
-impl Sizes {
-    /// The largest image: 127 blocks.
-    pub const FULL: Sizes = Sizes {
-        levels: 32,
-        compartments: 64,
-        groups: 64,
-        users: 96,
-        labels: 1_680,
-    };
-
-    pub fn small(rng: &mut Rng) -> Sizes {
-        Sizes {
-            levels: rng.range(1, 5),
-            compartments: rng.range(0, 6),
-            groups: rng.range(0, 8),
-            users: rng.range(0, 4),
-            labels: rng.range(0, 8),
-        }
-    }
-
-    /// One to three blocks of each kind.
-    pub fn several_blocks(rng: &mut Rng) -> Sizes {
-        Sizes {
-            levels: rng.range(1, 8),
-            compartments: rng.range(0, 12),
-            groups: rng.range(2, 16),
-            users: rng.range(2, 9),
-            labels: rng.range(10, 50),
-        }
-    }
-
-    /// Several blocks of each kind, at most.
-    pub fn medium(rng: &mut Rng) -> Sizes {
-        Sizes {
-            levels: rng.range(1, 32),
-            compartments: rng.range(0, 64),
-            groups: rng.range(0, 64),
-            users: rng.range(0, 12),
-            labels: rng.range(0, 64),
-        }
-    }
-
-    /// Anything within the limits, often a limit itself.
-    pub fn any(rng: &mut Rng) -> Sizes {
-        let full = Sizes::FULL;
-        Sizes {
-            levels: up_to(full.levels, rng).max(1),
-            compartments: up_to(full.compartments, rng),
-            groups: up_to(full.groups, rng),
-            users: up_to(full.users, rng),
-            labels: up_to(full.labels, rng),
-        }
-    }
-}
-
-fn up_to(limit: usize, rng: &mut Rng) -> usize {
-    match rng.index(6) {
-        0 => 0,
-        1 | 2 => limit,
-        _ => rng.range(0, limit),
-    }
-}
-
-/// The largest image's policy; a user's read rights have about half of all places.
-pub fn full() -> Policy {
-    random(Sizes::FULL, &mut Rng::new(1))
+/// The largest image's policy.
+pub fn full(edition: Edition) -> Policy {
+    random(Sizes::full(edition), &mut Rng::new(1))
 }
 
 pub fn random(sizes: Sizes, rng: &mut Rng) -> Policy {
+    grown(sizes, None, rng)
+}
+
+/// The same with parents of that form.
+pub fn random_with(tree: Tree, sizes: Sizes, rng: &mut Rng) -> Policy {
+    grown(sizes, Some(tree), rng)
+}
+
+fn grown(sizes: Sizes, tree: Option<Tree>, rng: &mut Rng) -> Policy {
     let mut policy = Policy {
+        edition: sizes.edition,
         levels: components(sizes.levels, &[], rng),
         compartments: Vec::new(),
         groups: Vec::new(),
@@ -92,14 +32,14 @@ pub fn random(sizes: Sizes, rng: &mut Rng) -> Policy {
     };
     policy.compartments = components(sizes.compartments, &policy.levels, rng);
     policy.groups = components(sizes.groups, &policy.compartments, rng);
-    let parents = parents(sizes.groups, rng);
+    let parents = Tree::parents(tree, sizes.groups, rng);
     for (group, parent) in policy.groups.iter_mut().zip(parents) {
         group.parent = parent;
     }
     let tags = rising(sizes.labels, 1, 99_999_999, rng);
     policy.labels = tags
         .into_iter()
-        .map(|tag| label(tag as u32, sizes, rng))
+        .map(|tag| label(tag as u32, &policy, rng))
         .collect();
     let names: BTreeSet<String> = names(sizes.users, &[], rng).into_iter().collect();
     policy.users = names
@@ -166,28 +106,12 @@ fn rising(count: usize, low: usize, high: usize, rng: &mut Rng) -> Vec<usize> {
     numbers.into_iter().collect()
 }
 
-/// Parents without rings, at lower and at higher places: each group may have one that comes before
-/// it in a random order. Some policies are one chain through all groups.
-fn parents(count: usize, rng: &mut Rng) -> Vec<Option<u8>> {
-    let mut order: Vec<usize> = (0..count).collect();
-    rng.shuffle(&mut order);
-    let chain = rng.once_in(4);
-    let mut parents = vec![None; count];
-    for at in 1..count {
-        let before = if chain { at - 1 } else { rng.index(at) };
-        if chain || !rng.once_in(4) {
-            parents[order[at]] = Some(order[before] as u8);
-        }
-    }
-    parents
-}
-
-fn label(tag: u32, sizes: Sizes, rng: &mut Rng) -> Label {
+fn label(tag: u32, policy: &Policy, rng: &mut Rng) -> Label {
     Label {
         tag,
-        level: rng.index(sizes.levels) as u8,
-        compartments: rng.subset(first(sizes.compartments)),
-        groups: rng.subset(first(sizes.groups)),
+        level: rng.index(policy.levels.len()) as u8,
+        compartments: rng.subset(policy.all_compartments()),
+        groups: rng.subset(policy.all_groups()),
     }
 }
 
@@ -204,19 +128,18 @@ fn user(name: String, policy: &Policy, rng: &mut Rng) -> User {
             default,
             row,
         },
-        compartments: rights(policy.compartments.len(), |set| set, rng),
-        groups: rights(policy.groups.len(), |set| policy.below(set), rng),
+        compartments: rights(policy.all_compartments(), |set| set, rng),
+        groups: rights(policy.all_groups(), |set| policy.below(set), rng),
     }
 }
 
 /// Write and default lie in what read reaches, row in what both default and write reach.
-fn rights(count: usize, reach: impl Fn(u64) -> u64, rng: &mut Rng) -> Rights {
-    let read = first(count)
-        & if rng.once_in(2) {
-            rng.word()
-        } else {
-            rng.subset(u64::MAX)
-        };
+fn rights(all: Set, reach: impl Fn(Set) -> Set, rng: &mut Rng) -> Rights {
+    let read = match rng.once_in(2) {
+        true if all.count() > MANY_GROUPS => rng.few(all),
+        true => rng.half(all),
+        false => rng.subset(all),
+    };
     let write = rng.subset(reach(read));
     let default = rng.subset(reach(read));
     let row = rng.subset(reach(default) & reach(write));
@@ -226,9 +149,4 @@ fn rights(count: usize, reach: impl Fn(u64) -> u64, rng: &mut Rng) -> Rights {
         default,
         row,
     }
-}
-
-/// The set of the first `count` places.
-pub fn first(count: usize) -> u64 {
-    (0..count).fold(0, |set, place| set | 1 << place)
 }

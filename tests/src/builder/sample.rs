@@ -1,6 +1,6 @@
 //! The sample co-operative of document 01.
 
-use super::{Component, Label, Levels, Policy, Rights, User};
+use super::{Component, Edition, Label, Levels, Policy, Rights, Set, User};
 
 const KILN: u64 = 1 << 0;
 const GLAZE: u64 = 1 << 1;
@@ -11,9 +11,10 @@ const OPEN: u8 = 0;
 const CREW: u8 = 1;
 const VAULT: u8 = 2;
 
-/// The co-operative with MARA and the labels 10, 20 and 30 of the report's example.
+/// The co-operative with MARA and the labels 10, 20 and 30 of the report's example, in edition 1.
 pub fn sample() -> Policy {
     Policy {
+        edition: Edition::One,
         levels: vec![
             component("OPEN", 100, None),
             component("CREW", 200, None),
@@ -45,22 +46,22 @@ fn mara() -> User {
             default: CREW,
             row: CREW,
         },
-        compartments: Rights {
-            read: KILN | GLAZE,
-            write: KILN,
-            default: KILN | GLAZE,
-            row: KILN,
-        },
-        groups: Rights {
-            read: NORTH,
-            write: DOCK,
-            default: NORTH,
-            row: DOCK,
-        },
+        compartments: rights([KILN | GLAZE, KILN, KILN | GLAZE, KILN]),
+        groups: rights([NORTH, DOCK, NORTH, DOCK]),
     }
 }
 
-fn component(name: &str, number: u16, parent: Option<u8>) -> Component {
+fn rights(sets: [u64; 4]) -> Rights {
+    let [read, write, default, row] = sets.map(Set::from);
+    Rights {
+        read,
+        write,
+        default,
+        row,
+    }
+}
+
+fn component(name: &str, number: u16, parent: Option<u16>) -> Component {
     Component {
         name: name.to_string(),
         number,
@@ -72,7 +73,7 @@ fn label(tag: u32, level: u8, compartments: u64, groups: u64) -> Label {
     Label {
         tag,
         level,
-        compartments,
-        groups,
+        compartments: compartments.into(),
+        groups: groups.into(),
     }
 }

@@ -1,11 +1,12 @@
-//! Images for comparing two programs. A seed names one image, its kind and its size.
+//! Images for comparing two programs. An edition and a seed name one image, its kind and its size.
 
+pub mod by_hand;
 mod tally;
 
 pub use tally::DamageTally;
 
 use crate::builder::layout::{seal, BLOCK};
-use crate::builder::{random, to_image, Policy, Sizes};
+use crate::builder::{random, to_image, Edition, Policy, Sizes};
 use crate::damage::{Combined, Damage, Draft, Expected};
 use crate::model::Refusal;
 use crate::rng::Rng;
@@ -46,17 +47,20 @@ pub struct Case {
 }
 
 impl Case {
-    pub fn new(seed: u64) -> Case {
-        let kind = kind_of(seed);
-        let mut rng = Rng::new(seed);
+    pub fn new(edition: Edition, seed: u64) -> Case {
+        let kind = kind_of(edition, seed);
+        let mut source = Source {
+            edition,
+            rng: Rng::new(seed),
+        };
         let (image, done) = match kind {
-            Kind::Valid => (to_image(&policy(&mut rng)), Vec::new()),
-            Kind::Damaged(damage) => damaged(&mut rng, |draft, rng| damage.apply(draft, rng)),
-            Kind::Combined(damage) => damaged(&mut rng, |draft, rng| damage.apply(draft, rng)),
-            Kind::Several => several(&mut rng),
-            Kind::Changed => (changed(&mut rng, false), Vec::new()),
-            Kind::ChangedMended => (changed(&mut rng, true), Vec::new()),
-            Kind::Noise => (noise(&mut rng), Vec::new()),
+            Kind::Valid => (to_image(&source.policy()), Vec::new()),
+            Kind::Damaged(damage) => source.damaged(|draft, rng| damage.apply(draft, rng)),
+            Kind::Combined(damage) => source.damaged(|draft, rng| damage.apply(draft, rng)),
+            Kind::Several => source.several(),
+            Kind::Changed => (source.changed(false), Vec::new()),
+            Kind::ChangedMended => (source.changed(true), Vec::new()),
+            Kind::Noise => (noise(&mut source.rng), Vec::new()),
         };
         Case { kind, image, done }
     }
@@ -76,8 +80,8 @@ impl Case {
 }
 
 /// Seeds in a row go through all kinds in turn.
-fn kind_of(seed: u64) -> Kind {
-    let damages = Damage::ALL.iter().map(|&damage| Kind::Damaged(damage));
+fn kind_of(edition: Edition, seed: u64) -> Kind {
+    let damages = Damage::of(edition).into_iter().map(Kind::Damaged);
     let combined = Combined::ALL.iter().map(|&damage| Kind::Combined(damage));
     let combined = combined.flat_map(|kind| [kind; COMBINED]);
     let others = OTHERS.iter().flat_map(|&(kind, times)| vec![kind; times]);
@@ -85,45 +89,72 @@ fn kind_of(seed: u64) -> Kind {
     kinds[(seed % kinds.len() as u64) as usize]
 }
 
-/// Mostly small, often of several blocks of each kind, now and then up to all limits.
-fn policy(rng: &mut Rng) -> Policy {
-    let sizes = match rng.index(150) {
-        0 => Sizes::any(rng),
-        1 => Sizes::FULL,
-        2..=11 => Sizes::medium(rng),
-        12..=61 => Sizes::several_blocks(rng),
-        _ => Sizes::small(rng),
-    };
-    random(sizes, rng)
+/// What policies are drawn from.
+struct Source {
+    edition: Edition,
+    rng: Rng,
 }
 
-/// Policies are tried until one has what the damage needs.
-fn damaged(
-    rng: &mut Rng,
-    apply: impl Fn(&mut Draft, &mut Rng) -> Option<Expected>,
-) -> (Vec<u8>, Vec<Expected>) {
-    loop {
-        let mut draft = Draft::new(policy(rng));
-        if let Some(expected) = apply(&mut draft, rng) {
-            return (draft.image, vec![expected]);
+impl Source {
+    /// Mostly small, often of several blocks of each kind, now and then up to all limits.
+    fn policy(&mut self) -> Policy {
+        let Source { edition, rng } = self;
+        let sizes = match rng.index(150) {
+            0 => Sizes::any(*edition, rng),
+            1 => Sizes::full(*edition),
+            2..=11 => Sizes::medium(*edition, rng),
+            12..=61 => Sizes::several_blocks(*edition, rng),
+            _ => Sizes::small(*edition, rng),
+        };
+        random(sizes, rng)
+    }
+
+    /// Policies are tried until one has what the damage needs.
+    fn damaged(
+        &mut self,
+        apply: impl Fn(&mut Draft, &mut Rng) -> Option<Expected>,
+    ) -> (Vec<u8>, Vec<Expected>) {
+        loop {
+            let mut draft = Draft::new(self.policy());
+            if let Some(expected) = apply(&mut draft, &mut self.rng) {
+                return (draft.image, vec![expected]);
+            }
         }
     }
-}
 
-/// Where the policy lacks what one kind of damage needs, another is tried, and at last another
-/// policy.
-fn several(rng: &mut Rng) -> (Vec<u8>, Vec<Expected>) {
-    let (wanted, is_late) = (rng.range(2, 4), rng.once_in(4));
-    loop {
-        let mut draft = Draft::new(policy(rng));
-        let tries = (0..40).filter_map(|_| {
-            let damage = one_of_several(is_late, rng);
-            damage.apply(&mut draft, rng)
-        });
-        let done: Vec<Expected> = tries.take(wanted).collect();
-        if done.len() == wanted {
-            return (draft.image, done);
+    /// Where the policy lacks what one kind of damage needs, another is tried, and at last another
+    /// policy.
+    fn several(&mut self) -> (Vec<u8>, Vec<Expected>) {
+        let (wanted, is_late) = (self.rng.range(2, 4), self.rng.once_in(4));
+        loop {
+            let mut draft = Draft::new(self.policy());
+            let tries = (0..40).filter_map(|_| {
+                let damage = one_of_several(is_late, &mut self.rng);
+                damage.apply(&mut draft, &mut self.rng)
+            });
+            let done: Vec<Expected> = tries.take(wanted).collect();
+            if done.len() == wanted {
+                return (draft.image, done);
+            }
         }
+    }
+
+    /// 0 and 255 are the same to a block's check, so they are often put for each other.
+    fn changed(&mut self, mended: bool) -> Vec<u8> {
+        let mut image = to_image(&self.policy());
+        let rng = &mut self.rng;
+        for _ in 0..rng.range(1, 3) {
+            let at = rng.index(image.len());
+            image[at] = match rng.index(3) {
+                0 => image[at] ^ 1 << rng.index(8),
+                1 if image[at].is_multiple_of(255) => 255 - image[at],
+                _ => rng.byte(),
+            };
+            if mended {
+                seal(&mut image, at / BLOCK);
+            }
+        }
+        image
     }
 }
 
@@ -140,23 +171,6 @@ fn one_of_several(is_late: bool, rng: &mut Rng) -> Damage {
             return damage;
         }
     }
-}
-
-/// 0 and 255 are the same to a block's check, so they are often put for each other.
-fn changed(rng: &mut Rng, mended: bool) -> Vec<u8> {
-    let mut image = to_image(&policy(rng));
-    for _ in 0..rng.range(1, 3) {
-        let at = rng.index(image.len());
-        image[at] = match rng.index(3) {
-            0 => image[at] ^ 1 << rng.index(8),
-            1 if image[at].is_multiple_of(255) => 255 - image[at],
-            _ => rng.byte(),
-        };
-        if mended {
-            seal(&mut image, at / BLOCK);
-        }
-    }
-    image
 }
 
 fn noise(rng: &mut Rng) -> Vec<u8> {

@@ -8,7 +8,7 @@ use crate::rng::Rng;
 type Byte = (usize, &'static [u8]);
 
 const KIND: Byte = (0, &[0, 67, 76, 80, 85]);
-const RECORDS: Byte = (1, &[0, 3, 12, 21]);
+const RECORDS: Byte = (1, &[0, 2, 3, 10, 12, 21]);
 
 /// Any block but the header.
 pub fn record_block(draft: &Draft, rng: &mut Rng) -> Option<usize> {
@@ -72,13 +72,20 @@ pub fn kind_order(draft: &mut Draft, rng: &mut Rng) -> Option<Expected> {
 /// a parent might be missing, which counts for a component.
 pub fn records_by_header(draft: &mut Draft, rng: &mut Rng) -> Option<Expected> {
     let policy = &draft.policy;
+    let edition = policy.edition;
+    let groups = edition.group_count();
     let [components, labels, users] = policy.runs();
     let (run, at, count, limit) = match rng.index(3) {
-        0 => (components, 7, policy.groups.len(), 64),
-        1 => (labels, 10, policy.labels.len(), 1_680),
-        _ => (users, 8, policy.users.len(), 96),
+        0 => (
+            components,
+            groups.clone(),
+            policy.groups.len(),
+            edition.most_groups(),
+        ),
+        1 => (labels, 10..12, policy.labels.len(), edition.most_labels()),
+        _ => (users, 8..10, policy.users.len(), edition.most_users()),
     };
-    let is_less = at != 7 && rng.once_in(2);
+    let is_less = at != groups && rng.once_in(2);
     let last = if run.blocks() > 0 { run.in_last() } else { 0 };
     let fits = if is_less {
         last > 1
@@ -89,8 +96,7 @@ pub fn records_by_header(draft: &mut Draft, rng: &mut Rng) -> Option<Expected> {
         return None;
     }
     let new = if is_less { count - 1 } else { count + 1 };
-    let bytes = (new as u16).to_le_bytes();
-    draft.write(at, if at == 7 { &bytes[..1] } else { &bytes });
+    draft.write_number(at, new);
     Expected::layout(run.first + run.blocks() - 1)
 }
 

@@ -1,7 +1,7 @@
 //! Two faults in one image, of which request R-2 says which one is told. That one is done last,
 //! unless a comment says otherwise.
 
-use super::users::{group, group_of, Inclusion};
+use super::users::{group, group_of, last_unused, Inclusion};
 use super::{blocks, components, places, rings, Draft, Expected};
 use crate::builder::layout::{RecordAt, Run};
 use crate::rng::Rng;
@@ -24,10 +24,11 @@ fn any(draft: &Draft, rng: &mut Rng, which: Which) -> Option<RecordAt> {
 
 /// Breaks a rule that a record keeps by itself.
 fn spoil(draft: &mut Draft, rng: &mut Rng, at: RecordAt) -> Option<Expected> {
+    let unused = last_unused(draft.edition());
     let (byte, value) = match at.kind {
         67 => *rng.pick(&[(0, 0), (1, 31), (2, b'a'), (33, 255), (39, 1)]),
         76 => *rng.pick(&[(3, 255), (4, 255), (5, 1), (7, 1)]),
-        _ => *rng.pick(&[(0, 0), (1, b'a'), (31, 128), (32, 255), (127, 1)]),
+        _ => *rng.pick(&[(0, 0), (1, b'a'), (31, 128), (32, 255), (unused, 1)]),
     };
     draft.break_record(at, byte, &[value])
 }
@@ -108,9 +109,9 @@ pub fn parent_missing_and_ring(draft: &mut Draft, rng: &mut Rng) -> Option<Expec
     let count = draft.policy.groups.len();
     let group = rng.place(0, count).filter(|_| count > 1)?;
     let on_ring = (group + rng.range(1, count - 1)) % count;
-    draft.write(draft.policy.group_at(on_ring).offset + 34, &[on_ring as u8]);
-    let parent = rng.with_ends(count, 254) as u8;
-    draft.break_record(draft.policy.group_at(group), 34, &[parent])
+    draft.write_parent(draft.policy.group_at(on_ring), on_ring);
+    let parent = components::parent_from(count, draft.edition(), rng);
+    draft.break_parent(draft.policy.group_at(group), parent)
 }
 
 // "A user's below rules come last."

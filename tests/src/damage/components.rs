@@ -2,7 +2,7 @@
 
 use super::{places, Draft, Expected};
 use crate::builder::layout::{RecordAt, COMPONENTS};
-use crate::builder::Policy;
+use crate::builder::{Edition, Policy, Rights, Set};
 use crate::rng::Rng;
 
 pub fn any(draft: &Draft, rng: &mut Rng) -> Option<RecordAt> {
@@ -65,13 +65,15 @@ pub fn class_by_header(draft: &mut Draft, rng: &mut Rng) -> Option<Expected> {
     ];
     let class = rng.index(2);
     let least = 1 - class;
-    if counts[class] <= least || counts[class + 1] == 64 {
+    let most = [64, policy.edition.most_groups()][class];
+    if counts[class] <= least || counts[class + 1] == most {
         return None;
     }
     let place: usize = counts[..=class].iter().sum();
     let at = policy.component_at(place - 1);
-    draft.put(5 + class, &[counts[class] as u8 - 1]);
-    draft.write(6 + class, &[counts[class + 1] as u8 + 1]);
+    let bytes = [5..6, 6..7, policy.edition.group_count()];
+    draft.write_number(bytes[class].clone(), counts[class] - 1);
+    draft.write_number(bytes[class + 1].clone(), counts[class + 1] + 1);
     Expected::record(at)
 }
 
@@ -114,20 +116,77 @@ pub fn compartment_parent(draft: &mut Draft, rng: &mut Rng) -> Option<Expected> 
 }
 
 fn some_parent(draft: &mut Draft, rng: &mut Rng, place: usize) -> Option<Expected> {
-    let parent = rng.with_ends(0, 254) as u8;
-    draft.break_record(draft.policy.component_at(place), 34, &[parent])
+    let parent = parent_from(0, draft.edition(), rng);
+    draft.break_parent(draft.policy.component_at(place), parent)
+}
+
+/// A number from `low` on that isn't the one for no parent; often one next to a limit.
+pub fn parent_from(low: usize, edition: Edition, rng: &mut Rng) -> usize {
+    let high = edition.no_parent() - 1;
+    let limit = *rng.pick(&[63, 64, 254, 255, 256, 257]);
+    match rng.once_in(4) && (low..=high).contains(&limit) {
+        true => limit,
+        false => rng.with_ends(low, high),
+    }
+}
+
+/// What stands for no parent in the other edition. In edition 2 it may be a group's place.
+pub fn parent_of_other_edition(draft: &mut Draft, rng: &mut Rng) -> Option<Expected> {
+    let at = any(draft, rng)?;
+    let none = draft.edition().other().no_parent();
+    let is_group = draft.get(at.offset) == 3;
+    if is_group && draft.edition() == Edition::Two && none < draft.policy.groups.len() {
+        return None;
+    }
+    draft.write_number(at.offset + 34..at.offset + 36, none);
+    Expected::record(at)
+}
+
+/// Edition 2: the second byte of a parent, which is 0 with a parent and 255 without, is another. With the
+/// first it may then name a group, or none.
+pub fn parent_high_byte(draft: &mut Draft, rng: &mut Rng) -> Option<Expected> {
+    let at = any(draft, rng)?;
+    if draft.edition() == Edition::One {
+        return None;
+    }
+    let [low, high] = [34, 35].map(|byte| draft.get(at.offset + byte));
+    let value = rng.byte_but(high);
+    let parent = usize::from(u16::from_le_bytes([low, value]));
+    let is_group = draft.get(at.offset) == 3;
+    if is_group && parent < draft.policy.groups.len() || parent == draft.edition().no_parent() {
+        return None;
+    }
+    draft.break_record(at, 35, &[value])
+}
+
+/// The other edition's number in an image that the other edition would lay out in as many blocks. The
+/// first level hasn't the other edition's number for no parent.
+pub fn edition_other_fits(draft: &mut Draft, _: &mut Rng) -> Option<Expected> {
+    let policy = &mut draft.policy;
+    policy.groups.clear();
+    policy.labels.truncate(10);
+    policy.users.truncate(2);
+    for label in &mut policy.labels {
+        label.groups = Set::NONE;
+    }
+    for user in &mut policy.users {
+        user.groups = Rights::default();
+    }
+    draft.rebuild();
+    draft.write(4, &[draft.edition().other().number()]);
+    Expected::record(draft.policy.component_at(0))
 }
 
 pub fn group_parent_missing(draft: &mut Draft, rng: &mut Rng) -> Option<Expected> {
     let count = draft.policy.groups.len();
     let group = rng.place(0, count)?;
-    let parent = rng.with_ends(count, 254);
-    draft.break_record(draft.policy.group_at(group), 34, &[parent as u8])
+    let parent = parent_from(count, draft.edition(), rng);
+    draft.break_parent(draft.policy.group_at(group), parent)
 }
 
 pub fn unused(draft: &mut Draft, rng: &mut Rng) -> Option<Expected> {
     let at = any(draft, rng)?;
-    let byte = rng.with_ends(35, 39);
+    let byte = rng.with_ends(draft.edition().parent().end, 39);
     let value = rng.nonzero();
     draft.break_record(at, byte, &[value])
 }

@@ -1,8 +1,9 @@
 //! An image under damage, with the policy that it was made from.
 
 use crate::builder::layout::{seal, RecordAt, BLOCK};
-use crate::builder::{to_image, Policy};
+use crate::builder::{put, to_image, Edition, Policy};
 use crate::model::{Fault, Kind, Refusal};
+use std::ops::Range;
 
 /// What a damaged image is refused with, if it was well-formed before.
 #[derive(Clone, Copy, Debug, PartialEq, Eq)]
@@ -74,6 +75,10 @@ impl Draft {
         self.image = to_image(&self.policy);
     }
 
+    pub fn edition(&self) -> Edition {
+        self.policy.edition
+    }
+
     pub fn blocks(&self) -> usize {
         self.image.len() / BLOCK
     }
@@ -94,6 +99,25 @@ impl Draft {
     pub fn write(&mut self, at: usize, bytes: &[u8]) {
         self.put(at, bytes);
         seal(&mut self.image, at / BLOCK);
+    }
+
+    /// Writes a number into bytes that lie in one block and mends the block's check.
+    pub fn write_number(&mut self, at: Range<usize>, number: usize) {
+        let mut bytes = vec![0; at.len()];
+        put(&mut bytes, number);
+        self.write(at.start, &bytes);
+    }
+
+    /// Writes the parent of a component, which is a group's place or the number for none.
+    pub fn write_parent(&mut self, at: RecordAt, parent: usize) {
+        let bytes = self.edition().parent();
+        self.write_number(at.offset + bytes.start..at.offset + bytes.end, parent);
+    }
+
+    /// The same with a parent by which the component breaks a rule.
+    pub fn break_parent(&mut self, at: RecordAt, parent: usize) -> Option<Expected> {
+        self.write_parent(at, parent);
+        Expected::record(at)
     }
 
     /// Writes bytes of a record, from its byte `byte` on, by which it breaks a rule of its kind.

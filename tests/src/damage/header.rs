@@ -1,9 +1,10 @@
 //! Damage to the header's rules, and to the number of blocks that its counts need (31 at block 0).
 
 use super::{Draft, Expected};
-use crate::builder::layout::BLOCK;
-use crate::builder::{Component, Label, Levels, Rights, User};
+use crate::builder::layout::{Shape, BLOCK};
+use crate::builder::{Component, Edition, Label, Levels, Policy, Rights, Set, User};
 use crate::rng::Rng;
+use std::iter;
 
 pub fn kind(draft: &mut Draft, rng: &mut Rng) -> Option<Expected> {
     change(draft, rng, 0)
@@ -13,12 +14,58 @@ pub fn records(draft: &mut Draft, rng: &mut Rng) -> Option<Expected> {
     change(draft, rng, 1)
 }
 
-pub fn edition(draft: &mut Draft, rng: &mut Rng) -> Option<Expected> {
-    change(draft, rng, 4)
+/// An edition that there isn't.
+pub fn edition_unknown(draft: &mut Draft, rng: &mut Rng) -> Option<Expected> {
+    let edition = match rng.once_in(2) {
+        true => *rng.pick(&[0, 3, 255]),
+        false => rng.range(3, 255) as u8,
+    };
+    draft.write(4, &[edition]);
+    Expected::layout(0)
 }
 
+/// The other edition's number, where the header or the length is then at fault.
+pub fn edition_other(draft: &mut Draft, _: &mut Rng) -> Option<Expected> {
+    if fits_other(&draft.policy) {
+        return None;
+    }
+    draft.write(4, &[draft.edition().other().number()]);
+    Expected::layout(0)
+}
+
+/// Whether header and length are as in an image of the other edition: the number of groups has its own
+/// place in each, so that there can be none.
+fn fits_other(policy: &Policy) -> bool {
+    let other = policy.clone().in_edition(policy.edition.other());
+    let blocks = |policy: &Policy| policy.runs().map(|run| run.blocks());
+    policy.groups.is_empty() && blocks(policy) == blocks(&other)
+}
+
+/// Edition 2: what held the number of groups in edition 1 holds one again.
+pub fn old_group_count(draft: &mut Draft, rng: &mut Rng) -> Option<Expected> {
+    let old = draft.edition().other().group_count();
+    if draft.edition() == Edition::One {
+        return None;
+    }
+    let count = draft.policy.groups.len() as u8;
+    let value = match rng.once_in(2) && count > 0 {
+        true => count,
+        false => rng.nonzero(),
+    };
+    draft.write(old.start, &[value]);
+    Expected::layout(0)
+}
+
+/// The bytes up to the check that hold nothing: byte 7 and those from 12 on, but for the number of
+/// groups. Each of the first ones comes often.
 pub fn unused(draft: &mut Draft, rng: &mut Rng) -> Option<Expected> {
-    let at = rng.with_ends(12, 509);
+    let groups = draft.edition().group_count();
+    let bytes = iter::once(7).chain(12..=509);
+    let bytes: Vec<usize> = bytes.filter(|at| !groups.contains(at)).collect();
+    let at = match rng.once_in(2) {
+        true => *rng.pick(&bytes[..5]),
+        false => bytes[rng.with_ends(0, bytes.len() - 1)],
+    };
     change(draft, rng, at)
 }
 
@@ -48,12 +95,30 @@ pub fn compartments_over(draft: &mut Draft, rng: &mut Rng) -> Option<Expected> {
 }
 
 pub fn groups_over(draft: &mut Draft, rng: &mut Rng) -> Option<Expected> {
-    grow(&mut draft.policy.groups, rng.range(65, 72));
+    let most = draft.edition().most_groups();
+    grow(&mut draft.policy.groups, rng.range(most + 1, most + 8));
     rebuilt(draft)
 }
 
+/// The same without the groups: the count alone is over its limit, often by what a program doesn't see
+/// that looks at one byte of it.
+pub fn group_count_over(draft: &mut Draft, rng: &mut Rng) -> Option<Expected> {
+    let at = draft.edition().group_count();
+    let most = draft.edition().most_groups();
+    let (count, end) = (draft.policy.groups.len(), 1 << (8 * at.len()));
+    let new = match rng.index(3) {
+        0 => most + 1,
+        1 if count + 256 > most && count + 256 < end => count + 256,
+        _ => rng.range(most + 1, end - 1),
+    };
+    draft.write_number(at, new);
+    Expected::layout(0)
+}
+
 pub fn users_over(draft: &mut Draft, rng: &mut Rng) -> Option<Expected> {
-    draft.policy.users.resize(rng.range(97, 99), no_rights());
+    let edition = draft.edition();
+    let count = over(edition.most_users(), edition.users(), rng);
+    draft.policy.users.resize(count, no_rights());
     for (place, user) in draft.policy.users.iter_mut().enumerate() {
         user.name = format!("U{place:02}");
     }
@@ -64,14 +129,22 @@ pub fn labels_over(draft: &mut Draft, rng: &mut Rng) -> Option<Expected> {
     let lowest = Label {
         tag: 0,
         level: 0,
-        compartments: 0,
-        groups: 0,
+        compartments: Set::NONE,
+        groups: Set::NONE,
     };
-    draft.policy.labels.resize(rng.range(1_681, 1_701), lowest);
+    let edition = draft.edition();
+    let count = over(edition.most_labels(), edition.labels(), rng);
+    draft.policy.labels.resize(count, lowest);
     for (label, tag) in draft.policy.labels.iter_mut().zip(1..) {
         label.tag = tag;
     }
     rebuilt(draft)
+}
+
+/// A count over a limit by no more than a block holds: the largest image has 127 blocks, and 128 are not
+/// too long.
+fn over(most: usize, shape: &Shape, rng: &mut Rng) -> usize {
+    rng.range(most + 1, most + shape.in_block)
 }
 
 /// As many components as asked for, numbered from 0, with new names for the new ones.
@@ -94,12 +167,6 @@ fn grow(components: &mut Vec<Component>, count: usize) {
 }
 
 fn no_rights() -> User {
-    let none = Rights {
-        read: 0,
-        write: 0,
-        default: 0,
-        row: 0,
-    };
     let levels = Levels {
         maximum: 0,
         minimum: 0,
@@ -110,8 +177,8 @@ fn no_rights() -> User {
         name: String::new(),
         privileges: 0,
         levels,
-        compartments: none.clone(),
-        groups: none,
+        compartments: Rights::default(),
+        groups: Rights::default(),
     }
 }
 
@@ -137,28 +204,26 @@ pub fn block_extra(draft: &mut Draft, rng: &mut Rng) -> Option<Expected> {
 /// A count, within its limit or over it, that needs another number of blocks.
 pub fn count_unfit(draft: &mut Draft, rng: &mut Rng) -> Option<Expected> {
     let policy = &draft.policy;
-    let components = policy.components();
-    let (at, count, in_block, rest) = *rng.pick(&[
-        (5, policy.levels.len(), 12, components - policy.levels.len()),
-        (
-            6,
-            policy.compartments.len(),
-            12,
-            components - policy.compartments.len(),
-        ),
-        (7, policy.groups.len(), 12, components - policy.groups.len()),
-        (8, policy.users.len(), 3, 0),
-        (10, policy.labels.len(), 21, 0),
-    ]);
+    let [levels, compartments, groups] =
+        [&policy.levels, &policy.compartments, &policy.groups].map(Vec::len);
+    let [components, labels, users] = policy.runs();
+    let counts = [
+        (5..6, levels, &components),
+        (6..7, compartments, &components),
+        (policy.edition.group_count(), groups, &components),
+        (8..10, users.count, &users),
+        (10..12, labels.count, &labels),
+    ];
+    let (at, count, run) = rng.pick(&counts).clone();
+    let (in_block, rest) = (run.shape.in_block, run.count - count);
     let new = match rng.index(4) {
         0 => count.saturating_sub(in_block),
         1 => count + in_block,
         _ => rng.range(0, 255),
     };
-    if (rest + new).div_ceil(in_block) == (rest + count).div_ceil(in_block) {
+    if (rest + new).div_ceil(in_block) == run.blocks() {
         return None;
     }
-    let bytes = (new as u16).to_le_bytes();
-    draft.write(at, if at < 8 { &bytes[..1] } else { &bytes });
+    draft.write_number(at, new);
     Expected::layout(0)
 }

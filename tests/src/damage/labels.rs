@@ -1,8 +1,9 @@
 //! Damage to a label's rules (33 at its record).
 
 use super::{places, Draft, Expected};
-use crate::builder::layout::{RecordAt, LABELS};
+use crate::builder::layout::RecordAt;
 use crate::rng::Rng;
+use std::ops::Range;
 
 fn any(draft: &Draft, rng: &mut Rng) -> Option<RecordAt> {
     let [_, labels, _] = draft.policy.runs();
@@ -11,7 +12,8 @@ fn any(draft: &Draft, rng: &mut Rng) -> Option<RecordAt> {
 
 /// The place of a label that has one before it.
 fn later(draft: &Draft, rng: &mut Rng) -> Option<usize> {
-    places::later(0, draft.policy.labels.len(), LABELS.in_block, rng)
+    let in_block = draft.edition().labels().in_block;
+    places::later(0, draft.policy.labels.len(), in_block, rng)
 }
 
 pub fn tag_zero(draft: &mut Draft, rng: &mut Rng) -> Option<Expected> {
@@ -46,20 +48,27 @@ pub fn level_missing(draft: &mut Draft, rng: &mut Rng) -> Option<Expected> {
 }
 
 pub fn compartment_missing(draft: &mut Draft, rng: &mut Rng) -> Option<Expected> {
-    place_missing(draft, rng, 8, draft.policy.compartments.len())
+    let count = draft.policy.compartments.len();
+    place_missing(draft, rng, 8, count..64)
 }
 
 pub fn group_missing(draft: &mut Draft, rng: &mut Rng) -> Option<Expected> {
-    place_missing(draft, rng, 16, draft.policy.groups.len())
+    let count = draft.policy.groups.len();
+    place_missing(draft, rng, 16, count..draft.edition().most_groups())
 }
 
-/// Adds to the set at `byte` a place that is not below the count.
-fn place_missing(draft: &mut Draft, rng: &mut Rng, byte: usize, count: usize) -> Option<Expected> {
+/// Adds to the set at `byte` a place that the policy lacks.
+fn place_missing(
+    draft: &mut Draft,
+    rng: &mut Rng,
+    byte: usize,
+    lacking: Range<usize>,
+) -> Option<Expected> {
     let at = any(draft, rng)?;
-    if count >= 64 {
+    if lacking.is_empty() {
         return None;
     }
-    let place = rng.with_ends(count, 63);
+    let place = rng.with_ends(lacking.start, lacking.end - 1);
     let byte = byte + place / 8;
     let value = draft.get(at.offset + byte) | 1 << (place % 8);
     draft.break_record(at, byte, &[value])

@@ -16,6 +16,7 @@ mod users;
 
 pub use draft::{Draft, Expected};
 
+use crate::builder::Edition;
 use crate::rng::Rng;
 use combined::{COMPONENTS, LABELS, USERS};
 use users::Inclusion;
@@ -72,11 +73,14 @@ damages! {
     31 header {
         HeaderKind => kind,
         HeaderRecords => records,
-        Edition => edition,
+        EditionUnknown => edition_unknown,
+        EditionOther => edition_other,
         LevelsNone => levels_none,
         LevelsOver => levels_over,
         CompartmentsOver => compartments_over,
         GroupsOver => groups_over,
+        GroupCountOver => group_count_over,
+        OldGroupCount => old_group_count,
         UsersOver => users_over,
         LabelsOver => labels_over,
         HeaderUnused => unused,
@@ -103,7 +107,10 @@ damages! {
         LevelParent => level_parent,
         CompartmentParent => compartment_parent,
         GroupParentMissing => group_parent_missing,
+        ParentOfOtherEdition => parent_of_other_edition,
+        ParentHighByte => parent_high_byte,
         ComponentUnused => unused,
+        EditionOtherFits => edition_other_fits,
     }
     32 names {
         NameEmpty => empty(names::component),
@@ -162,6 +169,19 @@ damages! {
 }
 
 impl Damage {
+    /// The kinds that an edition has.
+    pub fn of(edition: Edition) -> Vec<Damage> {
+        let kinds = Damage::ALL.iter().copied();
+        kinds.filter(|it| it.is_of(edition)).collect()
+    }
+
+    /// Whether images of an edition can be damaged so. Byte 7 of the header and byte 35 of a component
+    /// are other things in edition 1.
+    pub fn is_of(self, edition: Edition) -> bool {
+        let is_of_two = [Damage::OldGroupCount, Damage::ParentHighByte].contains(&self);
+        !is_of_two || edition == Edition::Two
+    }
+
     /// Whether no fault after block 0 is told beside this one. Such kinds stand first.
     pub fn hides_the_rest(self) -> bool {
         self < Damage::BlockKind

@@ -1,7 +1,11 @@
 //! Damage to the ends of parents (35 at the lowest group whose parents never end).
 
 use super::{Draft, Expected};
+use crate::builder::Set;
 use crate::rng::Rng;
+
+/// How many groups are low ones: as many as edition 1 may have.
+const LOW: usize = 64;
 
 pub fn of_one(draft: &mut Draft, rng: &mut Rng) -> Option<Expected> {
     of(draft, rng, 1)
@@ -23,7 +27,7 @@ pub fn long(draft: &mut Draft, rng: &mut Rng) -> Option<Expected> {
 
 /// A ring of any length.
 pub fn any(draft: &mut Draft, rng: &mut Rng) -> Option<Expected> {
-    let length = rng.place(0, draft.policy.groups.len().min(64))?;
+    let length = rng.place(0, groups(draft))?;
     of(draft, rng, length + 1)
 }
 
@@ -38,7 +42,7 @@ fn of(draft: &mut Draft, rng: &mut Rng, length: usize) -> Option<Expected> {
 /// A group whose parent stands on a ring of higher groups, so that the lowest group whose parents
 /// never end doesn't stand on the ring.
 pub fn lower_leads_in(draft: &mut Draft, rng: &mut Rng) -> Option<Expected> {
-    let count = draft.policy.groups.len().min(64);
+    let count = groups(draft);
     let lower = rng.place(0, count.saturating_sub(1))?;
     let mut higher: Vec<usize> = (lower + 1..count).collect();
     rng.shuffle(&mut higher);
@@ -59,8 +63,20 @@ pub fn two(draft: &mut Draft, rng: &mut Rng) -> Option<Expected> {
     lowest_under(draft, &order[..first + second])
 }
 
+/// How many groups there are; earlier damage may have added some past the limit.
+fn groups(draft: &Draft) -> usize {
+    draft.policy.groups.len().min(draft.edition().most_groups())
+}
+
+/// All groups in any order; where there are many, often only such that no low one is under them, so that
+/// the lowest whose parents never end is no low one.
 fn shuffled(draft: &Draft, rng: &mut Rng) -> Vec<usize> {
-    let mut order: Vec<usize> = (0..draft.policy.groups.len().min(64)).collect();
+    let mut order: Vec<usize> = (0..groups(draft)).collect();
+    if order.len() > LOW && !rng.once_in(4) {
+        let over = |group: usize| draft.policy.with_ancestors(group).places();
+        let over_low: Set = (0..LOW).flat_map(over).collect();
+        order.retain(|&group| !over_low.has(group));
+    }
     rng.shuffle(&mut order);
     order
 }
@@ -74,13 +90,12 @@ fn close(draft: &mut Draft, ring: &[usize]) {
 }
 
 fn set_parent(draft: &mut Draft, group: usize, parent: usize) {
-    draft.policy.groups[group].parent = Some(parent as u8);
-    draft.write(draft.policy.group_at(group).offset + 34, &[parent as u8]);
+    draft.policy.groups[group].parent = Some(parent as u16);
+    draft.write_parent(draft.policy.group_at(group), parent);
 }
 
 /// A walk from the groups of a ring never ends, nor does one from any group under them.
 fn lowest_under(draft: &Draft, ring: &[usize]) -> Option<Expected> {
-    let ring = ring.iter().fold(0, |set, &group| set | 1 << group);
-    let endless = draft.policy.below(ring);
-    Expected::ring(endless.trailing_zeros() as usize)
+    let endless = draft.policy.below(ring.iter().copied().collect());
+    Expected::ring(endless.places().next()?)
 }

@@ -2,23 +2,26 @@
 //! damage says.
 
 use super::{Combined, Damage, Draft, Expected};
-use crate::builder::{random, Sizes};
+use crate::builder::{random, Edition, Sizes};
+use crate::in_each_edition;
 use crate::model::{check, faults, first_fault, Fault, Refusal};
 use crate::rng::Rng;
 use std::collections::BTreeSet;
 
-fn draft(seed: u64, rng: &mut Rng) -> Draft {
+fn draft(edition: Edition, seed: u64, rng: &mut Rng) -> Draft {
     let sizes = match seed {
-        0..=4 => Sizes::any(rng),
-        5..=39 => Sizes::medium(rng),
-        40..=139 => Sizes::several_blocks(rng),
-        _ => Sizes::small(rng),
+        0..=4 => Sizes::any(edition, rng),
+        5..=39 => Sizes::medium(edition, rng),
+        40..=139 => Sizes::several_blocks(edition, rng),
+        _ => Sizes::small(edition, rng),
     };
     Draft::new(random(sizes, rng))
 }
 
-/// Damages policies of many seeds, and shows the damaged images that are as they should be.
+/// Damages policies of an edition by many seeds, and shows the damaged images that are as they should
+/// be.
 fn try_often(
+    edition: Edition,
     name: &str,
     number: u32,
     apply: impl Fn(&mut Draft, &mut Rng) -> Option<Expected>,
@@ -26,9 +29,9 @@ fn try_often(
 ) {
     let mut applied = 0;
     for seed in 0..300 {
-        let case = format!("{name}, seed {seed}");
+        let case = format!("{name}, {edition:?}, seed {seed}");
         let mut rng = Rng::new(seed);
-        let mut draft = draft(seed, &mut rng);
+        let mut draft = draft(edition, seed, &mut rng);
         let Some(expected) = apply(&mut draft, &mut rng) else {
             assert_eq!(check(&draft.image), Ok(()), "{case}");
             continue;
@@ -41,7 +44,7 @@ fn try_often(
         }
         see(&draft, expected);
     }
-    assert!(applied >= 25, "{name} applied {applied} times");
+    assert!(applied >= 25, "{name}, {edition:?}: {applied} times");
 }
 
 fn keys(image: &[u8]) -> usize {
@@ -49,13 +52,12 @@ fn keys(image: &[u8]) -> usize {
     keys.len()
 }
 
-#[test]
-fn each_damage_is_refused_as_expected() {
+fn damages_are_refused(edition: Edition) {
     let in_header = Expected::Fault(Fault::Layout { block: 0 });
-    for damage in Damage::ALL {
+    for damage in Damage::of(edition) {
         let apply = |draft: &mut Draft, rng: &mut Rng| damage.apply(draft, rng);
         let name = format!("{damage:?}");
-        try_often(&name, damage.number(), apply, |_, expected| {
+        try_often(edition, &name, damage.number(), apply, |_, expected| {
             let hides = matches!(expected, Expected::Refused(_)) || expected == in_header;
             assert_eq!(damage.hides_the_rest(), hides, "{name}");
             let is_late = matches!(
@@ -68,28 +70,50 @@ fn each_damage_is_refused_as_expected() {
 }
 
 /// Of two faults one is told, and the other is there too.
-#[test]
-fn each_combined_damage_is_refused_as_expected() {
+fn combined_damages_are_refused(edition: Edition) {
     for damage in Combined::ALL {
         let name = format!("{damage:?}");
         let apply = |draft: &mut Draft, rng: &mut Rng| damage.apply(draft, rng);
-        try_often(&name, damage.number(), apply, |draft, _| {
+        try_often(edition, &name, damage.number(), apply, |draft, _| {
             assert!(keys(&draft.image) >= 2, "{name}");
         });
     }
 }
 
 /// The group that is told leads into a ring and doesn't stand on it.
-#[test]
-fn the_lowest_group_need_not_stand_on_the_ring() {
+fn the_lowest_group_need_not_stand_on_the_ring(edition: Edition) {
     let damage = Damage::LowerLeadsIntoRing;
     let apply = |draft: &mut Draft, rng: &mut Rng| damage.apply(draft, rng);
-    try_often("", 35, apply, |draft, expected| {
+    try_often(edition, "", 35, apply, |draft, expected| {
         let Refusal::Ring(group) = expected.refusal() else {
             panic!("{expected:?}");
         };
         let parent = draft.policy.groups[group].parent.expect("it leads on");
         let above = draft.policy.with_ancestors(usize::from(parent));
-        assert_eq!(above >> group & 1, 0, "group {group} stands on the ring");
+        assert!(!above.has(group), "group {group} stands on the ring");
     });
+}
+
+in_each_edition! {
+    damages_are_refused
+    combined_damages_are_refused
+    the_lowest_group_need_not_stand_on_the_ring
+}
+
+/// A kind that an edition has not is never done to it.
+#[test]
+fn damage_of_one_edition_alone() {
+    let mut left_out = 0;
+    for edition in Edition::ALL {
+        let kinds = Damage::ALL.iter().filter(|it| !it.is_of(edition));
+        for damage in kinds {
+            left_out += 1;
+            for seed in 0..100 {
+                let mut rng = Rng::new(seed);
+                let mut draft = draft(edition, seed, &mut rng);
+                assert_eq!(damage.apply(&mut draft, &mut rng), None, "{damage:?}");
+            }
+        }
+    }
+    assert_eq!(left_out, 2);
 }

@@ -1,9 +1,10 @@
 //! Damage to a user's rules (34 at its record), those by below among them.
 
 use super::{places, Draft, Expected};
-use crate::builder::layout::{RecordAt, USERS};
-use crate::builder::{user_record, Policy, Rights, User};
+use crate::builder::layout::RecordAt;
+use crate::builder::{user_record, Edition, Policy, Rights, Set, User};
 use crate::rng::Rng;
+use std::ops::Range;
 
 pub fn any(draft: &Draft, rng: &mut Rng) -> Option<RecordAt> {
     Some(draft.policy.user_at(any_place(draft, rng)?))
@@ -16,12 +17,13 @@ fn any_place(draft: &Draft, rng: &mut Rng) -> Option<usize> {
 
 /// The place of a user who has one before.
 fn later(draft: &Draft, rng: &mut Rng) -> Option<usize> {
-    places::later(0, draft.policy.users.len(), USERS.in_block, rng)
+    let in_block = draft.edition().users().in_block;
+    places::later(0, draft.policy.users.len(), in_block, rng)
 }
 
 /// Writes the record of a user as the policy now has it.
 fn rewrite(draft: &mut Draft, place: usize) -> Option<Expected> {
-    let record = user_record(&draft.policy.users[place]);
+    let record = user_record(draft.edition(), &draft.policy.users[place]);
     draft.break_record(draft.policy.user_at(place), 0, &record)
 }
 
@@ -113,29 +115,36 @@ fn level_missing(draft: &mut Draft, rng: &mut Rng, bytes: &[usize]) -> Option<Ex
 
 pub fn compartment_missing(draft: &mut Draft, rng: &mut Rng) -> Option<Expected> {
     let count = draft.policy.compartments.len();
-    place_missing(draft, rng, count, |user| &mut user.compartments)
+    place_missing(draft, rng, count..64, |user| &mut user.compartments)
 }
 
 pub fn group_missing(draft: &mut Draft, rng: &mut Rng) -> Option<Expected> {
     let count = draft.policy.groups.len();
-    place_missing(draft, rng, count, |user| &mut user.groups)
+    let most = draft.edition().most_groups();
+    place_missing(draft, rng, count..most, |user| &mut user.groups)
 }
 
-/// Adds a place that is not below the count to a set and to those that must hold the set.
+/// Adds a place that the policy lacks to a set and to those that must hold the set.
 fn place_missing(
     draft: &mut Draft,
     rng: &mut Rng,
-    count: usize,
+    lacking: Range<usize>,
     rights: fn(&mut User) -> &mut Rights,
 ) -> Option<Expected> {
     let user = any_place(draft, rng)?;
-    if count >= 64 {
+    if lacking.is_empty() {
         return None;
     }
-    let bit = 1 << rng.with_ends(count, 63);
-    let (write, default, row) = *rng.pick(&[(0, 0, 0), (bit, 0, 0), (0, bit, 0), (bit, bit, bit)]);
+    let none = Set::NONE;
+    let one = Set::of(rng.with_ends(lacking.start, lacking.end - 1));
+    let (write, default, row) = *rng.pick(&[
+        (none, none, none),
+        (one, none, none),
+        (none, one, none),
+        (one, one, one),
+    ]);
     let rights = rights(&mut draft.policy.users[user]);
-    rights.read |= bit;
+    rights.read |= one;
     rights.write |= write;
     rights.default |= default;
     rights.row |= row;
@@ -160,12 +169,13 @@ impl Inclusion {
     ];
 
     /// Which of read, write, default and row have a place, where only this rule is broken.
-    fn broken(self, bit: u64) -> [u64; 4] {
+    fn broken(self, one: Set) -> [Set; 4] {
+        let none = Set::NONE;
         match self {
-            Inclusion::WriteInRead => [0, bit, 0, 0],
-            Inclusion::DefaultInRead => [0, 0, bit, 0],
-            Inclusion::RowInDefault => [bit, bit, 0, bit],
-            Inclusion::RowInWrite => [bit, 0, bit, bit],
+            Inclusion::WriteInRead => [none, one, none, none],
+            Inclusion::DefaultInRead => [none, none, one, none],
+            Inclusion::RowInDefault => [one, one, none, one],
+            Inclusion::RowInWrite => [one, none, one, one],
         }
     }
 }
@@ -174,13 +184,13 @@ impl Inclusion {
 pub fn compartment(draft: &mut Draft, rng: &mut Rng, rule: Inclusion) -> Option<Expected> {
     let user = any_place(draft, rng)?;
     let count = draft.policy.compartments.len().min(64);
-    let bit = 1 << rng.place(0, count)?;
-    let [read, write, default, row] = rule.broken(bit);
+    let one = Set::of(rng.place(0, count)?);
+    let [read, write, default, row] = rule.broken(one);
     let rights = &mut draft.policy.users[user].compartments;
-    rights.read = rights.read & !bit | read;
-    rights.write = rights.write & !bit | write;
-    rights.default = rights.default & !bit | default;
-    rights.row = rights.row & !bit | row;
+    rights.read = rights.read & !one | read;
+    rights.write = rights.write & !one | write;
+    rights.default = rights.default & !one | default;
+    rights.row = rights.row & !one | row;
     rewrite(draft, user)
 }
 
@@ -198,13 +208,16 @@ pub fn group_of(
     rule: Inclusion,
     place: usize,
 ) -> Option<Expected> {
-    let count = draft.policy.groups.len().min(64);
+    let count = draft.policy.groups.len().min(draft.edition().most_groups());
     let group = rng.place(0, count)?;
     let policy: &Policy = &draft.policy;
     let old = &policy.users[place].groups;
     let ancestors = policy.with_ancestors(group);
-    let keep = |set: u64, added: u64| if added == 0 { set & !ancestors } else { set };
-    let [read, write, default, row] = rule.broken(1 << group);
+    let keep = |set: Set, added: Set| match added.is_empty() {
+        true => set & !ancestors,
+        false => set,
+    };
+    let [read, write, default, row] = rule.broken(Set::of(group));
     let new_read = keep(old.read, read) | read;
     let reach = policy.below(new_read);
     let new_write = keep(old.write, write) & reach | write;
@@ -220,12 +233,23 @@ pub fn group_of(
     Expected::below(draft.policy.user_at(place))
 }
 
+/// The unused bytes at the end of a record, which edition 2 has not.
+fn tail(edition: Edition) -> Range<usize> {
+    72 + 4 * edition.group_set()..edition.users().size
+}
+
+/// The last unused byte of a record.
+pub fn last_unused(edition: Edition) -> usize {
+    tail(edition).last().unwrap_or(39)
+}
+
 pub fn unused(draft: &mut Draft, rng: &mut Rng) -> Option<Expected> {
     let at = any(draft, rng)?;
-    let byte = if rng.once_in(2) {
+    let tail = tail(draft.edition());
+    let byte = if rng.once_in(2) || tail.is_empty() {
         rng.with_ends(36, 39)
     } else {
-        rng.with_ends(104, 127)
+        rng.with_ends(tail.start, tail.end - 1)
     };
     let value = rng.nonzero();
     draft.break_record(at, byte, &[value])

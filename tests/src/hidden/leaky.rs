@@ -2,7 +2,7 @@
 
 use super::program::{HostCall, Model, Program};
 use super::scene::Scene;
-use crate::builder::{first, to_image};
+use crate::builder::{to_image, Set};
 use crate::calls::Call;
 use crate::ffi::Answer;
 use crate::row_calls::{Lent, RowCall};
@@ -58,8 +58,8 @@ pub fn lifted(scene: &Scene) -> Vec<u8> {
     let mut policy = scene.policy.clone();
     let user = &mut policy.users[scene.user];
     user.levels.maximum = policy.levels.len() as u8 - 1;
-    user.compartments.read = first(policy.compartments.len());
-    user.groups.read = first(policy.groups.len());
+    user.compartments.read = Set::first(policy.compartments.len());
+    user.groups.read = Set::first(policy.groups.len());
     to_image(&policy)
 }
 

@@ -2,7 +2,7 @@
 
 use super::program::{HostCall, Model, Program};
 use super::scene::Scene;
-use crate::builder::{first, Label, Policy};
+use crate::builder::{Label, Policy};
 use crate::calls::Call;
 use crate::ffi::{Answer, SESSION};
 use crate::model::{self, Image};
@@ -199,7 +199,7 @@ fn more_than(session: &[u8; SESSION], policy: &Policy, rng: &mut Rng) -> Label {
     Label {
         tag: 0,
         level: rng.with_ends(label.level.into(), policy.levels.len() - 1) as u8,
-        compartments: label.compartments | rng.subset(first(policy.compartments.len())),
-        groups: label.groups | rng.subset(first(policy.groups.len())),
+        compartments: label.compartments | rng.subset(policy.all_compartments()),
+        groups: label.groups | rng.subset(policy.all_groups()),
     }
 }

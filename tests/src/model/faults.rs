@@ -102,7 +102,7 @@ fn in_layout(image: &Image, run: &Run) -> Vec<Fault> {
     let is_broken = |&block: &usize| {
         let bytes = image.block(block);
         let records = run.records_in(block);
-        let end = 4 + records * run.size;
+        let end = 4 + records * run.records.size;
         bytes[0] != run.kind.number()
             || usize::from(bytes[1]) != records
             || !records::all_zero(&bytes[end..510])

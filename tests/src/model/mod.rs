@@ -1,12 +1,16 @@
 //! The rules of a policy image, of label text, of sessions, of verdicts, of tables, of two labels
 //! and of the report, written from document 01 section by section, and from the requests of document
-//! 02: R-2 for what a faulty image is refused with, R-3 for dominance. There is no thought for speed,
-//! and nothing here is shared with the library or with the builder of images.
+//! 02: R-2 for what a faulty image is refused with, R-3 for dominance, R-11 for edition 2 and the move
+//! up to it. There is little thought for speed, and nothing here is shared with the library or with the
+//! builder of images.
 
+mod edition;
 mod faults;
 mod groups;
 mod label;
 mod layout;
+mod move_up;
+mod places;
 mod records;
 mod refusal;
 mod report;
@@ -20,6 +24,8 @@ mod verdict;
 pub use faults::{faults, first_fault, Fault, Key};
 pub use label::Label;
 pub use layout::{Image, Kind};
+pub use move_up::move_up;
+pub use places::Places;
 pub use refusal::Refusal;
 pub use report::{lines_of, report};
 pub use session::{open, set_label, set_row_label, Session};
@@ -32,15 +38,21 @@ use layout::BLOCK;
 
 /// Whether the image is accepted.
 pub fn check(image: &[u8]) -> Result<(), Refusal> {
+    sound(image)?;
+    match first_fault(image) {
+        Some(fault) => Err(fault.refusal()),
+        None => Ok(()),
+    }
+}
+
+/// Whether neither 1 nor 2 refuses the image.
+fn sound(image: &[u8]) -> Result<(), Refusal> {
     if image.is_empty() || !image.len().is_multiple_of(BLOCK) || image.len() > 65_536 {
         return Err(Refusal::Length);
     }
     let unsound = |(place, block): (usize, &[u8])| !is_sound(block, place);
-    if let Some(block) = image.chunks(BLOCK).enumerate().position(unsound) {
-        return Err(Refusal::Block(block));
-    }
-    match first_fault(image) {
-        Some(fault) => Err(fault.refusal()),
+    match image.chunks(BLOCK).enumerate().position(unsound) {
+        Some(block) => Err(Refusal::Block(block)),
         None => Ok(()),
     }
 }

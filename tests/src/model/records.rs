@@ -1,7 +1,7 @@
 //! The rules of records: those that a record keeps by itself, and those between two of them.
 
 use super::groups::below;
-use super::layout::{set_at, u16_at, u32_at, Image, Kind};
+use super::layout::{set_at, sets_at, u16_at, u32_at, Image, Kind, COMPARTMENT_SET};
 
 /// Whether the record at a place keeps all rules that look at no other record of its kind.
 pub fn holds(image: &Image, kind: Kind, place: usize) -> bool {
@@ -16,11 +16,7 @@ pub fn holds(image: &Image, kind: Kind, place: usize) -> bool {
 pub fn clashes(image: &Image, kind: Kind) -> Vec<(usize, usize)> {
     let next = |place: usize| (place - 1, place);
     match kind {
-        Kind::Component => [1, 2, 3]
-            .into_iter()
-            .flat_map(|class| pairs_of(image, class))
-            .filter(|&(earlier, later)| components_clash(image, earlier, later))
-            .collect(),
+        Kind::Component => component_clashes(image),
         Kind::Label => (1..image.counts.labels().count)
             .map(next)
             .filter(|&(earlier, later)| tag(image, earlier) >= tag(image, later))
@@ -40,13 +36,14 @@ pub fn all_zero(bytes: &[u8]) -> bool {
 fn component_holds(image: &Image, place: usize) -> bool {
     let record = image.component(place);
     let class = class_at(image, place);
-    let parent = record[34];
-    let parent_holds = parent == 255 || class == 3 && usize::from(parent) < image.counts.groups;
+    let edition = image.edition();
+    let parent = image.parent(record);
+    let parent_holds = parent == edition.no_parent || class == 3 && parent < image.counts.groups;
     record[0] == class
         && name_holds(record[1], &record[2..32])
         && u16_at(record, 32) <= 9_999
         && parent_holds
-        && all_zero(&record[35..])
+        && all_zero(&record[edition.parent.end..])
 }
 
 /// The class that the counts put at a place among all components.
@@ -62,17 +59,21 @@ fn class_at(image: &Image, place: usize) -> u8 {
     }
 }
 
-/// All pairs of components that the counts put in a class, by their places among all components.
-fn pairs_of(image: &Image, class: u8) -> impl Iterator<Item = (usize, usize)> {
-    let (first, count) = image.counts.class(class).unwrap_or_default();
-    let places = first..first + count;
-    places.flat_map(move |later| (first..later).map(move |earlier| (earlier, later)))
-}
-
-/// "Inside a class the numeric form rises strictly and names differ."
-fn components_clash(image: &Image, earlier: usize, later: usize) -> bool {
-    let [earlier, later] = [earlier, later].map(|place| image.component(place));
-    u16_at(earlier, 32) >= u16_at(later, 32) || name_of(earlier, 1) == name_of(later, 1)
+/// "Inside a class the numeric form rises strictly and names differ." The pairs are told by their places
+/// among all components.
+fn component_clashes(image: &Image) -> Vec<(usize, usize)> {
+    let mut clashes = Vec::new();
+    for class in [1, 2, 3] {
+        let (first, count) = image.counts.class(class).unwrap_or_default();
+        let records = (first..first + count).map(|place| image.component(place));
+        let known: Vec<_> = records.map(|it| (u16_at(it, 32), name_of(it, 1))).collect();
+        for (later, (number, name)) in known.iter().enumerate() {
+            let clash = |&it: &usize| known[it].0 >= *number || known[it].1 == *name;
+            let earlier = (0..later).filter(clash);
+            clashes.extend(earlier.map(|earlier| (first + earlier, first + later)));
+        }
+    }
+    clashes
 }
 
 fn tag(image: &Image, label: usize) -> usize {
@@ -103,17 +104,20 @@ pub fn name_of(record: &[u8], at: usize) -> &[u8] {
 
 fn label_holds(image: &Image, place: usize) -> bool {
     let record = image.label(place);
+    let compartments = set_at(record, 8, COMPARTMENT_SET);
     (1..=99_999_999).contains(&tag(image, place))
         && usize::from(record[4]) < image.counts.levels
         && all_zero(&record[5..8])
-        && set_exists(&set_at(record, 8), image.counts.compartments)
-        && set_exists(&set_at(record, 16), image.counts.groups)
+        && compartments.all_below(image.counts.compartments)
+        && image.label_groups(record).all_below(image.counts.groups)
 }
 
 fn user_holds(image: &Image, place: usize) -> bool {
     let record = image.user(place);
     let [maximum, minimum, default, row] = [32, 33, 34, 35].map(|at| record[at]);
     let levels = [maximum, minimum, default, row];
+    let groups = image.user_groups(record);
+    let end = 72 + groups.len() * image.edition().group_set;
     name_holds(record[0], &record[1..31])
         && record[31] < 128
         && levels
@@ -124,42 +128,27 @@ fn user_holds(image: &Image, place: usize) -> bool {
         && default <= maximum
         && all_zero(&record[36..40])
         && compartments_hold(image, record)
-        && sets_at(record, 72)
-            .iter()
-            .all(|set| set_exists(set, image.counts.groups))
-        && all_zero(&record[104..])
+        && groups.iter().all(|set| set.all_below(image.counts.groups))
+        && all_zero(&record[end..])
 }
 
 fn compartments_hold(image: &Image, record: &[u8]) -> bool {
-    let sets = sets_at(record, 40);
+    let sets = sets_at(record, 40, COMPARTMENT_SET);
     let [read, write, default, row] = &sets;
     sets.iter()
-        .all(|set| set_exists(set, image.counts.compartments))
-        && lies_in(write, read)
-        && lies_in(default, read)
-        && lies_in(row, default)
-        && lies_in(row, write)
+        .all(|set| set.all_below(image.counts.compartments))
+        && write.is_subset(read)
+        && default.is_subset(read)
+        && row.is_subset(default)
+        && row.is_subset(write)
 }
 
 /// The rules by below.
 pub fn user_holds_by_below(image: &Image, place: usize) -> bool {
-    let [read, write, default, row] = sets_at(image.user(place), 72);
+    let [read, write, default, row] = image.user_groups(image.user(place));
     let below_read = below(image, &read);
-    lies_in(&write, &below_read)
-        && lies_in(&default, &below_read)
-        && lies_in(&row, &below(image, &default))
-        && lies_in(&row, &below(image, &write))
-}
-
-/// Four sets in a row: read, write, default, row.
-pub fn sets_at(record: &[u8], at: usize) -> [Vec<usize>; 4] {
-    [0, 8, 16, 24].map(|step| set_at(record, at + step))
-}
-
-fn set_exists(set: &[usize], count: usize) -> bool {
-    set.iter().all(|&place| place < count)
-}
-
-fn lies_in(inner: &[usize], outer: &[usize]) -> bool {
-    inner.iter().all(|place| outer.contains(place))
+    write.is_subset(&below_read)
+        && default.is_subset(&below_read)
+        && row.is_subset(&below(image, &default))
+        && row.is_subset(&below(image, &write))
 }

@@ -10,7 +10,7 @@ pub enum Refusal {
     /// 2: a block's check or place is wrong; the lowest such block.
     Block(usize),
     /// 31: the header, a length unfit for its counts, or a block's kind, record count or bytes
-    /// outside records.
+    /// outside records; and any image of edition 2 in a move up.
     Layout,
     /// 32, 33, 34: a component, a label or a user is at fault; its block, and its place there.
     Record {
@@ -52,6 +52,8 @@ pub enum Refusal {
     Component,
     /// 19: a lent session breaks its rules for that image.
     Session,
+    /// 37: a move up of over 800 labels or 32 users.
+    Size,
 }
 
 impl Refusal {
@@ -82,6 +84,7 @@ impl Refusal {
             Refusal::Letters => 17,
             Refusal::Component => 18,
             Refusal::Session => 19,
+            Refusal::Size => 37,
         }
     }
 

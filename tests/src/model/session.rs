@@ -1,6 +1,6 @@
 //! Sessions: opening one, a new session label, a new row label, and refusal 19.
 
-use super::groups::set_below;
+use super::groups::below;
 use super::label::{Label, LABEL};
 use super::layout::Image;
 use super::text::label_of;
@@ -108,7 +108,7 @@ fn session_label_holds(
     if !label.compartments.is_subset(&user.read.compartments) {
         return Err(Refusal::Compartments);
     }
-    if !label.groups.is_subset(&set_below(image, &user.read.groups)) {
+    if !label.groups.is_subset(&below(image, &user.read.groups)) {
         return Err(Refusal::Groups);
     }
     let write = user.write_sets(image, label);

@@ -5,8 +5,6 @@ use super::layout::Image;
 use super::records::{is_name_byte, name_of};
 use super::{accepted, Refusal};
 
-const LONGEST: usize = 4_096;
-
 /// A part of a text, in the end a name, and the offset of its first byte.
 struct Part<'a> {
     offset: usize,
@@ -20,7 +18,8 @@ pub fn parse(image: &[u8], text: &[u8]) -> Result<Label, Refusal> {
 
 /// The same for an image that is accepted.
 pub fn label_of(image: &Image, text: &[u8]) -> Result<Label, Refusal> {
-    let [level, compartments, groups] = names(text).ok_or(Refusal::Text)?;
+    let longest = image.edition().longest_text;
+    let [level, compartments, groups] = names(text, longest).ok_or(Refusal::Text)?;
     let level = places(image, 1, &level)?;
     Ok(Label {
         level: level[0],
@@ -34,8 +33,8 @@ pub fn print(image: &[u8], label: &Label) -> Result<Vec<u8>, Refusal> {
     let image = accepted(image)?;
     let lists = [
         list(&image, 1, [label.level])?,
-        list(&image, 2, label.compartments.iter().copied())?,
-        list(&image, 3, label.groups.iter().copied())?,
+        list(&image, 2, label.compartments.iter())?,
+        list(&image, 3, label.groups.iter())?,
     ];
     let tails = lists.iter().rev().take_while(|list| list.is_empty());
     Ok(lists[..3 - tails.count()].join(&b':'))
@@ -50,9 +49,10 @@ pub fn print_within(image: &[u8], label: &Label, room: usize) -> Result<Vec<u8>,
     Ok(text)
 }
 
-/// The names of a text by class, if it is LEVEL, LEVEL:list, LEVEL:list:list or LEVEL::list.
-fn names(text: &[u8]) -> Option<[Vec<Part<'_>>; 3]> {
-    if text.len() > LONGEST {
+/// The names of a text by class, if it is LEVEL, LEVEL:list, LEVEL:list:list or LEVEL::list and not too
+/// long.
+fn names(text: &[u8], longest: usize) -> Option<[Vec<Part<'_>>; 3]> {
+    if text.len() > longest {
         return None;
     }
     let whole = Part {

@@ -3,21 +3,18 @@
 
 use super::label::Label;
 use super::layout::Image;
+use super::places::Places;
 use super::Refusal;
-use std::collections::BTreeSet;
 use std::iter;
-
-/// What a group holds as its parent where it has none.
-const NO_PARENT: u8 = 255;
 
 /// "Label 1 dominates label 2: its level is at least as high, it has all compartments of 2", and 2 has
 /// no groups or one of them "lies in below(groups of label 1)".
 pub fn dominates(image: &Image, first: &Label, second: &Label) -> Result<bool, Refusal> {
     both_exist(image, first, second)?;
-    let is_reached = |&group: &usize| line(image, group).any(|it| first.groups.contains(&it));
+    let is_reached = |group| line(image, group).any(|it| first.groups.contains(it));
     let by_groups = second.groups.is_empty() || second.groups.iter().any(is_reached);
     Ok(first.level >= second.level
-        && first.compartments.is_superset(&second.compartments)
+        && second.compartments.is_subset(&first.compartments)
         && by_groups)
 }
 
@@ -26,15 +23,14 @@ pub fn strictly_dominates(image: &Image, first: &Label, second: &Label) -> Resul
     Ok(dominates(image, first, second)? && first != second)
 }
 
-/// 18: "a lent label .. names a component the policy lacks", either of the two. A group past the 64th
-/// is one that no policy of edition 1 has.
+/// 18: "a lent label .. names a component the policy lacks", either of the two. All 256 places of groups
+/// are looked at.
 fn both_exist(image: &Image, first: &Label, second: &Label) -> Result<(), Refusal> {
     let counts = &image.counts;
-    let all_under = |set: &BTreeSet<usize>, count: usize| set.iter().all(|&place| place < count);
     let exists = |label: &Label| {
         label.level < counts.levels
-            && all_under(&label.compartments, counts.compartments)
-            && all_under(&label.groups, counts.groups)
+            && label.compartments.all_below(counts.compartments)
+            && label.groups.all_below(counts.groups)
     };
     let both = exists(first) && exists(second);
     both.then_some(()).ok_or(Refusal::Component)
@@ -42,15 +38,11 @@ fn both_exist(image: &Image, first: &Label, second: &Label) -> Result<(), Refusa
 
 /// A group that there is, its parent, the parent's parent and so on. In an accepted image that ends.
 fn line<'a>(image: &'a Image, group: usize) -> impl Iterator<Item = usize> + 'a {
-    iter::successors(Some(group), |&group| match image.group(group)[34] {
-        NO_PARENT => None,
-        parent => Some(usize::from(parent)),
+    let none = image.edition().no_parent;
+    iter::successors(Some(group), move |&group| {
+        let parent = image.parent(image.group(group));
+        (parent != none).then_some(parent)
     })
-}
-
-/// The groups that merging looks at. Edition 1 has 64; the bytes of higher ones are not looked at.
-fn low_groups(label: &Label) -> BTreeSet<usize> {
-    label.groups.range(..64).copied().collect()
 }
 
 /// "Merging takes three letters: level H or L; compartments and groups each U, I, M or N."
@@ -60,8 +52,8 @@ pub fn merge(first: &Label, second: &Label, letters: &[u8]) -> Result<Label, Ref
     };
     Ok(Label {
         level: merged_level(level, first.level, second.level)?,
-        compartments: merged_set(compartments, &first.compartments, &second.compartments)?,
-        groups: merged_set(groups, &low_groups(first), &low_groups(second))?,
+        compartments: merged_set(compartments, first.compartments, second.compartments)?,
+        groups: merged_set(groups, first.groups, second.groups)?,
     })
 }
 
@@ -75,16 +67,12 @@ fn merged_level(letter: u8, first: usize, second: usize) -> Result<usize, Refusa
 }
 
 /// Union, intersection, first without second, or none.
-fn merged_set(
-    letter: u8,
-    first: &BTreeSet<usize>,
-    second: &BTreeSet<usize>,
-) -> Result<BTreeSet<usize>, Refusal> {
+fn merged_set(letter: u8, first: Places, second: Places) -> Result<Places, Refusal> {
     match letter {
         b'U' => Ok(first | second),
         b'I' => Ok(first & second),
         b'M' => Ok(first - second),
-        b'N' => Ok(BTreeSet::new()),
+        b'N' => Ok(Places::default()),
         _ => Err(Refusal::Letters),
     }
 }

@@ -1,10 +1,10 @@
 //! What a user's record gives to sessions and verdicts.
 
-use super::groups::set_below;
+use super::groups::below;
 use super::label::Label;
-use super::layout::Image;
-use super::records::{name_of, sets_at};
-use std::collections::BTreeSet;
+use super::layout::{sets_at, Image, COMPARTMENT_SET};
+use super::places::Places;
+use super::records::name_of;
 
 /// The privileges that have an effect.
 #[derive(Clone, Copy, Debug, PartialEq, Eq)]
@@ -22,8 +22,8 @@ const BITS: [(u8, Privilege); 3] = [
 
 /// Compartments and groups that a user, or a session, may read or write.
 pub struct Rights {
-    pub compartments: BTreeSet<usize>,
-    pub groups: BTreeSet<usize>,
+    pub compartments: Places,
+    pub groups: Places,
 }
 
 pub struct User {
@@ -45,9 +45,12 @@ impl User {
         }
         let record = image.user(place);
         let level = |at: usize| usize::from(record[at]);
-        let compartments = sets_at(record, 40).map(BTreeSet::from_iter);
-        let groups = sets_at(record, 72).map(BTreeSet::from_iter);
-        let [read, write, default, row] = pairs(compartments, groups);
+        let compartments = sets_at(record, 40, COMPARTMENT_SET);
+        let groups = image.user_groups(record);
+        let [read, write, default, row] = [0, 1, 2, 3].map(|at| Rights {
+            compartments: compartments[at],
+            groups: groups[at],
+        });
         let label = |level, rights: Rights| Label {
             level,
             compartments: rights.compartments,
@@ -72,22 +75,13 @@ impl User {
     /// "The session's write compartments are its compartments that the user may write. Its write
     /// groups are below(session groups) ∩ below(write groups)."
     pub fn write_sets(&self, image: &Image, session: &Label) -> Rights {
-        let below_session = set_below(image, &session.groups);
-        let below_write = set_below(image, &self.write.groups);
+        let below_session = below(image, &session.groups);
+        let below_write = below(image, &self.write.groups);
         Rights {
-            compartments: &session.compartments & &self.write.compartments,
-            groups: &below_session & &below_write,
+            compartments: session.compartments & self.write.compartments,
+            groups: below_session & below_write,
         }
     }
-}
-
-/// Read, write, default and row, each with its compartments and its groups.
-fn pairs(compartments: [BTreeSet<usize>; 4], groups: [BTreeSet<usize>; 4]) -> [Rights; 4] {
-    let mut groups = groups.into_iter();
-    compartments.map(|compartments| Rights {
-        compartments,
-        groups: groups.next().unwrap_or_default(),
-    })
 }
 
 /// The place of the user of a name, byte for byte.

@@ -1,8 +1,8 @@
 //! Verdicts on a row's label, which are asked of a tag.
 
-use super::groups::set_below;
+use super::groups::below;
 use super::label::Label;
-use super::layout::{set_at, u32_at, Image};
+use super::layout::{set_at, u32_at, Image, COMPARTMENT_SET};
 use super::session::{user_of, Session};
 use super::user::{Privilege, User};
 use super::Refusal;
@@ -22,21 +22,23 @@ pub fn may_read_at_maximum(image: &Image, user: usize, tag: u32) -> bool {
     };
     let maximum = Label {
         level: user.maximum,
-        compartments: user.read.compartments.clone(),
-        groups: user.read.groups.clone(),
+        compartments: user.read.compartments,
+        groups: user.read.groups,
     };
     reads(image, &user, &maximum, tag)
 }
 
 /// Reading at a session label. "READ (reading only) and FULL (both) see every row, tag 0 and unknown
-/// tags too. Otherwise those two tags are denied."
+/// tags too. Otherwise those two tags are denied." By R-11: "In edition 2 tag 0 and unknown tags are
+/// denied to READ and FULL too."
 fn reads(image: &Image, user: &User, label: &Label, tag: u32) -> bool {
-    if user.has(Privilege::Read) || user.has(Privilege::Full) {
+    let sees_all = user.has(Privilege::Read) || user.has(Privilege::Full);
+    let Some(row) = label_with(image, tag) else {
+        return sees_all && image.edition().shows_unknown;
+    };
+    if sees_all {
         return true;
     }
-    let Some(row) = label_with(image, tag) else {
-        return false;
-    };
     let by_compartments =
         user.has(Privilege::CompAccess) && is_readable_by_compartments(label, &row);
     by_compartments || is_readable(image, label, &row)
@@ -45,12 +47,13 @@ fn reads(image: &Image, user: &User, label: &Label, tag: u32) -> bool {
 /// Whether the session may write a row with the tag.
 pub fn may_write(image: &Image, session: &Session, tag: u32) -> Result<bool, Refusal> {
     let user = user_of(image, session)?;
-    if user.has(Privilege::Full) {
+    let writes_all = user.has(Privilege::Full);
+    let Some(row) = label_with(image, tag) else {
+        return Ok(writes_all && image.edition().shows_unknown);
+    };
+    if writes_all {
         return Ok(true);
     }
-    let Some(row) = label_with(image, tag) else {
-        return Ok(false);
-    };
     let by_compartments = user.has(Privilege::CompAccess)
         && is_writable_by_compartments(image, &user, &session.label, &row);
     Ok(by_compartments || is_writable(image, &user, &session.label, &row))
@@ -62,16 +65,15 @@ fn label_with(image: &Image, tag: u32) -> Option<Label> {
     let mut found = records.filter(|record| u32_at(record, 0) == tag as usize);
     found.next().map(|record| Label {
         level: usize::from(record[4]),
-        compartments: set_at(record, 8).into_iter().collect(),
-        groups: set_at(record, 16).into_iter().collect(),
+        compartments: set_at(record, 8, COMPARTMENT_SET),
+        groups: image.label_groups(record),
     })
 }
 
 /// "**Read**: row level ≤ session level; row groups empty, or one of them in below(session groups);
 /// row compartments all in the session's."
 fn is_readable(image: &Image, session: &Label, row: &Label) -> bool {
-    let below = set_below(image, &session.groups);
-    let shares_group = row.groups.iter().any(|group| below.contains(group));
+    let shares_group = row.groups.shares_one(&below(image, &session.groups));
     row.level <= session.level
         && (row.groups.is_empty() || shares_group)
         && row.compartments.is_subset(&session.compartments)
@@ -100,8 +102,7 @@ fn is_writable(image: &Image, user: &User, session: &Label, row: &Label) -> bool
     if row.groups.is_empty() {
         return row.compartments.is_subset(&write.compartments);
     }
-    let shares_group = row.groups.iter().any(|group| write.groups.contains(group));
-    shares_group && row.compartments.is_subset(&session.compartments)
+    row.groups.shares_one(&write.groups) && row.compartments.is_subset(&session.compartments)
 }
 
 /// ".. and also writable if all are write compartments."

@@ -1,6 +1,6 @@
 //! Dominance in the sample co-operative with refusals by hand.
 
-use crate::builder::{sample, to_image};
+use crate::builder::{sample, to_image, Edition};
 use crate::calls::{Pair, PairCall};
 use crate::ffi::{Answer, LABEL};
 use crate::tables::by_hand::refused_images;
@@ -60,10 +60,10 @@ fn lacking() -> Vec<Pair> {
 
 /// An image's refusals come first, whatever the labels are; then 18, whichever label it is; then the
 /// answer.
-pub fn check(ask: Ask) {
-    let whole = to_image(&sample());
+pub fn check(edition: Edition, ask: Ask) {
+    let whole = to_image(&sample().in_edition(edition));
     for call in PairCall::QUESTIONS {
-        for (image, refusal) in refused_images() {
+        for (image, refusal) in refused_images(edition) {
             assert_eq!(ask(&image, &call, &FINE), refusal, "{call:?}");
             for pair in lacking() {
                 assert_eq!(ask(&image, &call, &pair), refusal, "{call:?} {pair:?}");

@@ -1,6 +1,6 @@
 //! Kinds of two labels that a policy has.
 
-use crate::builder::{first, Label, Policy};
+use crate::builder::{Label, Policy, Set};
 use crate::rng::Rng;
 use crate::walk::{label_at, one_of, Walk, LABEL_AT, ROW_AT};
 use std::iter;
@@ -73,7 +73,7 @@ impl Kind {
             Kind::OneStep => apart(1..=1, &walk.policy, &mut walk.rng),
             Kind::TwoSteps => apart(2..=2, &walk.policy, &mut walk.rng),
             Kind::ThreeSteps => apart(3..=3, &walk.policy, &mut walk.rng),
-            Kind::Far => apart(4..=63, &walk.policy, &mut walk.rng),
+            Kind::Far => apart(4..=255, &walk.policy, &mut walk.rng),
         }
     }
 }
@@ -95,8 +95,8 @@ fn any_label(walk: &mut Walk) -> Label {
     Label {
         tag: 0,
         level: rng.index(policy.levels.len()) as u8,
-        compartments: rng.subset(first(policy.compartments.len())),
-        groups: rng.subset(first(policy.groups.len())),
+        compartments: rng.subset(policy.all_compartments()),
+        groups: rng.subset(policy.all_groups()),
     }
 }
 
@@ -125,11 +125,11 @@ fn change(label: &mut Label, policy: &Policy, rng: &mut Rng) {
         0 => label.level = rng.index(policy.levels.len()) as u8,
         1 => label.level = label.level.saturating_sub(1),
         2 => label.compartments = rng.subset(label.compartments),
-        3 => label.compartments |= one_of(first(policy.compartments.len()), rng),
+        3 => label.compartments |= one_of(policy.all_compartments(), rng),
         4 => label.groups = rng.subset(label.groups),
-        5 => label.groups |= one_of(first(policy.groups.len()), rng),
-        _ if below != 0 => label.groups = one_of(below, rng),
-        _ => label.groups = one_of(first(policy.groups.len()), rng),
+        5 => label.groups |= one_of(policy.all_groups(), rng),
+        _ if !below.is_empty() => label.groups = one_of(below, rng),
+        _ => label.groups = one_of(policy.all_groups(), rng),
     }
 }
 
@@ -139,10 +139,10 @@ fn change(label: &mut Label, policy: &Policy, rng: &mut Rng) {
 fn apart(steps: RangeInclusive<usize>, policy: &Policy, rng: &mut Rng) -> Option<[Label; 2]> {
     let lines = lines(steps, policy);
     let &(group, ancestor) = lines.get(rng.place(0, lines.len())?)?;
-    let all = first(policy.groups.len());
-    let over = 1 << ancestor | others(all & !policy.with_ancestors(group), rng);
+    let all = policy.all_groups();
+    let over = Set::of(ancestor) | others(all & !policy.with_ancestors(group), rng);
     let level = rng.index(policy.levels.len());
-    let compartments = rng.subset(first(policy.compartments.len()));
+    let compartments = rng.subset(policy.all_compartments());
     let mut labels = [
         Label {
             tag: 0,
@@ -154,12 +154,12 @@ fn apart(steps: RangeInclusive<usize>, policy: &Policy, rng: &mut Rng) -> Option
             tag: 0,
             level: rng.range(0, level) as u8,
             compartments: rng.subset(compartments),
-            groups: 1 << group | others(all & !policy.below(over), rng),
+            groups: Set::of(group) | others(all & !policy.below(over), rng),
         },
     ];
     match rng.index(8) {
         0 => labels[1].level = rng.index(policy.levels.len()) as u8,
-        1 => labels[1].compartments |= one_of(first(policy.compartments.len()), rng),
+        1 => labels[1].compartments |= one_of(policy.all_compartments(), rng),
         2 | 3 => labels.reverse(),
         _ => {}
     }
@@ -179,9 +179,9 @@ fn lines(steps: RangeInclusive<usize>, policy: &Policy) -> Vec<(usize, usize)> {
 }
 
 /// No others, or some of them.
-fn others(set: u64, rng: &mut Rng) -> u64 {
+fn others(set: Set, rng: &mut Rng) -> Set {
     match rng.once_in(2) {
-        true => 0,
+        true => Set::NONE,
         false => rng.subset(set),
     }
 }

@@ -10,7 +10,7 @@ enum Part {
     Level,
     Compartment,
     Group,
-    /// A group in bytes 24..47, which no policy of edition 1 has.
+    /// A group in bytes 24..47, which no policy of edition 1 has, and only some of edition 2.
     GroupPast,
 }
 
@@ -72,9 +72,9 @@ impl Part {
             }
             Part::Compartment => (8, policy.compartments.len(), 64),
             Part::Group => (16, policy.groups.len(), 64),
-            Part::GroupPast => (16, 64, 256),
+            Part::GroupPast => (16, policy.groups.len().max(64), 256),
         };
-        if count == end {
+        if count >= end {
             return None;
         }
         let place = rng.with_ends(count, end - 1);

@@ -1,5 +1,6 @@
 //! Two labels and merge letters. No policy is asked, so any places will do.
 
+use crate::builder::Set;
 use crate::calls::{Pair, PairCall};
 use crate::ffi::LABEL;
 use crate::rng::Rng;
@@ -25,16 +26,16 @@ pub fn pair(rng: &mut Rng) -> Pair {
 #[derive(Clone)]
 struct Places {
     level: u8,
-    compartments: u64,
-    groups: u64,
+    compartments: Set,
+    groups: Set,
 }
 
 impl Places {
     fn any(rng: &mut Rng) -> Places {
         Places {
             level: level(rng),
-            compartments: rng.subset(u64::MAX),
-            groups: rng.subset(u64::MAX),
+            compartments: rng.subset(Set::first(64)),
+            groups: rng.subset(Set::ALL),
         }
     }
 
@@ -44,10 +45,10 @@ impl Places {
             0 => self.level = level(rng),
             1 => self.level = self.level.wrapping_sub(1),
             2 | 3 => self.compartments = rng.subset(self.compartments),
-            4 => self.compartments |= 1 << rng.index(64),
+            4 => self.compartments |= Set::of(rng.index(64)),
             5 => self.groups = rng.subset(self.groups),
-            6 => self.groups |= 1 << rng.index(64),
-            _ => self.groups = !self.groups & rng.subset(u64::MAX),
+            6 => self.groups |= Set::of(rng.index(Set::PLACES)),
+            _ => self.groups = !self.groups & rng.subset(Set::ALL),
         }
     }
 
@@ -57,8 +58,8 @@ impl Places {
             bytes = bytes.map(|_| rng.byte());
         }
         bytes[4] = self.level;
-        bytes[8..16].copy_from_slice(&self.compartments.to_le_bytes());
-        bytes[16..24].copy_from_slice(&self.groups.to_le_bytes());
+        bytes[8..16].copy_from_slice(&self.compartments.to_bytes()[..8]);
+        bytes[16..].copy_from_slice(&self.groups.to_bytes());
         bytes
     }
 }

@@ -1,6 +1,6 @@
-//! Two labels by seed, for comparing. A seed names a policy and pairs of labels under it, which are
-//! compared; or a policy and sessions of its users, which are asked beside its label records; or two
-//! labels that are merged.
+//! Two labels by edition and seed, for comparing. They name a policy and pairs of labels under it, which
+//! are compared; or a policy and sessions of its users, which are asked beside its label records. A seed
+//! alone names two labels that are merged.
 
 pub mod by_hand;
 mod compared;

@@ -1,7 +1,7 @@
 //! Sessions beside the label records of their policy: what a session reads, and what its label
 //! dominates.
 
-use crate::builder::{to_image, Label, Policy, User};
+use crate::builder::{to_image, Edition, Label, Policy, User};
 use crate::calls::{Call, Pair, PairCall};
 use crate::compare::Checked;
 use crate::ffi::{Answer, LABEL, SESSION};
@@ -77,10 +77,15 @@ pub struct Beside {
     pub dominates: bool,
 }
 
-/// Shows every label record of a seed's policy under sessions of its users: as they open, and after
-/// each change that is done.
-pub fn each_record(seed: u64, held: Held, program: Program, mut see: impl FnMut(&Beside)) {
-    let mut walk = Walk::new(seed);
+/// Shows every label record of the policy of an edition and a seed under sessions of its users: as they
+/// open, and after each change that is done.
+pub fn each_record(
+    (edition, seed): (Edition, u64),
+    held: Held,
+    program: Program,
+    mut see: impl FnMut(&Beside),
+) {
+    let mut walk = Walk::new(edition, seed);
     let Walk { policy, rng, .. } = &mut walk;
     let users = policy.users.iter_mut();
     users.for_each(|user| held.give(user, rng));

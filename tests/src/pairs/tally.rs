@@ -4,6 +4,7 @@ use super::compared::Step;
 use super::kinds::Kind;
 use super::lacking::Lacking;
 use super::reading::Beside;
+use crate::builder::{Edition, Set};
 use crate::calls::PairCall;
 use crate::compare::{CallTally, OF_IMAGES};
 use crate::ffi::Answer;
@@ -15,14 +16,21 @@ pub struct PairTally {
     kinds: CallTally,
     /// What was lacking where 18 was given, and the numbers that came before 18.
     lacking: CallTally,
+    /// The answers that are not refused where both labels have a group, and only groups past the 64th.
+    high: CallTally,
 }
 
 impl PairTally {
     pub fn add(&mut self, step: &Step) {
         let is_first = step.call == PairCall::Dominates;
         self.answers.add(step.call.name(), true, step.answer);
-        if is_first && matches!(step.answer, Answer::Done(_)) {
+        let is_done = matches!(step.answer, Answer::Done(_));
+        if is_first && is_done {
             self.kinds.add(step.kind.name(), true, step.answer);
+        }
+        let is_high = |set: Set| !set.is_empty() && !set.meets(Set::first(64));
+        if is_done && step.labels.iter().all(|label| is_high(label.groups)) {
+            self.high.add(step.call.name(), true, step.answer);
         }
         match (step.lacking, step.answer) {
             (Some(lacking), Answer::Refused { number: 18, .. }) => {
@@ -37,14 +45,18 @@ impl PairTally {
 
     /// Asks that so many pairs were compared, that each refusal came at least so often to both
     /// questions, also where an image's number came before 18, and that neither yes nor no is rare:
-    /// over all pairs, and of those with groups one, two and three steps apart.
-    pub fn assert_varied(&self, pairs: usize, least: usize) {
+    /// over all pairs, and of those with groups one, two and three steps apart. In edition 2 yes and no
+    /// came so often also where groups decide that edition 1 has not.
+    pub fn assert_varied(&self, edition: Edition, pairs: usize, least: usize) {
         for call in PairCall::QUESTIONS.map(|call| call.name()) {
             let [yes, no] = ["yes", "no"].map(|answer| self.answers.times(call, answer));
             assert!(yes + no >= pairs, "{call}: {yes} yes, {no} no");
             self.answers.assert_both(call);
             self.answers.assert_least(call, &OF_IMAGES, least);
             self.answers.assert_least(call, &["18"], least);
+            if edition == Edition::Two {
+                self.high.assert_least(call, &["yes", "no"], least);
+            }
         }
         for kind in Kind::ALL.map(Kind::name) {
             self.kinds.assert_least(kind, &["yes", "no"], least);

@@ -1,7 +1,7 @@
 //! Row calls on the sample co-operative with answers by hand.
 
 use crate::builder::layout::{seal, BLOCK};
-use crate::builder::{sample, to_image};
+use crate::builder::{sample, to_image, Edition};
 use crate::ffi::{Answer, SESSION};
 use crate::row_calls::{Lent, RowCall};
 
@@ -21,16 +21,54 @@ const ROWS: [(u32, &[u8; 3]); 6] = [
     (100_000_010, b"fff"),
 ];
 
-/// The readable rows by their places: row n is at place `READABLE[n]`.
-const READABLE: [usize; 3] = [1, 3, 4];
+/// The places of all rows, and of those whose tags are known.
+const ALL: &[usize] = &[0, 1, 2, 3, 4, 5];
+const KNOWN: &[usize] = &[0, 1, 3, 4];
+
+/// The places of the rows that MARA's labels let her read and write.
+const READ_BY_LABELS: &[usize] = &[1, 3, 4];
+const WRITTEN_BY_LABELS: &[usize] = &[1, 4];
+
+/// MARA in an edition with some privileges: row n of those that she reads is at place `readable[n]`.
+struct Hand<'a> {
+    image: Vec<u8>,
+    readable: &'static [usize],
+    writable: &'static [usize],
+    ask: Ask<'a>,
+}
+
+/// All cases.
+pub fn check(edition: Edition, ask: Ask) {
+    let seen = match edition {
+        Edition::One => ALL,
+        Edition::Two => KNOWN,
+    };
+    let [none, read, full] = [0, 1, 2];
+    for (privileges, readable, writable) in [
+        (none, READ_BY_LABELS, WRITTEN_BY_LABELS),
+        (read, seen, WRITTEN_BY_LABELS),
+        (full, seen, seen),
+        (read | full, seen, seen),
+    ] {
+        let mut policy = sample().in_edition(edition);
+        policy.users[0].privileges = privileges;
+        let hand = Hand {
+            image: to_image(&policy),
+            readable,
+            writable,
+            ask,
+        };
+        hand.reading();
+        hand.updating();
+        hand.masked_reading();
+        hand.wrong_numbers();
+    }
+    broken_sessions(edition, ask);
+}
 
 fn row(place: usize) -> Vec<u8> {
     let (tag, payload) = ROWS[place];
     [&tag.to_le_bytes()[..], payload].concat()
-}
-
-fn table() -> Vec<u8> {
-    (0..ROWS.len()).flat_map(row).collect()
 }
 
 /// MARA at CREW:KILN,GLAZE:NORTH with row label CREW:KILN:DOCK, as she opens.
@@ -45,7 +83,7 @@ fn mara() -> [u8; SESSION] {
 fn lent(room: usize) -> Lent {
     Lent {
         session: mara(),
-        table: table(),
+        table: ALL.iter().flat_map(|&place| row(place)).collect(),
         buffer: vec![0xa5; room],
     }
 }
@@ -54,92 +92,88 @@ fn refused(number: u32, place: u32) -> Answer {
     Answer::Refused { number, place }
 }
 
-/// Asks that the answer is given and that the lent bytes are then as told.
-fn expect(ask: Ask, call: &RowCall, lent: &Lent, answer: Answer, after: &Lent) {
-    let image = to_image(&sample());
-    let mut given = lent.clone();
-    assert_eq!(ask(&image, call, &mut given), answer, "{call:?}");
-    assert_eq!(given.difference(after), None, "{call:?}");
-}
-
-/// All cases.
-pub fn check(ask: Ask) {
-    reading(ask);
-    updating(ask);
-    masked_reading(ask);
-    refusals_in_order(ask);
-}
-
-/// Three rows are readable, so 21 bytes are needed. Later bytes stay.
-fn reading(ask: Ask) {
-    let call = RowCall::Read { width: WIDTH };
-    let rows = READABLE.map(row).concat();
-    for room in 0..=50 {
-        let lent = lent(room);
-        let mut after = lent.clone();
-        let mut answer = refused(13, 0);
-        if room >= 21 {
-            after.buffer[..21].copy_from_slice(&rows);
-            answer = Answer::Done(3);
-        }
-        expect(ask, &call, &lent, answer, &after);
+impl Hand<'_> {
+    /// Asks that the answer is given and that the lent bytes are then as told.
+    fn expect(&self, call: &RowCall, lent: &Lent, answer: Answer, after: &Lent) {
+        let mut given = lent.clone();
+        let case = format!("{call:?}, rows {:?}", self.readable);
+        assert_eq!((self.ask)(&self.image, call, &mut given), answer, "{case}");
+        assert_eq!(given.difference(after), None, "{case}");
     }
-}
 
-fn updating(ask: Ask) {
-    let cases = [
-        (0, Answer::Done(0)),
-        (1, refused(15, 0)),
-        (2, Answer::Done(0)),
-        (3, refused(14, 0)),
-        (5, refused(14, 0)),
-        (1 << 32, refused(14, 0)),
-        (usize::MAX, refused(14, 0)),
-    ];
-    for (n, answer) in cases {
-        let call = RowCall::Update {
-            width: WIDTH,
-            n,
-            payload: b"new".to_vec(),
-        };
-        let lent = lent(0);
-        let mut after = lent.clone();
-        if answer == Answer::Done(0) {
-            let at = READABLE[n] * WIDTH + 4;
-            after.table[at..at + 3].copy_from_slice(b"new");
+    /// Seven bytes are needed for each readable row. Later bytes stay.
+    fn reading(&self) {
+        let call = RowCall::Read { width: WIDTH };
+        let rows: Vec<u8> = self.readable.iter().flat_map(|&it| row(it)).collect();
+        for room in 0..=60 {
+            let lent = lent(room);
+            let mut after = lent.clone();
+            let mut answer = refused(13, 0);
+            if room >= rows.len() {
+                after.buffer[..rows.len()].copy_from_slice(&rows);
+                answer = Answer::Done(self.readable.len() as u64);
+            }
+            self.expect(&call, &lent, answer, &after);
         }
-        expect(ask, &call, &lent, answer, &after);
     }
-}
 
-fn masked_reading(ask: Ask) {
-    let cases = [
-        (0, Answer::Done(0)),
-        (1, Answer::Done(1)),
-        (2, Answer::Done(0)),
-        (3, Answer::Done(1)),
-        (4, Answer::Done(1)),
-        (5, Answer::Done(0)),
-        (6, refused(14, 0)),
-        ((1 << 32) + 1, refused(14, 0)),
-        (usize::MAX, refused(14, 0)),
-    ];
-    for (place, answer) in cases {
-        for mask in [&b""[..], b"-", b"hidden"] {
-            let mask = mask.to_vec();
-            let call = RowCall::Masked {
+    fn updating(&self) {
+        for n in (0..8).chain([1 << 32, usize::MAX]) {
+            let call = RowCall::Update {
                 width: WIDTH,
-                place,
-                mask,
+                n,
+                payload: b"new".to_vec(),
             };
-            expect(ask, &call, &lent(0), answer, &lent(0));
+            let lent = lent(0);
+            let mut after = lent.clone();
+            let answer = match self.readable.get(n) {
+                None => refused(14, 0),
+                Some(place) if !self.writable.contains(place) => refused(15, 0),
+                Some(place) => {
+                    let at = place * WIDTH + 4;
+                    after.table[at..at + 3].copy_from_slice(b"new");
+                    Answer::Done(0)
+                }
+            };
+            self.expect(&call, &lent, answer, &after);
+        }
+    }
+
+    fn masked_reading(&self) {
+        for place in (0..8).chain([(1 << 32) + 1, usize::MAX]) {
+            let answer = match place {
+                0..6 => Answer::Done(u64::from(self.readable.contains(&place))),
+                _ => refused(14, 0),
+            };
+            for mask in [&b""[..], b"-", b"hidden"] {
+                let mask = mask.to_vec();
+                let call = RowCall::Masked {
+                    width: WIDTH,
+                    place,
+                    mask,
+                };
+                self.expect(&call, &lent(0), answer, &lent(0));
+            }
+        }
+    }
+
+    /// At first all but the session is wrong; then the width is right.
+    fn wrong_numbers(&self) {
+        for width in [0, 4, 5, 8, 42 * 13, usize::MAX] {
+            for call in calls(width) {
+                self.expect(&call, &lent(0), refused(12, 0), &lent(0));
+            }
+        }
+        let numbers = [13, 16, 14];
+        for (call, number) in calls(WIDTH).iter().zip(numbers) {
+            self.expect(call, &lent(0), refused(number, 0), &lent(0));
         }
     }
 }
 
 /// The sample's image with another byte in a block, and the block's check mended.
-fn changed(block: usize, at: usize, byte: u8) -> Vec<u8> {
-    let mut image = to_image(&sample());
+fn changed(edition: Edition, block: usize, at: usize, byte: u8) -> Vec<u8> {
+    let mut image = to_image(&sample().in_edition(edition));
     image[block * BLOCK + at] = byte;
     seal(&mut image, block);
     image
@@ -147,51 +181,43 @@ fn changed(block: usize, at: usize, byte: u8) -> Vec<u8> {
 
 /// Images of the sample that are refused, each with its refusal. Block 1 holds the components, block 2
 /// the labels and block 3 the user.
-pub fn refused_images() -> Vec<(Vec<u8>, Answer)> {
-    let whole = to_image(&sample());
+pub fn refused_images(edition: Edition) -> Vec<(Vec<u8>, Answer)> {
+    let whole = to_image(&sample().in_edition(edition));
+    let changed = |block, at, byte| changed(edition, block, at, byte);
+    let (second_label, write_groups) = match edition {
+        Edition::One => (4 + 24, 80),
+        Edition::Two => (4 + 48, 104),
+    };
     let mut unsound = whole.clone();
     unsound[600] ^= 1;
     vec![
         (whole[..511].to_vec(), refused(1, 0)),
         (unsound, refused(2, 1)),
         (whole[..1_024].to_vec(), refused(31, 0)),
+        (changed(0, 4, 3), refused(31, 0)),
         (changed(2, 509, 1), refused(31, 0)),
         (changed(1, 4 + 8 * 40 + 35, 1), refused(32, 65_536 + 8)),
-        (changed(2, 4 + 24 + 4, 3), refused(33, 2 * 65_536 + 1)),
+        (changed(2, second_label + 4, 3), refused(33, 2 * 65_536 + 1)),
         (changed(3, 4 + 31, 128), refused(34, 3 * 65_536)),
         // The third group is its own parent.
         (changed(1, 4 + 7 * 40 + 34, 2), refused(35, 2)),
         // MARA's write group is SOUTH, which isn't below NORTH.
-        (changed(3, 4 + 80, 8), refused(34, 3 * 65_536)),
+        (changed(3, 4 + write_groups, 8), refused(34, 3 * 65_536)),
     ]
 }
 
-/// The refusals that every call gives to a broken session.
-fn images() -> Vec<(Vec<u8>, Answer)> {
-    let mut images = refused_images();
-    images.push((to_image(&sample()), refused(19, 0)));
-    images
-}
-
-/// At first all is wrong; then one thing after the other is mended.
-fn refusals_in_order(ask: Ask) {
+/// The refusals that every call gives to a broken session, whatever else is wrong.
+fn broken_sessions(edition: Edition, ask: Ask) {
+    let mut images = refused_images(edition);
+    images.push((to_image(&sample().in_edition(edition)), refused(19, 0)));
     let mut broken = lent(0);
     broken.session[12] = 0;
-    for (image, answer) in images() {
+    for (image, answer) in images {
         for call in calls(5) {
             let mut given = broken.clone();
             assert_eq!(ask(&image, &call, &mut given), answer, "{call:?}");
             assert_eq!(given.difference(&broken), None, "{call:?}");
         }
-    }
-    for width in [0, 4, 5, 8, 42 * 13, usize::MAX] {
-        for call in calls(width) {
-            expect(ask, &call, &lent(0), refused(12, 0), &lent(0));
-        }
-    }
-    let numbers = [13, 16, 14];
-    for (call, number) in calls(WIDTH).iter().zip(numbers) {
-        expect(ask, call, &lent(0), refused(number, 0), &lent(0));
     }
 }
 

@@ -1,5 +1,5 @@
-//! Row calls by seed. A seed names a policy, sessions of its users, and tables whose rows are read,
-//! updated and read masked, with right arguments and wrong ones.
+//! Row calls by edition and seed, which name a policy, sessions of its users, and tables whose rows are
+//! read, updated and read masked, with right arguments and wrong ones.
 
 pub mod by_hand;
 pub mod numbers;
@@ -7,6 +7,7 @@ mod tally;
 
 pub use tally::RowTally;
 
+use crate::builder::Edition;
 use crate::ffi::{Answer, SESSION};
 use crate::model::{self, Image, Session};
 use crate::rng::Rng;
@@ -36,9 +37,10 @@ pub struct Step<'a> {
     pub privileges: Option<u8>,
 }
 
-/// Shows the first row calls of a seed. A table that the model updates is lent again later.
-pub fn each_row_call(seed: u64, count: usize, mut see: impl FnMut(&Step)) {
-    let mut walk = Walk::new(seed);
+/// Shows the first row calls of an edition and a seed. A table that the model updates is lent again
+/// later.
+pub fn each_row_call(edition: Edition, seed: u64, count: usize, mut see: impl FnMut(&Step)) {
+    let mut walk = Walk::new(edition, seed);
     let images = walk.images();
     let checked: Vec<_> = images.iter().map(|image| model::accepted(image)).collect();
     let own = model::accepted(&images[0]).expect("the policy is well-formed");

@@ -1,9 +1,11 @@
 //! What was seen of row calls, to know that they go everywhere.
 
 use super::{Step, LARGEST};
+use crate::builder::Edition;
 use crate::compare::{CallTally, OF_IMAGES};
 use crate::ffi::Answer;
 use crate::row_calls::{first_difference, RowCall};
+use crate::walk::is_ruled;
 use std::collections::{BTreeMap, BTreeSet};
 
 /// For each call the answers that it can give on an accepted image.
@@ -11,6 +13,20 @@ const OUTCOMES: [(&str, &[&str]); 3] = [
     ("read", &["rows", "no rows", "19", "12", "13"]),
     ("update", &["done", "19", "12", "16", "14", "15"]),
     ("masked", &["payload", "mask", "19", "12", "14"]),
+];
+
+/// Rows of tag 0 and of unknown tags, which READ and FULL see in edition 1 and not in edition 2.
+const ONLY_ONE: [&str; 4] = [
+    "the payload of tag 0",
+    "the payload of a tag over all",
+    "all rows, tag 0 among them",
+    "an update of tag 0",
+];
+const ONLY_TWO: [&str; 4] = [
+    "the mask for tag 0 with READ or FULL",
+    "the mask for a tag over all with READ or FULL",
+    "not all rows with READ or FULL",
+    "14 below the number of rows with READ or FULL",
 ];
 
 #[derive(Debug, Default)]
@@ -35,14 +51,22 @@ impl RowTally {
     }
 
     /// Asks that each call gave each of its answers and saw each of its kinds at least so often,
-    /// and that users had all 128 privilege bytes.
-    pub fn assert_varied(&self, least: usize) {
+    /// and that users had all 128 privilege bytes. What only one edition has never came in the other.
+    pub fn assert_varied(&self, edition: Edition, least: usize) {
         for (call, outcomes) in OUTCOMES {
             self.answers.assert_least(call, outcomes, least);
             self.answers.assert_least(call, &OF_IMAGES, least);
         }
         for ((call, kind), times) in &self.kinds {
-            assert!(*times >= least, "{call}: {kind} came {times} times");
+            let is_of_other = match edition {
+                Edition::One => ONLY_TWO.contains(kind),
+                Edition::Two => ONLY_ONE.contains(kind),
+            };
+            let is_right = match is_of_other {
+                true => *times == 0,
+                false => *times >= least,
+            };
+            assert!(is_right, "{call}: {kind} came {times} times");
         }
         assert_eq!(self.privileges.len(), 128);
     }
@@ -66,6 +90,11 @@ fn kinds(step: &Step) -> Vec<(&'static str, bool)> {
     [kinds, more].concat()
 }
 
+/// Whether the session's user holds READ or FULL.
+fn sees_all(step: &Step) -> bool {
+    step.privileges.is_some_and(|held| !is_ruled(held))
+}
+
 fn is_refused(step: &Step, by: u32) -> bool {
     matches!(step.answer, Answer::Refused { number, .. } if number == by)
 }
@@ -78,12 +107,24 @@ fn kinds_of_read(step: &Step, rows: Option<usize>) -> Vec<(&'static str, bool)> 
         _ => None,
     };
     let reads_rows = count.is_some_and(|count| count > 0);
+    let is_all = reads_rows && count == rows;
+    let has_tag_0 = || {
+        step.lent
+            .table
+            .chunks(step.call.width())
+            .any(|it| it[..4] == [0; 4])
+    };
     let is_long = is_refused(step, 13);
     vec![
         ("an empty table", count == Some(0) && rows == Some(0)),
         ("none of the rows", count == Some(0) && rows > Some(0)),
         ("some rows", reads_rows && count < rows),
-        ("all rows", reads_rows && count == rows),
+        ("all rows", is_all),
+        ("all rows, tag 0 among them", is_all && has_tag_0()),
+        (
+            "not all rows with READ or FULL",
+            count.is_some() && count < rows && sees_all(step),
+        ),
         ("a buffer just long enough", reads_rows && room == needed),
         ("a longer buffer", reads_rows && room > needed),
         ("a buffer short by one", is_long && room + 1 == needed),
@@ -95,9 +136,16 @@ fn kinds_of_update(step: &Step, width: usize, n: usize) -> Vec<(&'static str, bo
     let (before, after) = (&step.lent.table, &step.after.table);
     let place = (before != after).then(|| first_difference(before, after) / width);
     let is_past = is_refused(step, 14);
+    let is_tag_0 = |place: usize| before[place * width..][..4] == [0; 4];
+    let is_row = n.checked_mul(width).is_some_and(|at| at < before.len());
     vec![
         ("row n at place n", place == Some(n)),
         ("row n at a later place", place > Some(n)),
+        ("an update of tag 0", place.is_some_and(is_tag_0)),
+        (
+            "14 below the number of rows with READ or FULL",
+            is_past && is_row && sees_all(step),
+        ),
         (
             "n at the count",
             is_past && n.checked_mul(width) == Some(step.needed),
@@ -115,11 +163,20 @@ fn kinds_of_masked(step: &Step, width: usize, place: usize) -> Vec<(&'static str
     let is_past = is_refused(step, 14);
     let wraps = offset.is_none() && place.wrapping_mul(width) < table.len();
     let [mask, payload] = [0, 1].map(|value| step.answer == Answer::Done(value));
+    let hidden = mask && sees_all(step);
     vec![
         ("the payload of tag 0", payload && tag == Some(0)),
         ("the mask for tag 0", mask && tag == Some(0)),
         ("the payload of a tag over all", payload && over),
         ("the mask for a tag over all", mask && over),
+        (
+            "the mask for tag 0 with READ or FULL",
+            hidden && tag == Some(0),
+        ),
+        (
+            "the mask for a tag over all with READ or FULL",
+            hidden && over,
+        ),
         (
             "a place at the count",
             is_past && offset == Some(table.len()),

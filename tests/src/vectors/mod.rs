@@ -18,7 +18,7 @@ pub use requests::{requests, Waiting};
 pub use sessions::{sessions, Case, Section};
 pub use two_labels::{two_labels, PairCase};
 
-use crate::builder::{Component, Label, Policy};
+use crate::builder::{Component, Edition, Label, Policy, Set};
 use crate::ffi::Answer;
 
 /// The first word of a line, and the rest.
@@ -32,10 +32,11 @@ fn question_and_answer(case: &'static str) -> (&'static str, &'static str) {
 }
 
 /// Three classes, each with names and their numbers. Places go by the numbers.
-fn read_policy(text: &str) -> Policy {
+fn read_policy(edition: Edition, text: &str) -> Policy {
     let mut classes = text.split(';').map(read_class);
     let mut next = || classes.next().expect("three classes");
     let policy = Policy {
+        edition,
         levels: next(),
         compartments: next(),
         groups: next(),
@@ -49,29 +50,51 @@ fn read_policy(text: &str) -> Policy {
 /// Names with numbers; NAME<PARENT is a group under another.
 fn read_class(text: &str) -> Vec<Component> {
     let words: Vec<&str> = text.split_whitespace().collect();
-    let parents = |word: &str| word.split_once('<').map(|(_, parent)| parent.to_string());
-    let mut class: Vec<(Component, Option<String>)> = words
-        .chunks(2)
-        .map(|pair| (read_component(pair), parents(pair[0])))
-        .collect();
+    let mut class: Vec<(Component, Option<String>)> =
+        words.chunks(2).flat_map(read_components).collect();
     class.sort_by_key(|(component, _)| component.number);
     let names: Vec<String> = class.iter().map(|(it, _)| it.name.clone()).collect();
     let place = |name: String| names.iter().position(|other| *other == name);
     let with_parent = |(component, parent): (Component, Option<String>)| Component {
-        parent: parent.map(|name| place(name).expect("the parent is a group") as u8),
+        parent: parent.map(|name| place(name).expect("the parent is a group") as u16),
         ..component
     };
     class.into_iter().map(with_parent).collect()
 }
 
-/// A name, without what stands for its parent, and a number.
-fn read_component(pair: &[&str]) -> Component {
-    let name = pair[0].split('<').next().unwrap_or_default();
-    Component {
-        name: name.to_string(),
-        number: pair[1].parse().expect("a numeric form"),
+/// A word and a number: a component or several, each with the name of its parent.
+fn read_components(pair: &[&str]) -> Vec<(Component, Option<String>)> {
+    let (names, parent) = match pair[0].split_once('<') {
+        Some((names, parent)) => (read_names(names), Some(parent)),
+        None => (read_names(pair[0]), None),
+    };
+    let first: u16 = pair[1].parse().expect("a numeric form");
+    let parent_of = |at: usize| match parent? {
+        "-" => at.checked_sub(1).map(|before| names[before].clone()),
+        "+" => names.get(at + 1).cloned(),
+        parent => Some(parent.to_string()),
+    };
+    let component = |at: usize| Component {
+        name: names[at].clone(),
+        number: first + at as u16,
         parent: None,
-    }
+    };
+    let places = 0..names.len();
+    places.map(|at| (component(at), parent_of(at))).collect()
+}
+
+/// One name, or all from G3 to G9 for G3..G9.
+fn read_names(text: &str) -> Vec<String> {
+    let Some((first, last)) = text.split_once("..") else {
+        return vec![text.to_string()];
+    };
+    let letters = first.trim_end_matches(|it: char| it.is_ascii_digit());
+    let [first, last] = [first, last].map(|name| {
+        let number = name.strip_prefix(letters).and_then(|it| it.parse().ok());
+        number.expect("two names with numbers")
+    });
+    let numbers = first..=last;
+    numbers.map(|it: usize| format!("{letters}{it}")).collect()
 }
 
 /// The label of a text that is one. Its tag is 0.
@@ -87,11 +110,11 @@ fn read_label(policy: &Policy, text: &str) -> Label {
 }
 
 /// Two sets, as COMPARTMENTS:GROUPS or COMPARTMENTS; either may be empty.
-fn read_sets(policy: &Policy, text: &str) -> (u64, u64) {
+fn read_sets(policy: &Policy, text: &str) -> (Set, Set) {
     let (compartments, groups) = text.split_once(':').unwrap_or((text, ""));
-    let set = |class: &[Component], list: &str| {
+    let set = |class: &[Component], list: &str| -> Set {
         let names = list.split(',').filter(|name| !name.is_empty());
-        names.fold(0, |set, name| set | 1 << place_of(class, name))
+        names.map(|name| place_of(class, name)).collect()
     };
     let compartments = set(&policy.compartments, compartments);
     (compartments, set(&policy.groups, groups))

@@ -2,11 +2,11 @@
 
 use super::users::{read_tagged, read_user};
 use super::{first_word, read_policy};
-use crate::builder::Policy;
+use crate::builder::{Edition, Policy};
 use std::collections::BTreeSet;
 
 /// All files that are run. The sample's comes last.
-const FILES: [&str; 11] = [
+const FILES: [&str; 12] = [
     include_str!("../../vectors/reading.txt"),
     include_str!("../../vectors/privileges.txt"),
     include_str!("../../vectors/writing.txt"),
@@ -17,6 +17,7 @@ const FILES: [&str; 11] = [
     include_str!("../../vectors/relabelling.txt"),
     include_str!("../../vectors/inverse_groups.txt"),
     include_str!("../../vectors/places.txt"),
+    include_str!("../../vectors/edition_2.txt"),
     SAMPLE,
 ];
 
@@ -26,6 +27,8 @@ const SAMPLE: &str = include_str!("../../vectors/cooperative.txt");
 pub struct Part {
     pub policy: Policy,
     pub cases: Vec<&'static str>,
+    /// The editions in which the cases hold.
+    editions: &'static [Edition],
 }
 
 /// What a case asks for.
@@ -48,10 +51,13 @@ fn form(case: &str) -> Form {
     }
 }
 
-/// The parts that have cases of a form, with these cases alone.
-pub fn parts_with(asked: Form) -> Vec<Part> {
+/// The parts that have cases of a form in an edition, with these cases alone. Their policies are of that
+/// edition.
+pub fn parts_with(edition: Edition, asked: Form) -> Vec<Part> {
     let mut parts = parts();
+    parts.retain(|part| part.editions.contains(&edition));
     for part in &mut parts {
+        part.policy.edition = edition;
         part.cases.retain(|case| form(case) == asked);
     }
     parts.retain(|part| !part.cases.is_empty());
@@ -73,12 +79,15 @@ fn parts_of(file: &'static str) -> Vec<Part> {
     let mut parts: Vec<Part> = Vec::new();
     for line in lines_that_say(file) {
         let (word, rest) = first_word(line);
-        if word == "policy" {
-            let (policy, cases) = (read_policy(rest), Vec::new());
-            parts.push(Part { policy, cases });
+        if let Some(editions) = read_editions(word) {
+            parts.push(Part {
+                policy: read_policy(editions[0], rest),
+                cases: Vec::new(),
+                editions,
+            });
             continue;
         }
-        let Part { policy, cases } = parts.last_mut().expect("a policy first");
+        let Part { policy, cases, .. } = parts.last_mut().expect("a policy first");
         match word {
             "user" => policy.users.push(read_user(policy, rest)),
             "label" => policy.labels.push(read_tagged(policy, rest)),
@@ -86,12 +95,22 @@ fn parts_of(file: &'static str) -> Vec<Part> {
         }
     }
     assert!(!parts.is_empty(), "a file without vectors");
-    for Part { policy, cases } in &mut parts {
+    for Part { policy, cases, .. } in &mut parts {
         assert!(!cases.is_empty(), "a policy without cases");
         policy.users.sort_by_key(|user| user.name.clone());
         policy.labels.sort_by_key(|label| label.tag);
     }
     parts
+}
+
+/// The word before a policy, and the editions in which its cases hold.
+fn read_editions(word: &str) -> Option<&'static [Edition]> {
+    match word {
+        "policy" => Some(&Edition::ALL),
+        "policy-1" => Some(&Edition::ALL[..1]),
+        "policy-2" => Some(&Edition::ALL[1..]),
+        _ => None,
+    }
 }
 
 /// Lines that are neither empty nor comments.

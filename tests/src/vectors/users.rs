@@ -1,7 +1,7 @@
 //! A user in a vector file: what the line leaves out is filled in by rule F of the worked examples.
 
 use super::{first_word, place_of, read_label, read_sets};
-use crate::builder::{Label, Levels, Policy, Rights, User};
+use crate::builder::{Label, Levels, Policy, Rights, Set, User};
 
 /// The names of the privilege bits, from bit 1 on.
 const PRIVILEGES: [&str; 7] = [
@@ -29,7 +29,9 @@ pub fn read_user(policy: &Policy, text: &'static str) -> User {
     let read = sets("read").unwrap_or((default.compartments, default.groups));
     let write = sets("write").unwrap_or(read);
     let row = value("row").map(|label| read_label(policy, label));
-    let row = row.map_or((minimum, 0, 0), |it| (it.level, it.compartments, it.groups));
+    let row = row.map_or((minimum, Set::NONE, Set::NONE), |it| {
+        (it.level, it.compartments, it.groups)
+    });
     User {
         name: name.to_string(),
         privileges: value("has").map_or(0, read_privileges),
@@ -44,7 +46,7 @@ pub fn read_user(policy: &Policy, text: &'static str) -> User {
     }
 }
 
-fn rights(read: u64, write: u64, default: u64, row: u64) -> Rights {
+fn rights(read: Set, write: Set, default: Set, row: Set) -> Rights {
     Rights {
         read,
         write,

@@ -1,7 +1,7 @@
 //! Ways to break a session: for each part of the rules behind refusal 19 a change that breaks it.
 
 use super::{label_at, set_bit, LABEL_AT, ROW_AT};
-use crate::builder::Policy;
+use crate::builder::{Edition, Policy, Set};
 use crate::ffi::SESSION;
 use crate::rng::Rng;
 
@@ -17,7 +17,7 @@ pub enum Break {
     Compartment,
     /// A group outside below(read), also one that the policy lacks.
     Group,
-    /// A group in bytes 24..47 of the session label.
+    /// A group of the session label past all that there are; in edition 1 in bytes 24..47.
     GroupPast,
     /// The row label's level over the session's.
     RowLevelOver,
@@ -27,7 +27,7 @@ pub enum Break {
     RowCompartment,
     /// A group of the row label outside the write groups.
     RowGroup,
-    /// A group in bytes 24..47 of the row label.
+    /// A group of the row label past all that there are; in edition 1 in bytes 24..47.
     RowGroupPast,
     /// The session label loses a compartment that the row label has.
     CompartmentTaken,
@@ -63,8 +63,8 @@ impl Break {
             Break::LevelOver | Break::LevelUnder | Break::RowLevelOver | Break::RowLevelUnder => {
                 self.break_level(policy, session, rng)?
             }
-            Break::GroupPast => set_bit(session, LABEL_AT + 16, rng.with_ends(64, 255)),
-            Break::RowGroupPast => set_bit(session, ROW_AT + 16, rng.with_ends(64, 255)),
+            Break::GroupPast => set_bit(session, LABEL_AT + 16, group_past(policy, rng)?),
+            Break::RowGroupPast => set_bit(session, ROW_AT + 16, group_past(policy, rng)?),
             Break::CompartmentTaken | Break::GroupTaken => self.take(policy, session, rng)?,
             _ => self.add(policy, session, rng)?,
         }
@@ -95,15 +95,18 @@ impl Break {
     fn add(self, policy: &Policy, session: &mut [u8; SESSION], rng: &mut Rng) -> Option<()> {
         let user = policy.users.get(usize::from(session[0]))?;
         let label = label_at(session, LABEL_AT);
-        let (compartments, write) = (label.compartments, user.compartments.write);
         let (below, below_write) = (policy.below(label.groups), policy.below(user.groups.write));
-        let (at, outside) = match self {
-            Break::Compartment => (LABEL_AT + 8, !user.compartments.read),
-            Break::Group => (LABEL_AT + 16, !policy.below(user.groups.read)),
-            Break::RowCompartment => (ROW_AT + 8, outside(compartments, write, rng)),
-            _ => (ROW_AT + 16, outside(below, below_write, rng)),
+        let [compartments, groups] = [64, policy.edition.most_groups()].map(Set::first);
+        let (at, places) = match self {
+            Break::Compartment => (LABEL_AT + 8, compartments & !user.compartments.read),
+            Break::Group => (LABEL_AT + 16, groups & !policy.below(user.groups.read)),
+            Break::RowCompartment => {
+                let outside = outside(label.compartments, user.compartments.write, rng);
+                (ROW_AT + 8, compartments & outside)
+            }
+            _ => (ROW_AT + 16, groups & outside(below, below_write, rng)),
         };
-        let place = rng.place_in(outside)?;
+        let place = rng.place_in(places)?;
         set_bit(session, at, place);
         Some(())
     }
@@ -113,7 +116,7 @@ impl Break {
         let row = label_at(session, ROW_AT);
         let mut label = label_at(session, LABEL_AT);
         if self == Break::CompartmentTaken {
-            label.compartments &= !(1 << rng.place_in(row.compartments)?);
+            label.compartments &= !Set::of(rng.place_in(row.compartments)?);
         } else {
             label.groups &= !policy.with_ancestors(rng.place_in(row.groups)?);
         }
@@ -122,8 +125,17 @@ impl Break {
     }
 }
 
+/// A group that the policy lacks: in edition 1 one that no policy of it has.
+fn group_past(policy: &Policy, rng: &mut Rng) -> Option<usize> {
+    let first = match policy.edition {
+        Edition::One => policy.edition.most_groups(),
+        Edition::Two => policy.groups.len(),
+    };
+    (first < Set::PLACES).then(|| rng.with_ends(first, Set::PLACES - 1))
+}
+
 /// What is not in both sets: what only one of them has, or all.
-fn outside(one: u64, other: u64, rng: &mut Rng) -> u64 {
+fn outside(one: Set, other: Set, rng: &mut Rng) -> Set {
     *rng.pick(&[one & !other, other & !one, !(one & other)])
 }
 

@@ -1,6 +1,6 @@
 //! The parts of a session in its bytes.
 
-use crate::builder::Label;
+use crate::builder::{Label, Set};
 use crate::ffi::SESSION;
 use crate::rng::Rng;
 
@@ -17,17 +17,13 @@ pub fn spoil_unused(session: &mut [u8; SESSION], rng: &mut Rng) {
     }
 }
 
-/// The label at an offset of a session, with groups up to 64.
+/// The label at an offset of a session.
 pub fn label_at(session: &[u8; SESSION], at: usize) -> Label {
-    let set = |at: usize| {
-        let bytes = session[at..at + 8].iter().rev();
-        bytes.fold(0, |set, &byte| set << 8 | u64::from(byte))
-    };
     Label {
         tag: 0,
         level: session[at + 4],
-        compartments: set(at + 8),
-        groups: set(at + 16),
+        compartments: Set::from_bytes(&session[at + 8..at + 16]),
+        groups: Set::from_bytes(&session[at + 16..at + 48]),
     }
 }
 

@@ -1,5 +1,5 @@
-//! Calls on sessions by seed. A seed names a policy and a walk through its users' sessions: they
-//! are opened, changed and asked, whole and broken, with the policy's image and with damaged ones.
+//! Calls on sessions by edition and seed, which name a policy and a walk through its users' sessions:
+//! they are opened, changed and asked, whole and broken, with the policy's image and with damaged ones.
 
 mod breaks;
 mod bytes;
@@ -9,10 +9,10 @@ mod wishes;
 
 pub use breaks::Break;
 pub use bytes::{label_at, spoil_unused, LABEL_AT, ROW_AT};
-pub use policy::{one_of, policy};
+pub use policy::{is_ruled, one_of, policy};
 pub use tally::WalkTally;
 
-use crate::builder::{letters, to_image, Label, Policy};
+use crate::builder::{letters, to_image, Edition, Label, Policy};
 use crate::calls::Call;
 use crate::damage::{Damage, Draft};
 use crate::ffi::{Answer, SESSION};
@@ -34,13 +34,13 @@ pub struct Step<'a> {
     pub session: [u8; SESSION],
     /// The privileges of the session's user, if there is such a user.
     pub privileges: Option<u8>,
-    /// Whether a verdict goes by labels: a known tag, and neither READ nor FULL.
-    pub is_ruled: bool,
+    /// Whether a verdict is asked of a tag that is a label's.
+    pub is_known: bool,
 }
 
-/// Shows the first calls of a seed's walk. Sessions that the model hands out are lent again later.
-pub fn each_call(seed: u64, count: usize, mut see: impl FnMut(&Step)) {
-    let mut walk = Walk::new(seed);
+/// Shows the first calls of a walk. Sessions that the model hands out are lent again later.
+pub fn each_call(edition: Edition, seed: u64, count: usize, mut see: impl FnMut(&Step)) {
+    let mut walk = Walk::new(edition, seed);
     let images = walk.images();
     let checked: Vec<_> = images.iter().map(|image| model::accepted(image)).collect();
     for _ in 0..count {
@@ -55,7 +55,7 @@ pub fn each_call(seed: u64, count: usize, mut see: impl FnMut(&Step)) {
             answer,
             session,
             privileges: walk.privileges(&lent),
-            is_ruled: walk.is_ruled(&call, &lent),
+            is_known: walk.is_known(&call),
             call,
         });
     }
@@ -70,9 +70,9 @@ pub struct Walk {
 }
 
 impl Walk {
-    pub fn new(seed: u64) -> Walk {
+    pub fn new(edition: Edition, seed: u64) -> Walk {
         let mut rng = Rng::new(seed);
-        Walk::of(policy(&mut rng), rng)
+        Walk::of(policy(edition, &mut rng), rng)
     }
 
     pub fn of(policy: Policy, rng: Rng) -> Walk {
@@ -245,12 +245,11 @@ impl Walk {
         Some(user.privileges)
     }
 
-    fn is_ruled(&self, call: &Call, session: &[u8; SESSION]) -> bool {
+    fn is_known(&self, call: &Call) -> bool {
         let (Call::MayRead(tag) | Call::MayWrite(tag)) = call else {
             return false;
         };
-        let user = self.policy.users.get(usize::from(session[0]));
-        user.is_some_and(policy::is_ruled) && self.policy.labels.iter().any(|it| it.tag == *tag)
+        self.policy.labels.iter().any(|it| it.tag == *tag)
     }
 }
 

@@ -1,24 +1,24 @@
 //! Policies for walks: users with and without privileges, and rows' labels around their rights.
 
-use crate::builder::{first, random, Label, Policy, Rights, Sizes, User};
+use crate::builder::{random, Edition, Label, Policy, Rights, Set, Sizes, User};
 use crate::rng::Rng;
 
 const READ: u8 = 1;
 const FULL: u8 = 2;
 
 /// Mostly small, so that sets meet often; now and then up to all limits.
-pub fn policy(rng: &mut Rng) -> Policy {
+pub fn policy(edition: Edition, rng: &mut Rng) -> Policy {
     let mut sizes = match rng.index(100) {
-        0 => Sizes::any(rng),
-        1..=8 => Sizes::medium(rng),
-        _ => Sizes::small(rng),
+        0 => Sizes::any(edition, rng),
+        1..=8 => Sizes::medium(edition, rng),
+        _ => Sizes::small(edition, rng),
     };
-    sizes.labels += rng.range(0, 12).min(Sizes::FULL.labels - sizes.labels);
+    sizes.labels += rng.range(0, 12).min(edition.most_labels() - sizes.labels);
     if sizes.users == 0 && !rng.once_in(6) {
         sizes.users = rng.range(1, 3);
     }
     let mut policy = random(sizes, rng);
-    let all = first(policy.compartments.len());
+    let all = policy.all_compartments();
     for user in &mut policy.users {
         if rng.once_in(2) {
             user.privileges &= !(READ | FULL);
@@ -37,15 +37,15 @@ pub fn policy(rng: &mut Rng) -> Policy {
 }
 
 /// All compartments to read, all in the default label, and more of them to write.
-fn widen(rights: &mut Rights, all: u64, rng: &mut Rng) {
+fn widen(rights: &mut Rights, all: Set, rng: &mut Rng) {
     rights.read = all;
     rights.default = all;
     rights.write |= rng.subset(all);
 }
 
-/// Whether verdicts on all rows go by labels for this user.
-pub fn is_ruled(user: &User) -> bool {
-    user.privileges & (READ | FULL) == 0
+/// Whether verdicts on all rows go by labels for a user of these privileges.
+pub fn is_ruled(privileges: u8) -> bool {
+    privileges & (READ | FULL) == 0
 }
 
 /// A row's label that is often inside a user's rights, and often outside in one place.
@@ -57,7 +57,7 @@ fn row(tag: u32, policy: &Policy, user: &User, rng: &mut Rng) -> Label {
     };
     let own = &user.compartments;
     let mut compartments = match rng.index(6) {
-        0 => 0,
+        0 => Set::NONE,
         1 => rng.subset(own.read),
         2 => one_of(own.default & !own.write, rng),
         3 => rng.subset(own.default),
@@ -65,7 +65,7 @@ fn row(tag: u32, policy: &Policy, user: &User, rng: &mut Rng) -> Label {
         _ => rng.subset(own.default & own.write),
     };
     if rng.once_in(6) {
-        compartments |= one_of(first(policy.compartments.len()), rng);
+        compartments |= one_of(policy.all_compartments(), rng);
     }
     Label {
         tag,
@@ -76,21 +76,21 @@ fn row(tag: u32, policy: &Policy, user: &User, rng: &mut Rng) -> Label {
 }
 
 /// None, some that the user reaches, or one group and few others: one reached group is enough.
-fn row_groups(policy: &Policy, user: &User, rng: &mut Rng) -> u64 {
+fn row_groups(policy: &Policy, user: &User, rng: &mut Rng) -> Set {
     let own = &user.groups;
     let (default, write) = (policy.below(own.default), policy.below(own.write));
     match rng.index(8) {
-        0 | 1 => 0,
-        2 => rng.subset(first(policy.groups.len())),
+        0 | 1 => Set::NONE,
+        2 => rng.subset(policy.all_groups()),
         3 => one_of(policy.below(own.read), rng),
         4 => one_of(default & !write, rng),
         5 => one_of(default, rng),
-        6 => one_of(default & write, rng) | one_of(first(policy.groups.len()), rng),
+        6 => one_of(default & write, rng) | one_of(policy.all_groups(), rng),
         _ => one_of(default & write, rng),
     }
 }
 
 /// The set of one place of a set, or none.
-pub fn one_of(set: u64, rng: &mut Rng) -> u64 {
-    rng.place_in(set).map_or(0, |place| 1 << place)
+pub fn one_of(set: Set, rng: &mut Rng) -> Set {
+    rng.place_in(set).map_or(Set::NONE, Set::of)
 }

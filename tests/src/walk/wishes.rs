@@ -1,7 +1,7 @@
 //! New labels for a session, around what its user may set.
 
-use super::{label_at, LABEL_AT, ROW_AT};
-use crate::builder::{first, Label, Policy, User};
+use super::{label_at, one_of, LABEL_AT, ROW_AT};
+use crate::builder::{Label, Policy, Set, User};
 use crate::ffi::SESSION;
 use crate::rng::Rng;
 
@@ -45,19 +45,18 @@ fn between(lowest: u8, highest: u8, rng: &mut Rng) -> u8 {
 }
 
 /// For each group itself or one of its ancestors, as far as they are within reach.
-fn cover(policy: &Policy, groups: u64, reach: u64, rng: &mut Rng) -> u64 {
-    let places = (0..policy.groups.len()).filter(|place| groups >> place & 1 == 1);
+fn cover(policy: &Policy, groups: Set, reach: Set, rng: &mut Rng) -> Set {
+    let places = (groups & policy.all_groups()).places();
     let above = places.filter_map(|group| rng.place_in(policy.with_ancestors(group) & reach));
-    above.fold(0, |set, place| set | 1 << place)
+    above.collect()
 }
 
 /// One change after which the label may be refused.
 pub fn disturb(label: &mut Label, policy: &Policy, rng: &mut Rng) {
-    let any = |count: usize, rng: &mut Rng| rng.place_in(first(count)).map_or(0, |it| 1 << it);
     match rng.index(8) {
         0 | 1 => label.level = rng.index(policy.levels.len()) as u8,
-        2 | 3 => label.compartments |= any(policy.compartments.len(), rng),
-        4 | 5 => label.groups |= any(policy.groups.len(), rng),
+        2 | 3 => label.compartments |= one_of(policy.all_compartments(), rng),
+        4 | 5 => label.groups |= one_of(policy.all_groups(), rng),
         6 => label.compartments = rng.subset(label.compartments),
         _ => label.groups = rng.subset(label.groups),
     }

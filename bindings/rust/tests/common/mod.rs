@@ -18,14 +18,19 @@ pub fn sample() -> Box<[u8]> {
 pub fn sample_with(offset: usize, byte: u8) -> Box<[u8]> {
     let mut image = sample();
     image[offset] = byte;
-    let block = &mut image[offset / 512 * 512..][..512];
+    seal(&mut image[offset / 512 * 512..][..512]);
+    image
+}
+
+/// Writes a block's check.
+#[allow(dead_code)]
+pub fn seal(block: &mut [u8]) {
     let (mut a, mut b) = (0, 0);
     for &byte in &block[..510] {
         a = (a + u32::from(byte)) % 255;
         b = (b + a) % 255;
     }
     block[510..].copy_from_slice(&[a as u8, b as u8]);
-    image
 }
 
 /// Images with a fault that neither 1 nor 2 tells, and their refusals. Blocks 1, 2 and 3 of the sample
@@ -40,7 +45,9 @@ pub fn faulty() -> Vec<(Box<[u8]>, Refusal)> {
     };
     let (components, labels, users) = (512 + 4, 1_024 + 4, 1_536 + 4);
     let changes = [
-        // The header's edition; a block's kind, record count and last byte before its check.
+        // An edition that there is not, and edition 2, where byte 7 is zero; a block's kind, record count
+        // and last byte before its check.
+        (4, 3, Refusal::ImageLayout),
         (4, 2, Refusal::ImageLayout),
         (512, 76, Refusal::ImageLayout),
         (1_025, 4, Refusal::ImageLayout),

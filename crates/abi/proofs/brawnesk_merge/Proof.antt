@@ -5,11 +5,11 @@ use borrow.Author.Needs.{needs}
 use Rattle.abi.proofs.brawnesk_merge.Statement.{statement}
 use Rattle.abi.proofs.brawnesk_merge.Tie as tie
 
-low-label-in-requires : tie.Need-low-label-in-requires
-low-label-in-requires c κs = search needs
+label-in-requires : tie.Need-label-in-requires
+label-in-requires c κs = search needs
 
-low-label-in-requires-2 : tie.Need-low-label-in-requires-2
-low-label-in-requires-2 c κs = search needs
+label-in-requires-2 : tie.Need-label-in-requires-2
+label-in-requires-2 c κs = search needs
 
 merge-requires : tie.Need-merge-requires
 merge-requires c κs = search needs
@@ -32,7 +32,7 @@ returns c =
     let called = told .before .before in
     let second = called .before in
     let first = second .before .before in
-    rw (← first .low-label-in .ensures, ← second .low-label-in2 .ensures, ← called .merge .ensures, told .answer .given .1, c .label-bytes .ensures .0)
+    rw (← first .label-in .ensures, ← second .label-in2 .ensures, ← called .merge .ensures, told .answer .given .1, c .label-bytes .ensures .0)
 
 returns-2 : tie.Need-returns-2
 returns-2 c =
@@ -40,14 +40,14 @@ returns-2 c =
     let called = told .before .before in
     let second = called .before in
     let first = second .before .before in
-    rw (← first .low-label-in .ensures, ← second .low-label-in2 .ensures, ← called .merge .ensures, told .answer2 .given .1, c .refused .ensures)
+    rw (← first .label-in .ensures, ← second .label-in2 .ensures, ← called .merge .ensures, told .answer2 .given .1, c .refused .ensures)
 
 pub brawnesk-merge-spec : {M : Type 1} → statement M
 brawnesk-merge-spec =
     tie.close
     (tie.spec
-    low-label-in-requires
-    low-label-in-requires-2
+    label-in-requires
+    label-in-requires-2
     merge-requires
     enum-known-answer
     label-bytes-requires

@@ -1,6 +1,6 @@
 use mathlib.Core.Path.{sym, _∙_}
 use Rattle.dominance.specs.TwoLabels.{dominatesOf}
-use Rattle.dominance.proofs.Compared.{compared-counted}
+use Rattle.dominance.proofs.Compared.{compared-means}
 use borrow.Author.Needs.{needs}
 use Rattle.dominance.proofs.dominates.Statement.{statement}
 use Rattle.dominance.proofs.dominates.Tie as tie
@@ -12,7 +12,7 @@ enum-told : tie.Need-enum-told
 enum-told c = search needs
 
 is-above-requires : tie.Need-is-above-requires
-is-above-requires c κs = compared-counted _ _ _ (sym (c .before .before .compared .ensures) ∙ c .enum-told .given .1)
+is-above-requires c κs = compared-means _ _ _ (sym (c .before .before .compared .ensures) ∙ c .enum-told .given .1) .accepted
 
 verdict-of-requires : tie.Need-verdict-of-requires
 verdict-of-requires c κs = search needs

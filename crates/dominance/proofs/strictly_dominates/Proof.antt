@@ -1,6 +1,6 @@
 use mathlib.Core.Path.{sym, _∙_}
 use Rattle.dominance.specs.TwoLabels.{strictlyDominatesOf}
-use Rattle.dominance.proofs.Compared.{compared-counted}
+use Rattle.dominance.proofs.Compared.{compared-means}
 use borrow.Author.Needs.{needs}
 use Rattle.dominance.proofs.strictly_dominates.Statement.{statement}
 use Rattle.dominance.proofs.strictly_dominates.Tie as tie
@@ -12,7 +12,7 @@ enum-told : tie.Need-enum-told
 enum-told c = search needs
 
 is-strictly-above-requires : tie.Need-is-strictly-above-requires
-is-strictly-above-requires c κs = compared-counted _ _ _ (sym (c .before .before .compared .ensures) ∙ c .enum-told .given .1)
+is-strictly-above-requires c κs = compared-means _ _ _ (sym (c .before .before .compared .ensures) ∙ c .enum-told .given .1) .accepted
 
 verdict-of-requires : tie.Need-verdict-of-requires
 verdict-of-requires c κs = search needs

@@ -25,7 +25,11 @@ intersection-requires-2 : tie.Need-intersection-requires-2
 intersection-requires-2 c κs = search needs
 
 privileges-requires : tie.Need-privileges-requires
-privileges-requires c κs = search needs
+privileges-requires c κs =
+    let found = c .before .before in
+    let record-read = found .before .before in
+    let start = record-read .before .before .before .before in
+    (start .pre .0, start .pre .1 .1)
 
 returns : tie.Need-returns
 unfolding rightsAt writeCompartmentsOf writeGroupsOf

@@ -33,12 +33,16 @@ returns c =
 reads-all-requires : tie.Need-reads-all-requires
 reads-all-requires c κs = search needs
 
+is-unknown-seen-requires : tie.Need-is-unknown-seen-requires
+is-unknown-seen-requires c κs = header-inside _ (accepted-counted _ (c .before .before .before .before .before .pre) .fitted)
+
 returns-2 : tie.Need-returns-2
 unfolding mayRead knownTag
 returns-2 c =
-    let a = c .before .before .before .before .before .args in
+    let all = c .before in
+    let a = all .before .before .before .before .before .args in
     let h : labels (a .image .now) ≤ labelOfTag (a .image .now) (a .tag) = omega arith in
-    rw (le-ltb _ _ h) (c .reads-all .ensures)
+    rw (le-ltb _ _ h, ← all .reads-all .ensures) (c .is-unknown-seen .ensures)
 
 pub may-read-spec : {M : Type 1} → statement M
 may-read-spec =
@@ -50,4 +54,5 @@ may-read-spec =
     reads-label-requires
     returns
     reads-all-requires
+    is-unknown-seen-requires
     returns-2)

@@ -33,12 +33,16 @@ returns c =
 writes-all-requires : tie.Need-writes-all-requires
 writes-all-requires c κs = search needs
 
+is-unknown-seen-requires : tie.Need-is-unknown-seen-requires
+is-unknown-seen-requires c κs = header-inside _ (accepted-counted _ (c .before .before .before .before .before .pre) .fitted)
+
 returns-2 : tie.Need-returns-2
 unfolding mayWrite knownTag
 returns-2 c =
-    let a = c .before .before .before .before .before .args in
+    let all = c .before in
+    let a = all .before .before .before .before .before .args in
     let h : labels (a .image .now) ≤ labelOfTag (a .image .now) (a .tag) = omega arith in
-    rw (le-ltb _ _ h) (c .writes-all .ensures)
+    rw (le-ltb _ _ h, ← all .writes-all .ensures) (c .is-unknown-seen .ensures)
 
 pub may-write-spec : {M : Type 1} → statement M
 may-write-spec =
@@ -50,4 +54,5 @@ may-write-spec =
     writes-label-requires
     returns
     writes-all-requires
+    is-unknown-seen-requires
     returns-2)

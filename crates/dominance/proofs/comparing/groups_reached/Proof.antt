@@ -1,13 +1,17 @@
 use Rattle.dominance.specs.TwoLabels.{dominatesGroups}
 use borrow.Author.Needs.{needs}
+use Rattle.image.proofs.Accepted.{accepted-counted, accepted-ends}
 use Rattle.dominance.proofs.comparing.groups_reached.Statement.{statement}
 use Rattle.dominance.proofs.comparing.groups_reached.Tie as tie
 
 fill-requires : tie.Need-fill-requires
-fill-requires c κs = search needs
+fill-requires c κs = accepted-counted _ (c .before .before .pre)
 
 below-requires : tie.Need-below-requires
-below-requires c κs = search needs
+below-requires c κs =
+    let filled = c .before in
+    let acc = filled .before .before .before .pre in
+    (accepted-counted _ acc, (filled .fill .ensures, accepted-ends _ acc))
 
 passes-requires : tie.Need-passes-requires
 passes-requires c κs = search needs

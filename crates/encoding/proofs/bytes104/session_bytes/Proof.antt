@@ -1,5 +1,5 @@
 use native.Mathlib.Omega.{arith}
-use Rattle.encoding.specs.Labels.{labelBytes}
+use Rattle.encoding.specs.Labels.{setBytes, labelBytes}
 use Rattle.encoding.specs.Sessions.{sessionBytes}
 use borrow.Author.Needs.{needs}
 use Rattle.encoding.proofs.ReadBack.{session-kept}
@@ -43,7 +43,7 @@ part-b-start-2 : tie.Need-part-b-start-2
 part-b-start-2 c = search needs
 
 part-b-end-2 : tie.Need-part-b-end-2
-unfolding labelBytes
+unfolding labelBytes setBytes
 part-b-end-2 c =
     let copied = c .before .before in
     let labels = copied .before .before .before in
@@ -53,7 +53,7 @@ copy-requires-2 : tie.Need-copy-requires-2
 copy-requires-2 c κs = search needs
 
 returns : tie.Need-returns
-unfolding sessionBytes labelBytes
+unfolding sessionBytes labelBytes setBytes
 returns c =
     let copied = c .before .before .before .before .before in
     let labels = copied .before .before .before in

@@ -1,4 +1,3 @@
-use Rattle.encoding.proofs.Wide.{fits-means}
 use Rattle.encoding.specs.Sessions.{sessionIn}
 use borrow.Author.Needs.{needs}
 use Rattle.encoding.proofs.bytes104.session_in.Statement.{statement}
@@ -17,7 +16,7 @@ part-label-in-end : tie.Need-part-label-in-end
 part-label-in-end c = search needs
 
 label-in-requires : tie.Need-label-in-requires
-label-in-requires c κs = (search needs, fits-means _ (c .before .before .before .pre .1) .label)
+label-in-requires c κs = search needs
 
 sub-label-in-2 : tie.Need-sub-label-in-2
 sub-label-in-2 c = search needs
@@ -29,7 +28,7 @@ part-label-in-end-2 : tie.Need-part-label-in-end-2
 part-label-in-end-2 c = search needs
 
 label-in-requires-2 : tie.Need-label-in-requires-2
-label-in-requires-2 c κs = (search needs, fits-means _ (c .before .before .before .before .before .pre .1) .row)
+label-in-requires-2 c κs = search needs
 
 returns : tie.Need-returns
 unfolding sessionIn

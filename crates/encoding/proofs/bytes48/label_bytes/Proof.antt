@@ -1,9 +1,8 @@
 use native.Mathlib.Omega.{arith}
-use borrow.Author.Needs.{needs}
 use Rattle.sets.proofs.Places.{places-below}
-use Rattle.hierarchy.proofs.Steps.{word-whole}
-use Rattle.encoding.specs.Labels.{labelBytes}
+use Rattle.encoding.specs.Labels.{setBytes, labelBytes}
 use Rattle.encoding.proofs.ReadBack.{label-kept}
+use borrow.Author.Needs.{needs}
 use Rattle.encoding.proofs.bytes48.label_bytes.Statement.{statement}
 use Rattle.encoding.proofs.bytes48.label_bytes.Tie as tie
 
@@ -13,11 +12,8 @@ array-write-b c = search needs
 word-bytes-requires : tie.Need-word-bytes-requires
 word-bytes-requires c κs = search needs
 
-word-requires : tie.Need-word-requires
-word-requires c κs = search needs
-
-word-bytes-requires-2 : tie.Need-word-bytes-requires-2
-word-bytes-requires-2 c κs = search needs
+set-bytes-requires : tie.Need-set-bytes-requires
+set-bytes-requires c κs = search needs
 
 slice-aggregate-copy : tie.Need-slice-aggregate-copy
 slice-aggregate-copy c = search needs
@@ -47,19 +43,18 @@ part-b-end-2 : tie.Need-part-b-end-2
 part-b-end-2 c =
     let copied = c .before .before in
     let words = copied .before .before .before in
-    rw (copied .copy .ensures .1, words .before .before .before .word-bytes .ensures) (omega arith)
+    rw (copied .copy .ensures .1, words .before .word-bytes .ensures) (omega arith)
 
 copy-requires-2 : tie.Need-copy-requires-2
 copy-requires-2 c κs = search needs
 
 returns : tie.Need-returns
-unfolding labelBytes
+unfolding labelBytes setBytes
 returns c =
     let copied = c .before .before .before .before .before in
     let words = copied .before .before .before in
-    let w = word-whole _ _ (words .before .word .ensures) in
     label-kept _ _ record { level = search needs; compartments = search needs; groups = places-below _ }
-    (rw (c .before .copy2 .ensures .1, words .word-bytes2 .ensures, copied .copy .ensures .1, words .before .before .before .word-bytes .ensures, w))
+    (rw (c .before .copy2 .ensures .1, words .set-bytes .ensures, copied .copy .ensures .1, words .before .word-bytes .ensures))
 
 pub label-bytes-spec : {M : Type 1} → statement M
 label-bytes-spec =
@@ -67,8 +62,7 @@ label-bytes-spec =
     (tie.spec
     array-write-b
     word-bytes-requires
-    word-requires
-    word-bytes-requires-2
+    set-bytes-requires
     slice-aggregate-copy
     sub-copy
     part-b-start

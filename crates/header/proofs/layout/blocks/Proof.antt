@@ -6,6 +6,9 @@ use Rattle.header.specs.Layout.{blocksFor}
 use Rattle.header.proofs.layout.blocks.Statement.{statement}
 use Rattle.header.proofs.layout.blocks.Tie as tie
 
+edition-of-requires : tie.Need-edition-of-requires
+edition-of-requires c κs = search needs
+
 capacity-requires : tie.Need-capacity-requires
 capacity-requires c κs = search needs
 
@@ -27,8 +30,8 @@ returns c =
     let k = c .before .capacity .result in
     let n = c .count .result in
     let h = div-le-self (n + (k - 1)) k in
-    (rw (c .before .capacity .ensures .0, c .count .ensures .0), omega arith)
+    (rw (c .before .capacity .ensures .0, c .before .before .edition-of .ensures, c .count .ensures .0), omega arith)
 
 pub blocks-spec : {M : Type 1} → statement M
 blocks-spec =
-    tie.close (tie.spec capacity-requires count-requires sub-result add-result div-result returns)
+    tie.close (tie.spec edition-of-requires capacity-requires count-requires sub-result add-result div-result returns)

@@ -1,39 +1,59 @@
 use Prim.Native.Nat.{ℕ, _-_, _≤_, _<_}
 use mathlib.Core.Path.{_≡_, sym, ap, _∙_}
+use mathlib.Core.Bool.{true}
 use mathlib.Core.Logic.{⊎-elim}
 use native.Mathlib.Omega.{arith}
+use borrow.Author.Count.{below-none}
 use borrow.Author.Needs.{needs}
-use Rattle.sets.specs.Sets.{one, union}
+use Rattle.sets.specs.Sets.{has}
 use Rattle.sets.specs.Groups.{placesOf}
 use Rattle.header.specs.Layout.{groups}
 use Rattle.header.proofs.Inside.{header-inside}
-use Rattle.hierarchy.proofs.Steps.{collected, collected-none, collected-all, collected-put, collected-pass}
+use Rattle.hierarchy.specs.Below.{below}
+use Rattle.hierarchy.proofs.Room.{groups-fit}
+use Rattle.hierarchy.proofs.Under.{below-groups}
+use Rattle.hierarchy.proofs.Known.{Sorted, sorted-start, sorted-put, sorted-pass, sorted-upto, sorted-end}
+use Rattle.hierarchy.proofs.Steps.{groups-of}
 use Rattle.hierarchy.proofs.table.below.Statement.{statement}
 use Rattle.hierarchy.proofs.table.below.Tie as tie
 
 abbrev Inv-loop : tie.InvT-loop
-Inv-loop image table s count r₀ g₀ r g = (g ≤ groups image) × (placesOf r ≡ collected image (placesOf s) g)
+Inv-loop image table count r₀ known₀ g₀ r known g =
+    (g ≤ groups image)
+    × (Sorted image (placesOf r₀) (placesOf r) (placesOf known) × ((p : ℕ) → p < g → has (placesOf known) p ≡ true))
 
 abbrev μ-loop : tie.MeasureT-loop
-μ-loop image table s count r₀ g₀ r g = groups image - g
+μ-loop image table count r₀ known₀ g₀ r known g = groups image - g
 
 groups-requires : tie.Need-groups-requires Inv-loop μ-loop
 groups-requires c κs = header-inside _ (c .before .pre .0 .fitted)
 
-none-requires : tie.Need-none-requires Inv-loop μ-loop
-none-requires c κs = search needs
+all-below-requires : tie.Need-all-below-requires Inv-loop μ-loop
+all-below-requires c κs =
+    let start = c .before .before in
+    omega (arith, c .groups .ensures .0, groups-fit (start .args .image .now) (start .pre .0))
+
+intersection-requires : tie.Need-intersection-requires Inv-loop μ-loop
+intersection-requires c κs = search needs
 
 loop-holds : tie.Need-loop-holds Inv-loop μ-loop
-loop-holds c = (omega arith, c .none .ensures ∙ sym (collected-none _ _))
+loop-holds c =
+    let s = placesOf (c .before .before .before .before .args .s) in
+    let count = c .before .before .groups .ensures .0 in
+    let is = groups-of _ s _ _ _ count (c .before .all-below .ensures) (c .intersection .ensures) in
+    (omega arith, (sorted-start _ s _ is, below-none _))
 
-stored-requires : tie.Need-stored-requires Inv-loop μ-loop
-stored-requires c κs = omega arith
+climb-requires : tie.Need-climb-requires Inv-loop μ-loop
+climb-requires c κs = search needs
 
-meets-requires : tie.Need-meets-requires Inv-loop μ-loop
-meets-requires c κs = search needs
+has-requires : tie.Need-has-requires Inv-loop μ-loop
+has-requires c κs = search needs
 
-with-requires : tie.Need-with-requires Inv-loop μ-loop
-with-requires c κs = omega arith
+mark-requires : tie.Need-mark-requires Inv-loop μ-loop
+mark-requires c κs = search needs
+
+mark-requires-2 : tie.Need-mark-requires-2 Inv-loop μ-loop
+mark-requires-2 c κs = search needs
 
 add-g : tie.Need-add-g Inv-loop μ-loop
 add-g c = omega arith
@@ -43,29 +63,34 @@ loop-less c = omega arith
 
 loop-again : tie.Need-loop-again Inv-loop μ-loop
 loop-again c =
-    let turn = c .before .before .before .before in
-    let start = turn .before .before .before .before in
-    let a = start .args in
-    let g = turn .loop .g in
-    let l : g < groups (a .image .now) = omega arith in
-    let held = start .pre .1 g l in
-    let is = c .before .before .stored .ensures ∙ held in
+    let joined = c .before in
+    let climbed = joined .before .before in
+    let turn = climbed .before .before in
+    let start = turn .before .before .before .before .before in
+    let l : turn .loop .g < groups (start .args .image .now) = omega arith in
+    let ends = start .pre .1 .1 in
     let inv = turn .loop .inv .1 in
-    let m = c .before .meets .ensures in (
-      omega arith,
-      ⊎-elim
-          (λ t.
-          ap placesOf (t .2) ∙ t .1 .ensures ∙ ap (λ (x : ℕ). union x (one g)) inv
-          ∙ sym (collected-put _ _ g _ is (sym m ∙ t .0 .taken)))
-          (λ f. ap placesOf (f .1) ∙ inv ∙ sym (collected-pass _ _ g _ is (sym m ∙ f .0 .left)))
-          (c .if1 .came),
-    )
+    let at = climbed .climb .ensures in
+    let told = sym (joined .before .has .ensures) in
+    let put =
+    ⊎-elim
+    (λ t.
+    sorted-put _ ends _ _ _ _ _ (inv .0) l at _ (told ∙ t .0 .taken) (ap placesOf (t .2) ∙ t .1 .ensures))
+    (λ f. sorted-pass _ ends _ _ _ _ _ (inv .0) l at _ (told ∙ f .0 .left) (ap placesOf (f .1)))
+    (joined .if1 .came)
+    in
+    (omega arith, rw (c .mark2 .ensures) (put, sorted-upto _ ends _ _ _ _ _ (inv .0) l at (inv .1)))
 
 returns : tie.Need-returns Inv-loop μ-loop
 returns c =
-    let a = c .before .before .before .before .before .args in
-    let e : c .before .loop .g ≡ groups (a .image .now) = omega arith in
-    c .before .loop .inv .1 ∙ ap (collected (a .image .now) (placesOf (a .s))) e ∙ collected-all _ _
+    let from = c .before .before in
+    let start = from .before .before .before .before in
+    let im = start .args .image .now in
+    let count = from .before .before .groups .ensures .0 in
+    let s = placesOf (start .args .s) in
+    let is = groups-of im s _ _ _ count (from .before .all-below .ensures) (from .intersection .ensures) in
+    let inv = c .before .loop .inv .1 in
+    sorted-end _ _ _ _ (inv .0) (λ p l. inv .1 p (omega arith)) ∙ ap (below im) is ∙ below-groups im s
 
 pub below-spec : {M : Type 1} → statement M
 below-spec =
@@ -74,11 +99,13 @@ below-spec =
     Inv-loop
     μ-loop
     groups-requires
-    none-requires
+    all-below-requires
+    intersection-requires
     loop-holds
-    stored-requires
-    meets-requires
-    with-requires
+    climb-requires
+    has-requires
+    mark-requires
+    mark-requires-2
     add-g
     loop-less
     loop-again

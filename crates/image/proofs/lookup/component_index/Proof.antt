@@ -1,5 +1,6 @@
 use native.Mathlib.Omega.{arith}
 use Rattle.header.specs.Layout.{components}
+use Rattle.header.proofs.Editions.{counted-groups}
 use Rattle.header.proofs.Inside.{header-inside}
 use Rattle.image.specs.Lookup.{componentIndex}
 use Rattle.image.proofs.Placed.{placed-index}
@@ -11,7 +12,7 @@ class-first-requires c κs = header-inside _ (c .before .pre .0 .fitted)
 
 add-result : tie.Need-add-result
 unfolding componentIndex components
-add-result c = let p = c .before .before .pre in omega (arith, placed-index _ _ _ (p .1), p .0 .levelsLimit, p .0 .compartmentsLimit, p .0 .groupsLimit)
+add-result c = let p = c .before .before .pre in omega (arith, placed-index _ _ _ (p .1), p .0 .levelsLimit, p .0 .compartmentsLimit, counted-groups _ (p .0))
 
 returns : tie.Need-returns
 unfolding componentIndex

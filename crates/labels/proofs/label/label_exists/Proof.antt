@@ -1,4 +1,6 @@
 use borrow.Author.Needs.{needs}
+use native.Mathlib.Omega.{arith}
+use Rattle.header.proofs.Editions.{counted-groups}
 use Rattle.header.proofs.Inside.{header-inside}
 use Rattle.labels.specs.Label.{labelExists}
 use Rattle.labels.proofs.label.label_exists.Statement.{statement}
@@ -25,7 +27,9 @@ groups-requires c κs =
     header-inside _ (first .before .before .before .pre .fitted)
 
 all-below-requires-2 : tie.Need-all-below-requires-2
-all-below-requires-2 c κs = search needs
+all-below-requires-2 c κs =
+    let first = c .before .before .before .before in
+    omega (arith, c .groups .ensures .0, counted-groups _ (first .before .before .before .pre))
 
 within-requires-2 : tie.Need-within-requires-2
 within-requires-2 c κs = search needs

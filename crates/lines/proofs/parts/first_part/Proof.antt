@@ -1,7 +1,7 @@
 use mathlib.Core.Path.{sym, _∙_}
 use borrow.Author.Needs.{needs}
 use Rattle.image.specs.Check.{IsAccepted}
-use Rattle.image.proofs.Accepted.{accepted-counted}
+use Rattle.image.proofs.Accepted.{accepted-counted, accepted-ends}
 use Rattle.lines.proofs.Rest.{first-accepted, first-refused}
 use Rattle.lines.proofs.parts.first_part.Statement.{statement}
 use Rattle.lines.proofs.parts.first_part.Tie as tie
@@ -30,7 +30,9 @@ refusal-line-requires : tie.Need-refusal-line-requires
 refusal-line-requires c κs = search needs
 
 returns : tie.Need-returns
-returns c = first-accepted _ _ (accepted (c .before .before)) (c .fill .ensures) _
+returns c =
+    let acc = accepted (c .before .before) in
+    first-accepted _ _ acc (c .fill .ensures, accepted-ends _ acc) _
 
 same-length : tie.Need-same-length
 same-length c = search needs

@@ -1,4 +1,5 @@
 use native.Mathlib.Omega.{arith}
+use Rattle.header.proofs.Editions.{counted-groups}
 use Rattle.header.proofs.Inside.{header-inside}
 use Rattle.image.proofs.Accepted.{accepted-counted}
 use Rattle.printing.proofs.Whole.{named-groups}
@@ -14,7 +15,7 @@ section-length-requires c κs = rw (c .groups .ensures .0) (named-groups _ (c .b
 returns : tie.Need-returns
 returns c = (
   rw (← c .before .groups .ensures .0) (c .section-length .ensures .0),
-  omega (arith, accepted-counted _ (c .before .before .before .pre) .groupsLimit),
+  omega (arith, counted-groups _ (accepted-counted _ (c .before .before .before .pre))),
 )
 
 pub groups-length-spec : {M : Type 1} → statement M

@@ -1,6 +1,6 @@
 use borrow.Author.Needs.{needs}
 use Rattle.records.specs.Rules.{firstBadRecord}
-use Rattle.header.proofs.Inside.{held-is}
+use Rattle.header.proofs.Inside.{held-is, held-run}
 use Rattle.records.proofs.blocks.first_bad_record.Statement.{statement}
 use Rattle.records.proofs.blocks.first_bad_record.Tie as tie
 
@@ -11,7 +11,7 @@ first-bad-requires : tie.Need-first-bad-requires
 first-bad-requires c κs =
     let p = c .before .before .pre in
     let h = held-is _ _ (p .1 .0) (p .1 .1) in
-    rw (c .block-contents .ensures) (p .0, (h .ordered, h .counted))
+    rw (c .block-contents .ensures) (p .0, (h .ordered, (h .counted, held-run _ _)))
 
 returns : tie.Need-returns
 unfolding firstBadRecord

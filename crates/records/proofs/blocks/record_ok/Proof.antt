@@ -6,19 +6,26 @@ enum-told : tie.Need-enum-told
 enum-told c = search needs
 
 component-ok-requires : tie.Need-component-ok-requires
-component-ok-requires c κs = (c .before .before .before .pre .0 .fitted, rw (c .enum-told .given .1) at (c .before .before .before .pre .1))
+component-ok-requires c κs =
+    let p = c .before .before .before .pre in
+    (p .0 .fitted, rw (c .enum-told .given .1) at (p .1 .1 .1 .0))
 
 enum-told-2 : tie.Need-enum-told-2
 enum-told-2 c = search needs
 
 label-ok-requires : tie.Need-label-ok-requires
-label-ok-requires c κs = (c .before .before .before .pre .0, rw (c .enum-told2 .given .1) at (c .before .before .before .pre .1))
+label-ok-requires c κs =
+    let p = c .before .before .before .pre in
+    let label = c .enum-told2 .given .1 in
+    (p .0, (p .1 .0, (rw label at (p .1 .1 .0), (rw label at (p .1 .1 .1 .0), p .1 .1 .1 .1))))
 
 enum-told-3 : tie.Need-enum-told-3
 enum-told-3 c = search needs
 
 user-ok-requires : tie.Need-user-ok-requires
-user-ok-requires c κs = (c .before .before .before .pre .0, rw (c .enum-told3 .given .1) at (c .before .before .before .pre .1))
+user-ok-requires c κs =
+    let p = c .before .before .before .pre in
+    (p .0, rw (c .enum-told3 .given .1) at (p .1 .1 .1 .0))
 
 returns : tie.Need-returns
 returns c = rw (c .before .enum-told .given .1) (c .component-ok .ensures)

@@ -1,7 +1,7 @@
-use borrow.Author.Needs.{needs}
 use Rattle.records.specs.Rules.{ruleOf, componentRule}
 use Rattle.header.specs.declared.layout.Kind.the-variants.{Component}
 use Rattle.header.proofs.Inside.{header-inside, record-of}
+use borrow.Author.Needs.{needs}
 use Rattle.records.proofs.components.component_ok.Statement.{statement}
 use Rattle.records.proofs.components.component_ok.Tie as tie
 
@@ -11,8 +11,11 @@ record-part-requires c κs = search needs
 class-at-requires : tie.Need-class-at-requires
 class-at-requires c κs = header-inside _ (c .before .before .pre .0)
 
+edition-of-requires : tie.Need-edition-of-requires
+edition-of-requires c κs = header-inside _ (c .before .before .before .pre .0)
+
 groups-requires : tie.Need-groups-requires
-groups-requires c κs = header-inside _ (c .before .before .before .pre .0)
+groups-requires c κs = header-inside _ (c .before .before .before .before .pre .0)
 
 shape-ok-requires : tie.Need-shape-ok-requires
 shape-ok-requires c κs = search needs
@@ -26,15 +29,18 @@ new-name-ok-requires c κs = search needs
 returns : tie.Need-returns
 unfolding ruleOf componentRule
 returns c =
-    let listed = c .before .before .before .before .before in
+    let shaped = c .before .before in
+    let asked = shaped .before .before in
+    let listed = asked .before .before in
     let start = listed .before .before in
     rw (
       record-of (start .args .image .now) Component (start .args .i) (start .pre .1),
-      c .before .before .shape-ok .ensures,
+      shaped .shape-ok .ensures,
       c .before .numeric-ok .ensures,
       c .new-name-ok .ensures,
-      c .before .before .before .before .class-at .ensures,
-      c .before .before .before .groups .ensures .0,
+      asked .before .class-at .ensures,
+      asked .edition-of .ensures,
+      shaped .before .groups .ensures .0,
       listed .record-part .ensures .0,
     )
 
@@ -44,6 +50,7 @@ component-ok-spec =
     (tie.spec
     record-part-requires
     class-at-requires
+    edition-of-requires
     groups-requires
     shape-ok-requires
     numeric-ok-requires

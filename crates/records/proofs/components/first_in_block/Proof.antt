@@ -9,8 +9,8 @@ use Rattle.fields.specs.Names.{sameName}
 use Rattle.fields.specs.Scan.{firstBad}
 use Rattle.fields.proofs.Scan.{loop-bad, loop-good, loop-end}
 use Rattle.header.specs.declared.layout.Kind.the-variants.{Component}
-use Rattle.header.specs.Layout.{recordSize, shapeOf, recordOffset, recordAt}
-use Rattle.header.proofs.Inside.{record-inside, one-block}
+use Rattle.header.specs.Layout.{editionOf, recordSize, shapeOf, recordOffset, recordAt}
+use Rattle.header.proofs.Inside.{header-inside, record-inside, one-block}
 use Rattle.records.specs.Fields.{componentName}
 use Rattle.records.specs.Rules.{otherName, othersNamed}
 use Rattle.records.proofs.components.first_in_block.Statement.{statement}
@@ -18,17 +18,20 @@ use Rattle.records.proofs.components.first_in_block.Tie as tie
 
 abbrev Inv-loop : tie.InvT-loop
 Inv-loop image first from to name size at₀ j₀ at j =
-    (from ≤ j) × ((j ≤ to) × ((at ≡ first + recordSize Component * (j - from))
+    (from ≤ j) × ((j ≤ to) × ((at ≡ first + recordSize (editionOf image) Component * (j - from))
     × (firstBad (othersNamed image name) (to - j) j ≡ firstBad (othersNamed image name) (to - from) from)))
 
 abbrev μ-loop : tie.MeasureT-loop
 μ-loop image first from to name size at₀ j₀ at j = to - j
 
 -- the part that code takes is the record
-part-is : (im name : List ℕ) (at size j : ℕ) → at ≡ recordOffset (shapeOf im Component) j → size ≡ recordSize Component
+part-is : (im name : List ℕ) (at size j : ℕ) → at ≡ recordOffset (shapeOf im Component) j → size ≡ recordSize (editionOf im) Component
     → sameName (componentName (take (at + size - at) (drop at im))) name ≡ sameName (componentName (recordAt im Component j)) name
 unfolding recordAt
 part-is im name at size j e s = rw (e, s, add-sub-cancel-left)
+
+edition-of-requires : tie.Need-edition-of-requires Inv-loop μ-loop
+edition-of-requires c κs = header-inside _ (c .before .before .pre .0)
 
 size-requires : tie.Need-size-requires Inv-loop μ-loop
 size-requires c κs = search needs
@@ -39,7 +42,7 @@ loop-holds c = (omega arith, (omega arith, (omega arith, refl)))
 add-is-named : tie.Need-add-is-named Inv-loop μ-loop
 add-is-named c =
     let l = c .before .loop in
-    let start = c .before .before .before .before .before in
+    let start = c .before .before .before .before .before .before in
     let a = start .args in
     let e = one-block _ Component (a .first) (a .from) (a .to) (l .j) (start .pre .1 .1 .1) (l .inv .0) (c .loop-test .taken) in
     omega (arith, record-inside _ (start .pre .0) Component (l .j) (omega arith))
@@ -53,7 +56,7 @@ part-is-named-start c = search needs
 part-is-named-end : tie.Need-part-is-named-end Inv-loop μ-loop
 part-is-named-end c =
     let l = c .before .loop in
-    let start = c .before .before .before .before .before in
+    let start = c .before .before .before .before .before .before in
     let a = start .args in
     let e = one-block _ Component (a .first) (a .from) (a .to) (l .j) (start .pre .1 .1 .1) (l .inv .0) (c .loop-test .taken) in
     omega (arith, record-inside _ (start .pre .0) Component (l .j) (omega arith))
@@ -62,7 +65,7 @@ is-named-requires : tie.Need-is-named-requires Inv-loop μ-loop
 is-named-requires c κs =
     let inside = c .before in
     let l = inside .before .loop in
-    let start = inside .before .before .before .before .before in
+    let start = inside .before .before .before .before .before .before in
     let a = start .args in
     let e = one-block _ Component (a .first) (a .from) (a .to) (l .j) (start .pre .1 .1 .1) (l .inv .0) (inside .loop-test .taken) in
     simp (length-take, length-drop) (omega (arith, record-inside _ (start .pre .0) Component (l .j) (omega arith)))
@@ -73,7 +76,7 @@ returns c =
     let inside = c .before .before .before in
     let l = inside .before .loop in
     let sized = inside .before .before in
-    let start = sized .before .before .before in
+    let start = sized .before .before .before .before in
     let a = start .args in
     let e = one-block _ Component (a .first) (a .from) (a .to) (l .j) (start .pre .1 .1 .1) (l .inv .0) (inside .loop-test .taken) in
     let q = c .before .is-named .ensures ∙ part-is (a .image .now) (a .name .now) (l .at) _ (l .j) (l .inv .1 .1 .0 ∙ e) (sized .size .ensures) in
@@ -83,7 +86,7 @@ add-at : tie.Need-add-at Inv-loop μ-loop
 add-at c =
     let inside = c .before .before .before in
     let l = inside .before .loop in
-    let start = inside .before .before .before .before .before in
+    let start = inside .before .before .before .before .before .before in
     let a = start .args in
     let e = one-block _ Component (a .first) (a .from) (a .to) (l .j) (start .pre .1 .1 .1) (l .inv .0) (inside .loop-test .taken) in
     omega (arith, record-inside _ (start .pre .0) Component (l .j) (omega arith))
@@ -100,7 +103,7 @@ loop-again c =
     let inside = c .before .before .before in
     let l = inside .before .loop in
     let sized = inside .before .before in
-    let start = sized .before .before .before in
+    let start = sized .before .before .before .before in
     let a = start .args in
     let e = one-block _ Component (a .first) (a .from) (a .to) (l .j) (start .pre .1 .1 .1) (l .inv .0) (inside .loop-test .taken) in
     let q = c .before .is-named .ensures ∙ part-is (a .image .now) (a .name .now) (l .at) _ (l .j) (l .inv .1 .1 .0 ∙ e) (sized .size .ensures) in
@@ -115,6 +118,7 @@ first-in-block-spec =
     (tie.spec
     Inv-loop
     μ-loop
+    edition-of-requires
     size-requires
     loop-holds
     add-is-named

@@ -1,9 +1,13 @@
 use native.Mathlib.Omega.{arith}
-use borrow.Author.Needs.{needs}
 use Rattle.fields.proofs.Laws.{rest-taken}
 use Rattle.records.specs.Rules.{componentShape}
+use Rattle.records.proofs.Rooms.{component-room}
+use borrow.Author.Needs.{needs}
 use Rattle.records.proofs.components.shape_ok.Statement.{statement}
 use Rattle.records.proofs.components.shape_ok.Tie as tie
+
+by-edition-requires : tie.Need-by-edition-requires
+by-edition-requires c κs = search needs
 
 shared-slice-read-result : tie.Need-shared-slice-read-result
 shared-slice-read-result c = search needs
@@ -23,20 +27,21 @@ name-ok-requires c κs = search needs
 number2-requires : tie.Need-number2-requires
 number2-requires c κs = search needs
 
-shared-slice-read-parent-ok : tie.Need-shared-slice-read-parent-ok
-shared-slice-read-parent-ok c = search needs
-
-cast-parent-ok : tie.Need-cast-parent-ok
-cast-parent-ok c = omega (arith, c .shared-slice-known3 .given 34)
+parent-in-requires : tie.Need-parent-in-requires
+parent-in-requires c κs = search needs
 
 parent-ok-requires : tie.Need-parent-ok-requires
 parent-ok-requires c κs = search needs
 
 sub-all-zero : tie.Need-sub-all-zero
-sub-all-zero c = search needs
+sub-all-zero c =
+    let ended = c .before .before .before .before .before .before in
+    omega (arith, ended .by-edition .ensures, component-room (ended .before .before .args .edition))
 
 part-all-zero-start : tie.Need-part-all-zero-start
-part-all-zero-start c = search needs
+part-all-zero-start c =
+    let ended = c .before .before .before .before .before .before in
+    omega (arith, ended .by-edition .ensures, component-room (ended .before .before .args .edition))
 
 part-all-zero-end : tie.Need-part-all-zero-end
 part-all-zero-end c = search needs
@@ -47,26 +52,32 @@ all-zero-requires c κs = search needs
 returns : tie.Need-returns
 unfolding componentShape
 returns c =
+    let parent = c .before .before in
+    let numbered = parent .before .before in
+    let ended = numbered .before .before .before .before in
+    let start = ended .before .before in
     rw (
-      c .before .before .before .before .before .name-ok .ensures,
-      c .before .before .before .before .number2 .ensures .0,
-      c .before .before .parent-ok .ensures,
+      numbered .before .name-ok .ensures,
+      numbered .number2 .ensures .0,
+      parent .parent-ok .ensures,
+      parent .before .parent-in .ensures .0,
       c .all-zero .ensures,
-      rest-taken,
+      rest-taken (start .args .rec .now) (ended .by-edition .result),
+      ended .by-edition .ensures,
     )
 
 pub shape-ok-spec : {M : Type 1} → statement M
 shape-ok-spec =
     tie.close
     (tie.spec
+    by-edition-requires
     shared-slice-read-result
     sub-name-ok
     part-name-ok-start
     part-name-ok-end
     name-ok-requires
     number2-requires
-    shared-slice-read-parent-ok
-    cast-parent-ok
+    parent-in-requires
     parent-ok-requires
     sub-all-zero
     part-all-zero-start

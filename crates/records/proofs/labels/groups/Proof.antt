@@ -1,4 +1,7 @@
-use mathlib.Core.Path.{_∙_}
+use native.Mathlib.Omega.{arith}
+use Rattle.header.proofs.Inside.{header-inside}
+use Rattle.records.proofs.Rooms.{label-room}
+use Rattle.header.specs.Layout.{editionOf}
 use borrow.Author.Needs.{needs}
 use Rattle.records.proofs.labels.groups.Statement.{statement}
 use Rattle.records.proofs.labels.groups.Tie as tie
@@ -6,14 +9,18 @@ use Rattle.records.proofs.labels.groups.Tie as tie
 record-part-requires : tie.Need-record-part-requires
 record-part-requires c κs = search needs
 
-number8-requires : tie.Need-number8-requires
-number8-requires c κs = search needs
+edition-of-requires : tie.Need-edition-of-requires
+edition-of-requires c κs = header-inside _ (c .before .before .pre .0 .fitted)
 
-of-word-requires : tie.Need-of-word-requires
-of-word-requires c κs = search needs
+group-set-requires : tie.Need-group-set-requires
+group-set-requires c κs =
+    let part = c .before in
+    let start = part .before .before in
+    rw (c .edition-of .ensures) (omega (arith, part .record-part .ensures .1 .0, label-room (editionOf (start .args .image .now))))
 
 returns : tie.Need-returns
-returns c = rw (← c .before .before .record-part .ensures .0) (c .of-word .ensures ∙ c .before .number8 .ensures)
+returns c = rw (← c .before .before .record-part .ensures .0, ← c .before .edition-of .ensures) (c .group-set .ensures)
 
 pub groups-spec : {M : Type 1} → statement M
-groups-spec = tie.close (tie.spec record-part-requires number8-requires of-word-requires returns)
+groups-spec =
+    tie.close (tie.spec record-part-requires edition-of-requires group-set-requires returns)

@@ -1,15 +1,16 @@
+use Rattle.header.proofs.Inside.{header-inside}
 use borrow.Author.Needs.{needs}
 use Rattle.records.proofs.labels.tag.Statement.{statement}
 use Rattle.records.proofs.labels.tag.Tie as tie
 
-record-part-requires : tie.Need-record-part-requires
-record-part-requires c κs = search needs
+shape-of-requires : tie.Need-shape-of-requires
+shape-of-requires c κs = header-inside _ (c .before .pre .0 .fitted)
 
-number4-requires : tie.Need-number4-requires
-number4-requires c κs = search needs
+tag-at-requires : tie.Need-tag-at-requires
+tag-at-requires c κs = search needs
 
 returns : tie.Need-returns
-returns c = rw (← c .before .record-part .ensures .0) (c .number4 .ensures)
+returns c = search needs
 
 pub tag-spec : {M : Type 1} → statement M
-tag-spec = tie.close (tie.spec record-part-requires number4-requires returns)
+tag-spec = tie.close (tie.spec shape-of-requires tag-at-requires returns)

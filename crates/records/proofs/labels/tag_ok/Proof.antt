@@ -1,11 +1,11 @@
 use Prim.Native.Nat.{_-_, _<_}
 use native.Mathlib.Omega.{arith}
-use borrow.Author.Needs.{needs}
 use borrow.Author.Tests.{eq-eqb, ne-eqb}
 use Rattle.header.specs.declared.layout.Kind.the-variants.{Label}
 use Rattle.header.specs.Layout.{countOf}
 use Rattle.header.proofs.Inside.{record-of}
 use Rattle.records.specs.Rules.{tagRule}
+use borrow.Author.Needs.{needs}
 use Rattle.records.proofs.labels.tag_ok.Statement.{statement}
 use Rattle.records.proofs.labels.tag_ok.Tie as tie
 
@@ -13,24 +13,21 @@ returns : tie.Need-returns
 unfolding tagRule
 returns c = rw (eq-eqb _ _ (c .if1 .taken))
 
-sub-tag : tie.Need-sub-tag
-sub-tag c = search needs
+sub-tag-at : tie.Need-sub-tag-at
+sub-tag-at c = search needs
 
-tag-requires : tie.Need-tag-requires
-tag-requires c κs = search needs
-
-tag-requires-2 : tie.Need-tag-requires-2
-tag-requires-2 c κs = search needs
+tag-at-requires : tie.Need-tag-at-requires
+tag-at-requires c κs = search needs
 
 returns-2 : tie.Need-returns-2
 unfolding tagRule
 returns-2 c =
-    let start = c .before .before .before .before in
+    let start = c .before .before .before in
     let im = start .args .image .now in
     let k = start .args .k in
     let before : k - 1 < countOf im Label = omega arith in
     let here : k < countOf im Label = omega arith in
-    rw (ne-eqb _ _ (c .before .before .if1 .left), record-of im Label (k - 1) before, record-of im Label k here, c .before .tag .ensures, c .tag2 .ensures)
+    rw (ne-eqb _ _ (c .before .if1 .left), record-of im Label (k - 1) before, record-of im Label k here, c .tag-at .ensures, start .pre .1 .1 .1)
 
 pub tag-ok-spec : {M : Type 1} → statement M
-tag-ok-spec = tie.close (tie.spec returns sub-tag tag-requires tag-requires-2 returns-2)
+tag-ok-spec = tie.close (tie.spec returns sub-tag-at tag-at-requires returns-2)

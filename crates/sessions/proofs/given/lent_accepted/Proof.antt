@@ -2,7 +2,7 @@ use Prim.Native.Nat.{_≤_, _<_}
 use native.Mathlib.Omega.{arith}
 use Rattle.header.specs.Layout.{users}
 use Rattle.header.proofs.Inside.{header-inside}
-use Rattle.image.proofs.Accepted.{accepted-counted}
+use Rattle.image.proofs.Accepted.{accepted-counted, accepted-ends}
 use Rattle.sessions.proofs.Accepting.{user-outside, label-refused, row-refused, row-accepted}
 use borrow.Author.Needs.{needs}
 use Rattle.sessions.proofs.given.lent_accepted.Statement.{statement}
@@ -28,14 +28,16 @@ rights-at-requires : tie.Need-rights-at-requires
 rights-at-requires c κs =
     let tested = c .before .before .before in
     let filled = tested .before .before .before in
-    (accepted-counted _ (filled .before .before .before .pre), (filled .fill .ensures, omega arith))
+    let acc = filled .before .before .before .pre in
+    (accepted-counted _ acc, ((filled .fill .ensures, accepted-ends _ acc), omega arith))
 
 session-label-answer-requires : tie.Need-session-label-answer-requires
 session-label-answer-requires c κs =
     let found = c .before in
     let tested = found .before .before .before .before in
     let filled = tested .before .before .before in
-    ((accepted-counted _ (filled .before .before .before .pre), (filled .fill .ensures, omega arith)), found .rights-at .ensures)
+    let acc = filled .before .before .before .pre in
+    ((accepted-counted _ acc, ((filled .fill .ensures, accepted-ends _ acc), omega arith)), found .rights-at .ensures)
 
 enum-told : tie.Need-enum-told
 enum-told c = search needs
@@ -87,7 +89,7 @@ returns-4 c =
     let here : start .args .session .user < users (start .args .image .now) = omega arith in (
       row-accepted _ _ (start .pre) here _ (asked .session-label-answer .ensures) (accepted .enum-told .given .1)
           _ (found .rights-at .ensures) _ (rowAsked .row-label-answer .ensures) (c .enum-told3 .given .1),
-      (filled .fill .ensures, found .rights-at .ensures),
+      ((filled .fill .ensures, accepted-ends _ (start .pre)), found .rights-at .ensures),
     )
 
 pub lent-accepted-spec : {M : Type 1} → statement M

@@ -1,5 +1,7 @@
 use Rattle.sessions.specs.Opening.{defaultLabel, defaultRowLabel, defaultSession}
+use native.Mathlib.Omega.{arith}
 use borrow.Author.Needs.{needs}
+use Rattle.header.proofs.Editions.{counted-users}
 use Rattle.sessions.proofs.opening.default_session.Statement.{statement}
 use Rattle.sessions.proofs.opening.default_session.Tie as tie
 
@@ -13,7 +15,10 @@ group-sets-requires : tie.Need-group-sets-requires
 group-sets-requires c κs = search needs
 
 cast-t10 : tie.Need-cast-t10
-cast-t10 c = search needs
+cast-t10 c =
+    let read = c .before .before in
+    let start = read .before .before .before .before in
+    omega (arith, start .pre .1, counted-users _ (start .pre .0))
 
 returns : tie.Need-returns
 unfolding defaultSession defaultLabel defaultRowLabel

@@ -1,10 +1,10 @@
--- `sets::groups::Groups::has` meets its contract, by what the word's test ensures.
--- Assumes nothing.
-use borrow.Author.Needs.{needs}
+-- `sets::groups::Groups::has` meets its contract: the place is looked up in its word. Assumes nothing.
+use Prim.Native.Nat.{ℕ, _%_}
 use mathlib.Core.Path.{sym, ap, _∙_}
-use Prim.Native.Nat.{ℕ}
 use Rattle.sets.specs.Sets.{has}
-use Rattle.sets.proofs.Places.{places-word}
+use Rattle.sets.specs.Groups.{placesOf}
+use Rattle.sets.proofs.Words.{has-wordOf, joined-first}
+use borrow.Author.Needs.{needs}
 use Rattle.sets.proofs.groups.Groups.has.Statement.{statement}
 use Rattle.sets.proofs.groups.Groups.has.Tie as tie
 
@@ -12,9 +12,19 @@ has-requires : tie.Need-has-requires
 has-requires c κs = search needs
 
 returns : tie.Need-returns
-returns c =
-    let a = c .before .args in
-    c .has .ensures ∙ sym (ap (λ (s : ℕ). has s (a .p)) (places-word (a .self) (search needs)))
+unfolding placesOf
+returns c = c .has .ensures ∙ sym (joined-first _ _ _ (c .before .if1 .taken))
+
+word-requires : tie.Need-word-requires
+word-requires c κs = search needs
+
+has-requires-2 : tie.Need-has-requires-2
+has-requires-2 c κs = search needs
+
+returns-2 : tie.Need-returns-2
+returns-2 c =
+    let a = c .before .before .before .args in
+    c .has2 .ensures ∙ ap (λ (w : ℕ). has w (a .p % 64)) (c .before .word .ensures) ∙ sym (has-wordOf (placesOf (a .self)) (a .p))
 
 pub has-spec : {M : Type 1} → statement M
-has-spec = tie.close (tie.spec has-requires returns)
+has-spec = tie.close (tie.spec has-requires returns word-requires has-requires-2 returns-2)

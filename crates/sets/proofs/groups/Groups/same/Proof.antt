@@ -1,4 +1,4 @@
--- `sets::groups::Groups::same` meets its contract: both sets are one word each. Assumes nothing.
+-- `sets::groups::Groups::same` meets its contract: the words are the same, one by one. Assumes nothing.
 use borrow.Author.Needs.{needs}
 use mathlib.Core.Path.{refl}
 use mathlib.Core.List.{zipWith}
@@ -10,7 +10,7 @@ use Rattle.sets.proofs.groups.Groups.same.Tie as tie
 returns : tie.Need-returns
 unfolding placesOf zipWith
 returns c =
-    let a = c .before .before .args in
+    let a = c .before .before .before .before .before .before .before .before .args in
     joined-eqb (wordsIn (a .self)) (wordsIn (a .other)) refl (search needs) (search needs)
 
 pub same-spec : {M : Type 1} → statement M

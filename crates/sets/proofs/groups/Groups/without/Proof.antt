@@ -1,20 +1,57 @@
--- `sets::groups::Groups::without` meets its contract, by what the word's operation ensures.
--- Assumes nothing.
-use borrow.Author.Needs.{needs}
+-- `sets::groups::Groups::without` meets its contract, by what the word's operation ensures. Assumes nothing.
+use Prim.Native.Nat.{_+_, _*_, _/_, _%_, _<_}
+use mathlib.Core.Path.{_≡_, _∙_}
 use native.Mathlib.Omega.{arith}
 use Rattle.sets.specs.Groups.{placesOf, wordsIn}
+use Rattle.sets.proofs.Words.{wordOf-kept}
 use Rattle.sets.proofs.EachWord.{joined-without}
+use borrow.Author.Needs.{needs}
 use Rattle.sets.proofs.groups.Groups.without.Statement.{statement}
 use Rattle.sets.proofs.groups.Groups.without.Tie as tie
 
 without-requires : tie.Need-without-requires
 without-requires c κs = search needs
 
+of-words-requires : tie.Need-of-words-requires
+of-words-requires c κs = search needs
+
 returns : tie.Need-returns
 unfolding placesOf
 returns c =
-    let a = c .before .args in
-    rw (c .without .ensures) (joined-without (wordsIn (a .self)) 0 (a .p) (a .p) (omega arith) (search needs) (omega arith))
+    let put = c .before in
+    let a = put .before .before .args in
+    c .of-words .ensures
+    ∙ rw (put .without .ensures) (joined-without (wordsIn (a .self)) 0 (a .p) (a .p) (omega arith) (put .before .if1 .taken) (omega arith))
+
+word-requires : tie.Need-word-requires
+word-requires c κs = search needs
+
+without-requires-2 : tie.Need-without-requires-2
+without-requires-2 c κs = search needs
+
+replaced-requires : tie.Need-replaced-requires
+replaced-requires c κs = search needs
+
+returns-2 : tie.Need-returns-2
+unfolding placesOf
+returns-2 c =
+    let put = c .before in
+    let start = put .before .before .before in
+    let a = start .args in
+    let k : a .p / 64 < 4 = omega (arith, start .pre) in
+    let place : a .p ≡ 64 * (a .p / 64) + a .p % 64 = omega arith in
+    let word = put .before .word .ensures ∙ wordOf-kept (wordsIn (a .self)) (a .p / 64) (search needs) in
+    c .replaced .ensures
+    ∙ rw (put .without2 .ensures, word) (joined-without (wordsIn (a .self)) (a .p / 64) (a .p % 64) (a .p) k (omega arith) place)
 
 pub without-spec : {M : Type 1} → statement M
-without-spec = tie.close (tie.spec without-requires returns)
+without-spec =
+    tie.close
+    (tie.spec
+    without-requires
+    of-words-requires
+    returns
+    word-requires
+    without-requires-2
+    replaced-requires
+    returns-2)

@@ -1,0 +1,142 @@
+use Prim.Native.Nat.{ℕ, _+_, _-_, _≤_, _<_, min}
+use mathlib.Core.Path.{_≡_}
+use mathlib.Core.List.{List, _++_}
+use native.Mathlib.Omega.{arith}
+use borrow.Author.Needs.{needs}
+use lib.ListN.{length}
+use Rattle.header.specs.declared.edition.Edition.the-variants.{Two}
+use Rattle.header.specs.declared.layout.Kind.{Kind}
+use Rattle.header.specs.Layout.{countOf, kindByte, capacityOf}
+use Rattle.writing.specs.Laid.{blockOf}
+use Rattle.header.proofs.Inside.{header-inside}
+use Rattle.buffers.proofs.Left.{Left, left-start, left-room, left-turn, left-end}
+use Rattle.moves.specs.Parts.{upRun, upKind}
+use Rattle.moves.proofs.Steps.{blocksLeft, last-place, kind-start, kind-step, kind-end, kind-long, block-long}
+use Rattle.moves.proofs.packing.move_kind.Statement.{statement}
+use Rattle.moves.proofs.packing.move_kind.Tie as tie
+
+abbrev Inv-loop : tie.InvT-loop
+Inv-loop image kind place buffer₀ at held count end₀ b₀ from₀ buffer end b from =
+    (from ≤ count) × ((b ≤ place + from) × Left buffer₀ at (upKind image kind place) buffer end (blocksLeft image kind from b))
+
+abbrev μ-loop : tie.MeasureT-loop
+μ-loop image kind place buffer₀ at held count end₀ b₀ from₀ buffer end b from = count - from
+
+-- from the block's last place back to where the records are counted, and from there to the entry
+abbrev counted-at : tie.After-lower Inv-loop μ-loop → tie.After-count Inv-loop μ-loop
+counted-at c = c .before .before .before
+
+abbrev start : tie.After-count Inv-loop μ-loop → tie.Start Inv-loop μ-loop
+start c = c .before .before .before .before
+
+-- a turn of the loop: the block's records, and the buffer's room for all blocks
+module _ (c : tie.After-lower Inv-loop μ-loop) where
+  abbrev a : tie.Start Inv-loop μ-loop
+  a = start (counted-at c)
+
+  abbrev im : List ℕ
+  im = a .args .image .now
+
+  abbrev kind : Kind
+  kind = a .args .kind
+
+  abbrev from : ℕ
+  from = c .before .before .loop .from
+
+  abbrev to : ℕ
+  to = c .lower .result
+
+  abbrev b : ℕ
+  b = c .before .before .loop .b
+
+  abbrev block : List ℕ
+  block = blockOf (kindByte kind) b (upRun im kind from to)
+
+  abbrev rest : List ℕ
+  rest = blocksLeft im kind to (b + 1)
+
+  upto : to ≡ min (countOf im kind) (from + capacityOf Two kind)
+  upto = last-place from (c .lower .ensures) (counted-at c .count .ensures .0) (counted-at c .before .capacity .ensures .0)
+
+  here : from < countOf im kind
+  here = omega (arith, c .before .loop-test .taken, counted-at c .count .ensures .0)
+
+  step : blocksLeft im kind from b ≡ block ++ rest
+  step = kind-step im kind from b to here upto
+
+  whole : a .args .at + length (upKind im kind (a .args .place)) ≤ length (a .args .buffer .now)
+  whole = rw (kind-long im kind (a .pre .0 .0) (a .pre .0 .1 .0) (a .args .place)) (a .pre .1)
+
+capacity-requires : tie.Need-capacity-requires Inv-loop μ-loop
+capacity-requires c κs = search needs
+
+count-requires : tie.Need-count-requires Inv-loop μ-loop
+count-requires c κs = header-inside _ (c .before .before .before .pre .0 .0)
+
+loop-holds : tie.Need-loop-holds Inv-loop μ-loop
+loop-holds c =
+    let start = c .before .before .before .before in
+    (omega arith, (omega arith, left-start _ _ _ _ (kind-start (start .args .image .now) (start .args .kind) (start .args .place))))
+
+add-lower : tie.Need-add-lower Inv-loop μ-loop
+add-lower c = omega arith
+
+lower-requires : tie.Need-lower-requires Inv-loop μ-loop
+lower-requires c κs = search needs
+
+move-block-requires : tie.Need-move-block-requires Inv-loop μ-loop
+move-block-requires c κs =
+    let l = c .before in
+    let pre = a l .pre in
+    let last = upto l in
+    let some = here l in
+    let low : from l ≤ to l = omega arith in
+    let high : to l ≤ countOf (im l) (kind l) = omega arith in
+    let few : to l ≤ from l + capacityOf Two (kind l) = omega arith in
+    let long = block-long (im l) (kind l) (pre .0 .0) (pre .0 .1 .0) (from l) (to l) low high few (b l) in
+    let fits = left-room _ _ _ _ _ _ (l .before .before .loop .inv .1 .1) (block l) (rest l) (step l) (whole l) in
+    ((pre .0 .0, (pre .0 .1 .0, high)), ((low, few), (omega arith, rw long at fits)))
+
+add-b : tie.Need-add-b Inv-loop μ-loop
+add-b c = omega arith
+
+loop-less : tie.Need-loop-less Inv-loop μ-loop
+loop-less c = omega arith
+
+loop-again : tie.Need-loop-again Inv-loop μ-loop
+loop-again c =
+    let written = c .before .before in
+    let l = written .before .before in
+    let last = upto l in
+    let some = here l in
+    let inv = l .before .before .loop .inv in
+    (omega arith, (omega arith, left-turn _ _ _ _ _ _ (inv .1 .1) (block l) (rest l) (step l) _ _ (whole l) (written .move-block .ensures)))
+
+same-length : tie.Need-same-length Inv-loop μ-loop
+same-length c = c .before .loop .inv .1 .1 .long
+
+returns : tie.Need-returns Inv-loop μ-loop
+returns c =
+    let counted = c .before .before in
+    let start = counted .before .before .before .before in
+    let inv = c .before .loop .inv in
+    left-end _ _ _ _ _ _ (inv .1 .1)
+    (kind-end (start .args .image .now) (start .args .kind) _ _ (omega (arith, counted .count .ensures .0)))
+
+pub move-kind-spec : {M : Type 1} → statement M
+move-kind-spec =
+    tie.close
+    (tie.spec
+    Inv-loop
+    μ-loop
+    capacity-requires
+    count-requires
+    loop-holds
+    add-lower
+    lower-requires
+    move-block-requires
+    add-b
+    loop-less
+    loop-again
+    same-length
+    returns)

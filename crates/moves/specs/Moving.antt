@@ -1,0 +1,54 @@
+-- The answer of `move_up`, and the lent buffer after it.
+use Prim.Native.Nat.{ℕ}
+use mathlib.Core.Bool.{Bool, true, false, cond, _&&_}
+use mathlib.Core.List.{List}
+use lib.Dec.{eqb, leb}
+use lib.ListN.{length}
+use Rattle.buffers.specs.Pasting.{atFront}
+use Rattle.refusals.specs.declared.Refusal.{Refusal}
+use Rattle.refusals.specs.declared.Refusal.the-variants.{ImageLayout, Room, MoveLimits}
+use Rattle.refusals.specs.declared.answers.Checked.{Checked}
+use Rattle.refusals.specs.declared.answers.Checked.the-variants.{Refused}
+use Rattle.refusals.specs.Answers.{onChecked}
+use Rattle.blocks.specs.Blocks.{lengthRule, blockCount, firstBadBlock}
+use Rattle.header.specs.declared.edition.Edition.{Edition}
+use Rattle.header.specs.declared.edition.Edition.the-variants.{One, Two}
+use Rattle.header.specs.Layout.{editionOf, users, labels}
+use Rattle.header.specs.Limits.{limitsIn}
+use Rattle.image.specs.Check.{checkOf}
+use Rattle.moves.specs.Moved.{movedUp}
+use Rattle.moves.specs.declared.answers.Moved.{Moved}
+use Rattle.moves.specs.declared.answers.Moved.the-variants as moved
+
+-- ---- calls that take an image of edition 1 only
+abbrev pub isTwo : Edition → Bool
+isTwo One = false
+isTwo Two = true
+
+-- an image of edition 2 that neither 1 nor 2 refuses
+unfoldable pub framedTwo : List ℕ → Bool
+framedTwo im = lengthRule im && isTwo (editionOf im) && eqb (firstBadBlock im) (blockCount im)
+
+-- 1 and 2; 31 for edition 2, as for a header fault; then 31 to 35
+unfoldable pub oldCheckOf : List ℕ → Checked
+oldCheckOf im = cond (framedTwo im) (Refused ImageLayout) (checkOf im)
+
+-- ---- the move
+-- edition 2 has room for the labels and the users
+unfoldable pub moveLimitsRule : List ℕ → Bool
+moveLimitsRule im = leb (labels im) (limitsIn Two .labels) && leb (users im) (limitsIn Two .users)
+
+-- 37, then 13; otherwise the image at the buffer's front, and its length; later bytes stay
+abbrev pub moveAccepted : List ℕ → List ℕ → Moved × List ℕ
+moveAccepted im buffer =
+    let new = movedUp im in
+    cond (moveLimitsRule im)
+    (cond (leb (length new) (length buffer)) (moved.Done (length new), atFront new buffer) (moved.Refused Room, buffer))
+    (moved.Refused MoveLimits, buffer)
+
+-- a refusal leaves the buffer as it was
+abbrev pub unmoved : List ℕ → Refusal → Moved × List ℕ
+unmoved buffer r = (moved.Refused r, buffer)
+
+unfoldable pub moveUpOf : List ℕ → List ℕ → Moved × List ℕ
+moveUpOf im buffer = onChecked (oldCheckOf im) (unmoved buffer) (moveAccepted im buffer)

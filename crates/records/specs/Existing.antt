@@ -1,0 +1,16 @@
+-- What the rules of records ask of the header, as the value that code works out once for a block.
+use Prim.Native.Nat.{ℕ}
+use mathlib.Core.Path.{_≡_}
+use mathlib.Core.List.{List}
+use Rattle.sets.specs.Sets.{allBelow}
+use Rattle.sets.specs.Groups.{placesOf}
+use Rattle.header.specs.Layout as layout
+use Rattle.header.specs.Layout.{editionOf}
+use Rattle.records.specs.declared.existing.Existing.{Existing}
+
+-- the edition, how many levels there are, and the compartments and groups that exist
+pub record Exist (im : List ℕ) (e : Existing) : Type 0 where
+  pub edition : e .edition ≡ editionOf im
+  pub levels : e .levels ≡ layout.levels im
+  pub compartments : e .compartments ≡ allBelow (layout.compartments im)
+  pub groups : placesOf (e .groups) ≡ allBelow (layout.groups im)

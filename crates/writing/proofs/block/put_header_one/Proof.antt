@@ -1,0 +1,51 @@
+use borrow.Author.Needs.{needs}
+use Rattle.writing.specs.Laid.{headerBlock}
+use Rattle.writing.proofs.block.put_header_one.Statement.{statement}
+use Rattle.writing.proofs.block.put_header_one.Tie as tie
+
+cast-group-byte : tie.Need-cast-group-byte
+cast-group-byte c = search needs
+
+low-requires : tie.Need-low-requires
+low-requires c κs = search needs
+
+high-requires : tie.Need-high-requires
+high-requires c κs = search needs
+
+low-requires-2 : tie.Need-low-requires-2
+low-requires-2 c κs = search needs
+
+high-requires-2 : tie.Need-high-requires-2
+high-requires-2 c κs = search needs
+
+slice-aggregate-put-block : tie.Need-slice-aggregate-put-block
+slice-aggregate-put-block c = search needs
+
+put-block-requires : tie.Need-put-block-requires
+put-block-requires c κs = search needs
+
+same-length : tie.Need-same-length
+same-length c = search needs
+
+returns : tie.Need-returns
+unfolding headerBlock
+returns c =
+    let written = c .before .before in
+    let labelled = written .before .before .before in
+    let counted = labelled .before .before in
+    rw (counted .before .low .ensures, counted .high .ensures, labelled .before .low2 .ensures, labelled .high2 .ensures)
+    at (written .put-block .ensures)
+
+pub put-header-one-spec : {M : Type 1} → statement M
+put-header-one-spec =
+    tie.close
+    (tie.spec
+    cast-group-byte
+    low-requires
+    high-requires
+    low-requires-2
+    high-requires-2
+    slice-aggregate-put-block
+    put-block-requires
+    same-length
+    returns)

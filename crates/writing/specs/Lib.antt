@@ -1,0 +1,2 @@
+-- Images laid out from records.
+pub mod Laid

@@ -1,0 +1,110 @@
+//! Moves up by seed (request R-11): images of both editions, whole and damaged, with buffers of all
+//! lengths.
+
+pub mod by_hand;
+mod tally;
+
+pub use tally::MoveTally;
+
+use crate::builder::{random, to_image, Edition, Policy, Sizes};
+use crate::cases::Case;
+use crate::compare::expected;
+use crate::damage::{Damage, Draft};
+use crate::ffi::Answer;
+use crate::model::move_up;
+use crate::rng::Rng;
+use crate::tables::numbers::{bytes, room};
+
+/// A move: what it is lent, and what the model gives.
+pub struct Move {
+    pub image: Vec<u8>,
+    pub buffer: Vec<u8>,
+    /// The length of the moved image, if there is one.
+    pub needed: Option<usize>,
+    pub answer: Answer,
+    /// The buffer after the move.
+    pub after: Vec<u8>,
+}
+
+impl Move {
+    pub fn new(seed: u64) -> Move {
+        let mut rng = Rng::new(seed);
+        let image = image(seed, &mut rng);
+        let needed = move_up(&image, usize::MAX).ok().map(|moved| moved.len());
+        let about = needed.unwrap_or_else(|| rng.range(0, 3_000));
+        let room = room(about, &mut rng);
+        let buffer = bytes(room, &mut rng);
+        let (answer, after) = by_model(&image, &buffer);
+        Move {
+            image,
+            buffer,
+            needed,
+            answer,
+            after,
+        }
+    }
+}
+
+/// The model's answer, and the buffer after it: later bytes stay, and all of them on a refusal.
+pub fn by_model(image: &[u8], buffer: &[u8]) -> (Answer, Vec<u8>) {
+    let mut after = buffer.to_vec();
+    let moved = move_up(image, buffer.len());
+    let answer = expected(moved.map(|moved| {
+        after[..moved.len()].copy_from_slice(&moved);
+        moved.len() as u64
+    }));
+    (answer, after)
+}
+
+/// Mostly one of edition 1 that is accepted; often damaged, of edition 2, or of sizes about which edition
+/// 2 has limits.
+fn image(seed: u64, rng: &mut Rng) -> Vec<u8> {
+    match rng.index(16) {
+        0..=2 => Case::new(Edition::One, seed).image,
+        3..=5 => Case::new(Edition::Two, seed).image,
+        6 => to_image(&policy(Edition::Two, rng)),
+        7 => to_image(&around_limits(rng)),
+        8 if rng.once_in(2) => damaged(around_limits(rng), rng),
+        _ => to_image(&policy(Edition::One, rng)),
+    }
+}
+
+/// A policy that edition 2 has room for.
+pub fn policy(edition: Edition, rng: &mut Rng) -> Policy {
+    let sizes = match rng.index(24) {
+        0 => Sizes::any(edition, rng),
+        1..=3 => Sizes::medium(edition, rng),
+        4..=11 => Sizes::several_blocks(edition, rng),
+        _ => Sizes::small(edition, rng),
+    };
+    let sizes = Sizes {
+        labels: sizes.labels.min(Edition::Two.most_labels()),
+        users: sizes.users.min(Edition::Two.most_users()),
+        ..sizes
+    };
+    random(sizes, rng)
+}
+
+/// A policy of edition 1 with as many labels or users as edition 2 may have, with one more, or with as
+/// many as there may be.
+pub fn around_limits(rng: &mut Rng) -> Policy {
+    let small = Sizes::small(Edition::One, rng);
+    let labels = [small.labels, 799, 800, 801, 1_680];
+    let users = [small.users, 31, 32, 33, 96];
+    let sizes = Sizes {
+        labels: *rng.pick(&labels),
+        users: *rng.pick(&users),
+        ..small
+    };
+    random(sizes, rng)
+}
+
+/// The image after damage that 31 to 35 refuse, if the policy has what such damage needs.
+fn damaged(policy: Policy, rng: &mut Rng) -> Vec<u8> {
+    let mut draft = Draft::new(policy);
+    let mut kinds: Vec<&Damage> = Damage::ALL.iter().filter(|it| it.number() > 30).collect();
+    rng.shuffle(&mut kinds);
+    let done = kinds.iter().find_map(|it| it.apply(&mut draft, rng));
+    done.expect("one of the kinds fits every policy");
+    draft.image
+}

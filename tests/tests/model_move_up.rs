@@ -1,0 +1,155 @@
+//! The model of the move up by itself, and what it is compared on.
+
+use brawnesk_tests::builder::{to_image, Edition};
+use brawnesk_tests::calls::Call;
+use brawnesk_tests::compare::CallTally;
+use brawnesk_tests::ffi::Answer;
+use brawnesk_tests::model::{accepted, check, may_read, may_write, move_up, name, open};
+use brawnesk_tests::model::{Image, Refusal, Session};
+use brawnesk_tests::moving::{around_limits, by_hand, by_model, policy, Move, MoveTally};
+use brawnesk_tests::rng::Rng;
+use brawnesk_tests::walk::{each_call, Step};
+
+#[test]
+fn answers_by_hand() {
+    by_hand::check(&|image, buffer| {
+        let (answer, after) = by_model(image, buffer);
+        buffer.copy_from_slice(&after);
+        answer
+    });
+}
+
+/// The moves for comparing go everywhere.
+#[test]
+fn moves_are_varied() {
+    let mut tally = MoveTally::default();
+    for seed in 0..6_000 {
+        tally.add(&Move::new(seed));
+    }
+    println!("{tally:?}");
+    tally.assert_varied(20);
+}
+
+/// The moved image is the one that the builder makes of the policy in edition 2.
+#[test]
+fn the_moved_image_is_the_builders() {
+    for seed in 0..1_000 {
+        let policy = policy(Edition::One, &mut Rng::new(seed));
+        let moved = move_up(&to_image(&policy), usize::MAX);
+        assert!(
+            moved.as_ref().is_ok_and(|it| check(it) == Ok(())),
+            "seed {seed}"
+        );
+        let wanted = to_image(&policy.in_edition(Edition::Two));
+        assert!(moved == Ok(wanted), "seed {seed}");
+    }
+}
+
+/// 800 labels and 32 users are moved, and one more of either is not.
+#[test]
+fn limits() {
+    let mut seen = [0; 2];
+    for seed in 0..200 {
+        let policy = around_limits(&mut Rng::new(seed));
+        let fits = policy.labels.len() <= 800 && policy.users.len() <= 32;
+        let moved = move_up(&to_image(&policy), usize::MAX);
+        match fits {
+            true => assert_eq!(check(&moved.expect("it fits")), Ok(())),
+            false => assert_eq!(moved, Err(Refusal::Size)),
+        }
+        seen[usize::from(fits)] += 1;
+    }
+    assert!(seen.iter().all(|&times| times >= 30), "{seen:?}");
+}
+
+/// The names of some components.
+fn names(image: &[u8]) -> Vec<Result<&[u8], Refusal>> {
+    let asked = (1..=3).flat_map(|class| [0, 1, 5, 63].map(|place| (class, place)));
+    let part = |(offset, length): (usize, usize)| &image[offset..offset + length];
+    asked
+        .map(|(class, place)| name(image, class, place).map(part))
+        .collect()
+}
+
+/// The verdicts on a tag under a session that is accepted.
+fn verdicts(image: &Image, session: &Session, tag: u32) -> [bool; 2] {
+    [may_read, may_write].map(|ask| ask(image, session, tag).expect("an opened session"))
+}
+
+/// Components keep their places and names, users open the same sessions, and these have the same verdicts
+/// on known tags.
+#[test]
+fn verdicts_stay() {
+    let mut seen = CallTally::default();
+    for seed in 0..300 {
+        let policy = policy(Edition::One, &mut Rng::new(seed));
+        let image = to_image(&policy);
+        let moved = move_up(&image, usize::MAX).expect("the policy is well-formed");
+        assert_eq!(names(&image), names(&moved), "seed {seed}");
+        let [before, after] = [&image, &moved].map(|it| accepted(it).expect("both are accepted"));
+        for user in &policy.users {
+            let opened = |image: &Image| open(image, user.name.as_bytes()).expect("a user");
+            let session = opened(&before);
+            assert_eq!(session, opened(&after), "seed {seed}: {}", user.name);
+            for label in &policy.labels {
+                let [one, two] = [&before, &after].map(|it| verdicts(it, &session, label.tag));
+                assert_eq!(one, two, "seed {seed}: {} on {}", user.name, label.tag);
+                seen.add("read", true, Answer::Done(one[0].into()));
+                seen.add("write", true, Answer::Done(one[1].into()));
+            }
+        }
+    }
+    println!("{seen:?}");
+    seen.assert_both("read");
+    seen.assert_both("write");
+}
+
+/// Whether a call has the same answer after a move. Longer texts are read then, and unknown tags hidden.
+fn stays(step: &Step) -> bool {
+    match &step.call {
+        Call::Open(_) => true,
+        Call::SetLabel(text) | Call::SetRowLabel(text) => text.len() <= 4_096,
+        Call::MayRead(_) | Call::MayWrite(_) => step.is_known,
+    }
+}
+
+/// An image, and what it is when moved; kept, since many calls are lent the same one.
+#[derive(Default)]
+struct Kept {
+    image: Vec<u8>,
+    moved: Option<Vec<u8>>,
+}
+
+impl Kept {
+    fn moved(&mut self, image: &[u8]) -> Option<&[u8]> {
+        if self.image != image {
+            self.image = image.to_vec();
+            self.moved = move_up(image, usize::MAX).ok();
+        }
+        self.moved.as_deref()
+    }
+}
+
+/// "A session (by places) is accepted for one image exactly if for the other, and then the verdicts are
+/// equal": calls of walks, also with broken sessions.
+#[test]
+fn calls_stay() {
+    let mut seen = CallTally::default();
+    let mut kept = Kept::default();
+    for seed in 0..200 {
+        each_call(Edition::One, seed, 60, |step| {
+            let Some(moved) = kept.moved(step.image).filter(|_| stays(step)) else {
+                return;
+            };
+            let mut session = step.lent;
+            let answer = step.call.by_model(&accepted(moved), &mut session);
+            let wanted = (step.answer, step.session);
+            assert_eq!((answer, session), wanted, "seed {seed}: {:?}", step.call);
+            seen.add(step.call.name(), step.call.is_verdict(), step.answer);
+        });
+    }
+    println!("{seen:?}");
+    seen.assert_least("set_label", &["done", "19", "8", "9", "10", "11"], 20);
+    seen.assert_least("may_read", &["yes", "no", "19"], 100);
+    seen.assert_least("may_write", &["yes", "no", "19"], 100);
+}
