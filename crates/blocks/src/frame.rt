@@ -2,6 +2,7 @@
 ghost use Prim.Native.Nat.{_+_, _*_, _%_, _<_, _≤_};
 ghost use mathlib.Core.Path.{_≡_};
 ghost use lib.ListN.{length};
+ghost use Rattle.fields.specs.Bytes.{byteAt};
 ghost use Rattle.blocks.specs.Blocks.{lengthRule, sumsOf, checkRule, placeRule, blockRule, firstBadBlock};
 use fields::numbers::number2;
 
@@ -19,12 +20,20 @@ fn wide(x: u8) -> u16
     x as u16
 }
 
-// Two bytes, one of each half of the 510, and how often they count; the product fits 17 bits.
-fn times(y: u16, w: u16) -> u32
-    requires { ⌜ (y ≤ 510) × (w ≤ 255) ⌝ }
-    ensures { λ r. ⌜ (r ≡ y * w) × (r ≤ 130050) ⌝ }
+// Bytes i and i + 255 count alike in the second sum: 255 times more is no part of the remainder.
+fn pair(block: &[u8], i: usize) -> u16
+    requires { ⌜ (i ≤ 255) × (length (now block) ≡ 512) ⌝ }
+    ensures { λ r. ⌜ (r ≡ byteAt (now (block .entry)) i + byteAt (now (block .entry)) (i + 255)) × (r ≤ 510) ⌝ }
 {
-    (y as u32) * (w as u32)
+    wide(block[i]) + wide(block[i + 255])
+}
+
+// Two bytes and how often they count; below 128 times the product fits 16 bits.
+fn times(y: u16, w: u16) -> u16
+    requires { ⌜ (y ≤ 510) × (w ≤ 127) ⌝ }
+    ensures { λ r. ⌜ (r ≡ y * w) × (r ≤ 64770) ⌝ }
+{
+    y * w
 }
 
 // The two sums of a block, each below 255.
@@ -33,22 +42,34 @@ pub struct Checksum {
     pub b: u32,
 }
 
-// The sums of 510 bytes stay below 2^32 without a remainder, so one remainder at the end serves. Byte i counts 510 - i times
-// in the second sum; 255 times is none, so both halves of the bytes count alike.
+// Pair i counts 255 - i times in the second sum: 127 - i and, where i is below 128, 128 more. All sums of the loop fit 16 bits,
+// the products as their high and low bytes, so it becomes vector code of eight lanes. Pair 255, bytes 255 and 510, counts 0
+// times; it makes both runs of the loop 128 pairs and is taken off the first sum.
 pub fn sums(block: &[u8]) -> Checksum
     requires { ⌜ length (now block) ≡ 512 ⌝ }
     ensures { λ r. ⌜ r ≡ sumsOf (now (block .entry)) ⌝ }
 {
-    let mut a: u32 = 0;
-    let mut b: u32 = 0;
+    let mut c: u16 = 0;
+    let mut d: u16 = 0;
+    let mut high: u16 = 0;
+    let mut low: u16 = 0;
+    let mut w: u16 = 128;
     let mut i = 0;
-    while i < 255 {
-        let y = wide(block[i]) + wide(block[i + 255]);
-        let w = (255 - i) as u16;
-        a += y as u32;
-        b += times(y, w);
+    while i < 128 {
+        w -= 1;
+        let y = pair(block, i);
+        let z = pair(block, i + 128);
+        let m = times(y, w);
+        let n = times(z, w);
+        c += y;
+        d += z;
+        high += m / 256 + n / 256;
+        low += m % 256 + n % 256;
         i += 1;
     }
+    let more = pair(block, 255) as u32;
+    let a = (c as u32) + (d as u32) - more;
+    let b = (high as u32) * 256 + (low as u32) + (c as u32) * 128;
     Checksum {
         a: a % 255,
         b: b % 255,

@@ -7,7 +7,7 @@ use Rattle.blocks.proofs.frame.times.Tie as tie
 
 mul-result : tie.Need-mul-result
 mul-result c =
-    let most : c .args .y * c .args .w ≤ 510 * 255 = mul-le-mul (c .pre .0) (c .pre .1) in
+    let most : c .args .y * c .args .w ≤ 510 * 127 = mul-le-mul (c .pre .0) (c .pre .1) in
     omega arith
 
 returns : tie.Need-returns

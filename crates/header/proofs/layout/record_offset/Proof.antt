@@ -1,6 +1,6 @@
-use borrow.Author.Needs.{needs}
 use native.Mathlib.Omega.{arith}
 use Rattle.header.proofs.Inside.{offset-straight}
+use borrow.Author.Needs.{needs}
 use Rattle.header.proofs.layout.record_offset.Statement.{statement}
 use Rattle.header.proofs.layout.record_offset.Tie as tie
 
@@ -30,21 +30,23 @@ add-result-2 c =
     let start = c .before .before .before in
     omega (arith, offset-straight (start .args .shape) (start .pre .0) (start .args .i))
 
-div-result : tie.Need-div-result
-div-result c = search needs
+quotient-requires : tie.Need-quotient-requires
+quotient-requires c κs = search needs
 
 mul-result-3 : tie.Need-mul-result-3
 mul-result-3 c =
     let start = c .before .before .before .before in
-    omega (arith, offset-straight (start .args .shape) (start .pre .0) (start .args .i))
+    rw (c .quotient .ensures) (omega (arith, offset-straight (start .args .shape) (start .pre .0) (start .args .i)))
 
 add-result-3 : tie.Need-add-result-3
 add-result-3 c =
     let start = c .before .before .before .before in
-    omega (arith, offset-straight (start .args .shape) (start .pre .0) (start .args .i))
+    rw (c .quotient .ensures) (omega (arith, offset-straight (start .args .shape) (start .pre .0) (start .args .i)))
 
 returns : tie.Need-returns
-returns c = let start = c .before .before .before .before in offset-straight (start .args .shape) (start .pre .0) (start .args .i)
+returns c =
+    let start = c .before .before .before .before in
+    rw (c .quotient .ensures) (offset-straight (start .args .shape) (start .pre .0) (start .args .i))
 
 pub record-offset-spec : {M : Type 1} → statement M
 record-offset-spec =
@@ -56,7 +58,7 @@ record-offset-spec =
     add-result
     mul-result-2
     add-result-2
-    div-result
+    quotient-requires
     mul-result-3
     add-result-3
     returns)
