@@ -1,20 +1,22 @@
--- The main theorems of the library, each stated in full over definitions of specs (and `EveryRule`, which says the image's rules in places, and
--- `withCompaccess`), and proved by citing where it is proved. A reader who wants to know what is claimed can begin here. Assumes nothing.
+-- The main theorems of the library, each stated in full over definitions of specs (and `EveryRule`, which says the image's rules in places,
+-- `withCompaccess`, and `MovedBy`, which says what a move keeps), and proved by citing where it is proved. A reader who wants to know what
+-- is claimed can begin here. Assumes nothing.
 use Prim.Native.Nat.{ℕ, _≤_, _<_}
 use mathlib.Core.Path.{_≡_, refl, sym, _∙_}
 use mathlib.Core.Bool.{true, false}
 use mathlib.Core.List.{List, map, flatten}
 use mathlib.Core.Logic.{_↔_, _⊎_}
 use lib.ListN.{length}
+use Rattle.buffers.specs.Pasting.{atFront}
 use Rattle.sets.specs.Sets.{has}
 use Rattle.header.specs.declared.layout.Kind.{Kind}
-use Rattle.header.specs.declared.edition.Edition.the-variants.{Two}
-use Rattle.header.specs.Layout.{editionOf, groups, labels}
+use Rattle.header.specs.declared.edition.Edition.the-variants.{One, Two}
+use Rattle.header.specs.Layout.{editionOf, groups, users, labels}
 use Rattle.hierarchy.specs.Below.{Above, below}
 use Rattle.hierarchy.proofs.Under.{below-true, below-above, above-below}
 use Rattle.refusals.specs.declared.answers.Checked.the-variants.{Accepted, Refused}
 use Rattle.refusals.specs.declared.answers.Verdict.the-variants.{Yes, No}
-use Rattle.refusals.specs.declared.Refusal.the-variants.{ImageLayout, ParentRing}
+use Rattle.refusals.specs.declared.Refusal.the-variants.{ImageLayout, ParentRing, MoveLimits}
 use Rattle.image.specs.declared.faults.Fault.{Fault}
 use Rattle.image.specs.declared.faults.Fault.the-variants.{Sound}
 use Rattle.image.specs.Faults.{keyOf, keyBefore, lowest, Among, faultsOf}
@@ -34,6 +36,7 @@ use Rattle.access.specs.Verdicts.{knownTag, mayRead, mayWrite, readableAtMaximu
 use Rattle.dominance.specs.TwoLabels.{dominatesOf}
 use Rattle.claims.specs.Reading.{NoPrivileges}
 use Rattle.claims.proofs.ReadsDominated.{reads-dominated}
+use Rattle.claims.proofs.Moves as moves
 use Rattle.image.specs.Lookup.{labelOfTag}
 use Rattle.image.specs.Search.{searchWithin, searchTag}
 use Rattle.image.proofs.Halves.{eleven-steps, ten-steps}
@@ -47,9 +50,9 @@ use Rattle.sessions.proofs.Existing.{session-labels-exist}
 use Rattle.sessions.proofs.Passing as passing
 use Rattle.sessions.proofs.Bounded as bounded
 use Rattle.moves.specs.declared.answers.Moved.the-variants as moved
-use Rattle.moves.specs.Moving.{oldCheckOf, moveUpOf}
+use Rattle.moves.specs.Moved.{movedUp}
+use Rattle.moves.specs.Moving.{moveUpOf}
 use Rattle.moves.proofs.KeptByMove.{MovedBy, unknown-unread, unknown-unwritten, moved-by-call}
-use Rattle.moves.proofs.OldAccepted.{framed-refused}
 use Rattle.encoding.specs.Sessions.{sessionBytes, Holds}
 use Rattle.encoding.proofs.ReadBack.{bytes-hold}
 use Rattle.abi.proofs.Widths.{lent-widths}
@@ -164,7 +167,11 @@ reads-exactly-if-dominates im s tag lent none known = (
   (λ e. reads-dominated im s tag lent none known ∙ e),
 )
 
--- In edition 2 tag 0 and every other tag that no label carries are denied to all sessions, whatever privileges their user holds.
+-- Tag 0 is a tag that no label of an accepted image carries.
+pub zero-unknown : (im : List ℕ) → IsAccepted im → knownTag im 0 ≡ false
+zero-unknown = moves.zero-unknown
+
+-- In edition 2 every tag that no label carries is denied to all sessions, whatever privileges their user holds.
 pub unknown-denied : (im : List ℕ) → editionOf im ≡ Two → (s : SessionMarks) → lentAnswer im s ≡ Accepted → (tag : ℕ) → knownTag im tag ≡ false
     → (mayReadOf im s tag ≡ No) × (mayWriteOf im s tag ≡ No)
 unfolding mayReadOf mayWriteOf
@@ -186,9 +193,19 @@ compaccess-adds im rights tag = (compaccess-reads rights im tag, compaccess-writ
 pub move-up-keeps : (im buffer after : List ℕ) (n : ℕ) → moveUpOf im buffer ≡ (moved.Done n, after) → MovedBy im buffer after n
 move-up-keeps = moved-by-call
 
+-- An accepted image of edition 1 is moved if edition 2 has room for its labels and users and the buffer for the new image, for which 65,536 bytes are
+-- always enough; if edition 2 has no room, that is 37, before any look at the buffer.
+pub move-up-done : (im buffer : List ℕ) → IsAccepted im → editionOf im ≡ One → labels im ≤ 800 → users im ≤ 32 → 65536 ≤ length buffer
+    → moveUpOf im buffer ≡ (moved.Done (length (movedUp im)), atFront (movedUp im) buffer)
+move-up-done = moves.done-if-few
+
+pub move-up-limited : (im buffer : List ℕ) → IsAccepted im → editionOf im ≡ One → (800 < labels im) ⊎ (32 < users im)
+    → moveUpOf im buffer ≡ (moved.Refused MoveLimits, buffer)
+move-up-limited = moves.limited-if-many
+
 -- An image of edition 2 that neither 1 nor 2 refuses is given 31, whatever else is wrong with it.
-pub moved-once : (im : List ℕ) → Framed im → editionOf im ≡ Two → oldCheckOf im ≡ Refused ImageLayout
-moved-once = framed-refused
+pub moved-once : (im buffer : List ℕ) → Framed im → editionOf im ≡ Two → moveUpOf im buffer ≡ (moved.Refused ImageLayout, buffer)
+moved-once = moves.framed-once
 
 -- ---- the sample co-operative: each of the 16 cases P1 to P16 gives what document 01 says
 pub sample-cases : (length proved ≡ 16) × (map asked proved ≡ map (λ (c : Case). c .expected) proved)
