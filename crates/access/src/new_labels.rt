@@ -12,6 +12,7 @@ ghost use Rattle.access.specs.Rights.{rightsOf, rightsAt, between};
 ghost use Rattle.access.specs.NewLabels.{sessionGroupsRule, rowGroupsRule, rowInside, sessionLabelAnswer, rowLabelAnswer};
 use crate::rights::View;
 use crate::rights::is_between;
+use header::layout;
 use hierarchy::table;
 use hierarchy::table::Table;
 use labels::label::Label;
@@ -61,7 +62,8 @@ fn groups_ok(image: &[u8], table: &Table, u: usize, set: Groups) -> bool
     ensures { λ r. ⌜ r ≡ sessionGroupsRule (now (image .entry)) (userRecord (now (image .entry)) u) (placesOf set) ⌝ }
 {
     let groups = users::group_sets(image, u);
-    set.within(table::below(image, table, groups.read))
+    let all = Groups::all_below(layout::groups(image));
+    table::lies_below(image, table, all, set, groups.read)
 }
 
 // May the user have the new session label beside that row label? The view is what the new label gives. Refusals: 8, 9, 10, 11.

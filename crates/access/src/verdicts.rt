@@ -10,13 +10,15 @@ ghost use Rattle.access.specs.Rights.{rightsOf};
 ghost use Rattle.access.specs.Verdicts.{readsAll, writesAll, holdsCompaccess, readLevelRule, readGroupsRule, readTests, readsLabel, writeSetsRule, writeTests, writesLabel, unknownRule, mayRead, mayWrite};
 use crate::rights::View;
 use crate::rights::is_between;
+use fields::numbers::number8;
 use header::edition::Edition;
 use header::edition::edition_of;
 use header::layout;
+use header::layout::Kind;
 use image::given::label_of_tag;
 use labels::group_test;
 use labels::label::Label;
-use records::labels as label_records;
+use records::group_sets::group_set;
 use sets::word;
 
 // Is READ or FULL held?
@@ -107,10 +109,11 @@ pub fn label_at(image: &[u8], k: usize) -> Label
     requires { ⌜ Counted (now image) × (k < labels (now image)) ⌝ }
     ensures { λ r. ⌜ marksOf r ≡ labelAt (now (image .entry)) k ⌝ }
 {
+    let rec = layout::record_part(image, Kind::Label, k);
     Label {
-        level: label_records::level(image, k),
-        compartments: label_records::compartments(image, k),
-        groups: label_records::groups(image, k),
+        level: rec[4],
+        compartments: number8(rec, 8),
+        groups: group_set(edition_of(image), rec, 16),
     }
 }
 

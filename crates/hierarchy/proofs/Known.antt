@@ -1,17 +1,17 @@
 -- Groups that lie below a set, as far as they are known: what a path from one more group tells, where all parents end.
 -- Assumes nothing.
 use Prim.Native.Nat.{ℕ, _+_, _^_, _≤_, _<_}
-use mathlib.Core.Path.{_≡_, refl, sym, ap, _∙_}
-use mathlib.Core.Bool.{Bool, true, false, _&&_, _||_, and-true, and-false, or-false, true≢false}
+use mathlib.Core.Path.{_≡_, refl, sym, ap, _∙_, subst}
+use mathlib.Core.Bool.{Bool, true, false, _&&_, _||_, and-true, and-false, or-true, or-false, true≢false}
 use mathlib.Core.List.{List}
 use mathlib.Core.Logic.{⊎-elim}
 use native.Mathlib.Omega.{arith}
 use borrow.Author.Count.{below-more}
-use borrow.Author.Tests.{ltb-true, ltb-false}
-use lib.Dec.{ltb}
+use borrow.Author.Tests.{ltb-true, ltb-false, eqb-true, eq-eqb}
+use lib.Dec.{ltb, eqb}
 use Rattle.fields.proofs.Both.{either, or-left}
-use Rattle.sets.specs.Sets.{has, allBelow, union, intersection}
-use Rattle.sets.proofs.Has.{has-ext, allBelow-has, union-has, intersection-both}
+use Rattle.sets.specs.Sets.{has, one, allBelow, union, intersection}
+use Rattle.sets.proofs.Has.{has-ext, one-has, allBelow-has, union-has, intersection-both}
 use Rattle.sets.proofs.Bounds.{below-has}
 use Rattle.header.specs.Layout.{groups}
 use Rattle.hierarchy.specs.Below.{parent, endsRule, below, AllEnd}
@@ -181,6 +181,72 @@ module _ (im : List ℕ) (all : AllEnd im) (s r known g at : ℕ) (f : Sorted im
 
   pub sorted-pass : (new : ℕ) → has r at ≡ false → new ≡ r → Sorted im s new (union known (passed im known (groups im) g))
   sorted-pass new h e = sorted-more new (λ p. rw (e, h) (sym (or-false (has r p))))
+
+-- where the parent is known, so is g, and no path is needed
+module _ (im : List ℕ) (all : AllEnd im) (s r known g p : ℕ) (f : Sorted im s r known)
+    (group : g < groups im) (is : p ≡ parent im g) (stop : stops (groups im) known p ≡ true) where
+  parent-told : has r p ≡ has (below im s) p
+  parent-told = by (ltb p (groups im)) refl
+    where
+      by : (t : Bool) → ltb p (groups im) ≡ t → has r p ≡ has (below im s) p
+      by true e = f .sound p (sym (stops-known (groups im) known p (ltb-true p (groups im) e)) ∙ stop)
+      by false e = sorted-outside im s r known f p (ltb-false p (groups im) e)
+
+  as-parent : has s g ≡ false → has (below im s) g ≡ has r p
+  as-parent off = below-parent im all s g group off ∙ ap (has (below im s)) (sym is) ∙ sym parent-told
+
+  under-parent : has r p ≡ true → has (below im s) g ≡ true
+  under-parent h = by (has s g) refl
+    where
+      by : (t : Bool) → has s g ≡ t → has (below im s) g ≡ true
+      by true e = below-place im s g group e
+      by false e = as-parent e ∙ h
+
+  one-more : (q : ℕ) → has (union known (one g)) q ≡ (has known q || eqb g q)
+  one-more q = union-has known (one g) q ∙ ap (λ (t : Bool). has known q || t) (one-has g q)
+
+  -- what r and g's parent tell of g
+  here-told : (has r g || has r p) ≡ has (below im s) g
+  here-told = by (has known g) (has r p) refl refl
+    where
+      lacks : (t : Bool) → has s g ≡ t → has known g ≡ false → t ≡ false
+      lacks true h k = absurd (true≢false (sym (f .holds g group h) ∙ k))
+      lacks false h k = refl
+
+      by : (k t : Bool) → has known g ≡ k → has r p ≡ t → (has r g || t) ≡ has (below im s) g
+      by k true a b = or-true (has r g) ∙ sym (under-parent b)
+      by true false a b = or-false (has r g) ∙ f .sound g a
+      by false false a b = rw (f .inside g a) (sym b ∙ sym (as-parent (lacks (has s g) refl a)))
+
+  sorted-one : (new : ℕ) → ((q : ℕ) → has new q ≡ (has r q || has r p && eqb g q)) → Sorted im s new (union known (one g))
+  sorted-one new e = record {
+    sound = λ q h. at-known q (eqb g q) refl (sym (one-more q) ∙ h);
+    inside = λ q h. at-unknown q (has known q) (eqb g q) refl refl (sym (one-more q) ∙ h);
+    group = λ q h. ⊎-elim (f .group q) (λ k. omega (arith, eqb-true g q k, group)) (either (has known q) (eqb g q) (sym (one-more q) ∙ h));
+    holds = λ q l h. one-more q ∙ or-left (has known q) (eqb g q) (f .holds q l h);
+  }
+    where
+      at-known : (q : ℕ) (t : Bool) → eqb g q ≡ t → (has known q || eqb g q) ≡ true → has new q ≡ has (below im s) q
+      at-known q true a h =
+          subst (λ (x : ℕ). has new x ≡ has (below im s) x) (eqb-true g q a)
+          (e g ∙ rw (eq-eqb g g refl, and-true (has r p)) here-told)
+      at-known q false a h = e q ∙ rw (a, and-false (has r p), or-false (has r q)) (f .sound q (sym (or-false (has known q)) ∙ rw a at h))
+
+      at-unknown : (q : ℕ) (k t : Bool) → has known q ≡ k → eqb g q ≡ t → (has known q || eqb g q) ≡ false → has new q ≡ false
+      at-unknown q true t a b h = absurd (true≢false (sym (rw a) ∙ h))
+      at-unknown q false true a b h = absurd (true≢false (sym (rw (a, b)) ∙ h))
+      at-unknown q false false a b h = e q ∙ rw (b, f .inside q a, and-false (has r p))
+
+  pub sorted-with : (new : ℕ) → has r p ≡ true → new ≡ union r (one g) → Sorted im s new (union known (one g))
+  sorted-with new h e = sorted-one new (λ q. rw (e, h) (union-has r (one g) q ∙ ap (λ (t : Bool). has r q || t) (one-has g q)))
+
+  pub sorted-without : (new : ℕ) → has r p ≡ false → new ≡ r → Sorted im s new (union known (one g))
+  sorted-without new h e = sorted-one new (λ q. rw (e, h) (sym (or-false (has r q))))
+
+  pub upto-with : ((q : ℕ) → q < g → has known q ≡ true) → (q : ℕ) → q < g + 1 → has (union known (one g)) q ≡ true
+  upto-with before =
+      below-more (λ (q : ℕ). has (union known (one g)) q ≡ true) g (λ q l. one-more q ∙ or-left (has known q) (eqb g q) (before q l))
+      (one-more g ∙ rw (eq-eqb g g refl) (or-true (has known g)))
 
 -- every group is known
 pub sorted-end : (im : List ℕ) (s r known : ℕ) → Sorted im s r known → ((p : ℕ) → p < groups im → has known p ≡ true)

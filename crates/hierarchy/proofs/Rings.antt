@@ -1,16 +1,16 @@
 -- Groups whose parents end, as far as they are known: what a path from one more group tells. Assumes nothing.
 use Prim.Native.Nat.{ℕ, _≤_, _<_, zero-le}
-use mathlib.Core.Path.{_≡_, refl, sym, ap, _∙_}
+use mathlib.Core.Path.{_≡_, refl, sym, ap, _∙_, subst}
 use mathlib.Core.Bool.{Bool, true, false, _||_, true≢false}
 use mathlib.Core.List.{List}
 use mathlib.Core.Logic.{⊎-elim}
 use native.Mathlib.Omega.{arith}
-use borrow.Author.Tests.{le-leb, lt-leb, ltb-false}
+use borrow.Author.Tests.{le-leb, lt-leb, ltb-false, eqb-true}
 use lib.Dec.{leb}
 use Rattle.fields.proofs.Both.{either}
 use Rattle.fields.proofs.Scan.{good-before}
-use Rattle.sets.specs.Sets.{has, none, union}
-use Rattle.sets.proofs.Has.{none-has, union-has}
+use Rattle.sets.specs.Sets.{has, none, one, union}
+use Rattle.sets.proofs.Has.{none-has, one-has, union-has}
 use Rattle.header.specs.Layout.{groups}
 use Rattle.hierarchy.specs.Below.{parent, hasParent, here, up, endsRule, firstRing, AllEnd}
 use Rattle.hierarchy.specs.Paths.{stops, climbed, passed}
@@ -63,6 +63,21 @@ module _ (im : List ℕ) where
       at false e =
           ended-group g l ∙ top-ends im g g l here e
           ∙ sym (ended-outside (parent im g) (ltb-false (parent im g) (groups im) e))
+
+  -- ---- g, whose parent is no group or is known
+  module _ (known g p : ℕ) (sure : Ended im known) (group : g < groups im) (is : p ≡ parent im g) (stop : stops (groups im) known p ≡ true) where
+    as-parent : ended im g ≡ true
+    unfolding stops ended
+    as-parent =
+        ended-same g group ∙ ap (ended im) (sym is) ∙ ⊎-elim (λ h. rw h) (λ h. sure p h) (either (leb (groups im) p) (has known p) stop)
+
+    pub ring-one : endsRule im g ≡ true
+    ring-one = sym (ended-group g group) ∙ as-parent
+
+    pub ended-one : Ended im (union known (one g))
+    ended-one q h =
+        ⊎-elim (sure q) (λ k. subst (λ (x : ℕ). ended im x ≡ true) (eqb-true g q (sym (one-has g q) ∙ k)) as-parent)
+        (either (has known q) (has (one g) q) (sym (union-has known (one g) q) ∙ h))
 
   -- ---- a path from g that stops at `at`
   module _ (known g at : ℕ) (sure : Ended im known) (is : at ≡ climbed im known (groups im) g) where

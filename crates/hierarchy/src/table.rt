@@ -113,17 +113,23 @@ pub fn first_ring(image: &[u8], table: &Table) -> usize
     let mut ended = Groups::none();
     let mut g = 0;
     while g < count {
-        let at = climb(image, table, ended, g);
-        if !stops(count, ended, at) {
-            return g;
+        let p = stored(table, g);
+        if stops(count, ended, p) {
+            ended = ended.with(g);
+        } else {
+            let at = climb(image, table, ended, g);
+            if !stops(count, ended, at) {
+                return g;
+            }
+            ended = mark(image, table, ended, ended, g);
         }
-        ended = mark(image, table, ended, ended, g);
         g += 1;
     }
     g
 }
 
 // s with every group that has an ancestor in s. `known` are the groups of which it is known, `r` those of them that lie below s.
+// Mostly the parent is known: then no walk is needed.
 pub fn below(image: &[u8], table: &Table, s: Groups) -> Groups
     requires { ⌜ Counted (now image) × Tabled (now image) (now table) ⌝ }
     ensures { λ r. ⌜ placesOf r ≡ hierarchy.below (now (image .entry)) (placesOf s) ⌝ }
@@ -133,11 +139,19 @@ pub fn below(image: &[u8], table: &Table, s: Groups) -> Groups
     let mut known = r;
     let mut g = 0;
     while g < count {
-        let at = climb(image, table, known, g);
-        if r.has(at) {
-            r = mark(image, table, known, r, g);
+        let p = stored(table, g);
+        if stops(count, known, p) {
+            if r.has(p) {
+                r = r.with(g);
+            }
+            known = known.with(g);
+        } else {
+            let at = climb(image, table, known, g);
+            if r.has(at) {
+                r = mark(image, table, known, r, g);
+            }
+            known = mark(image, table, known, known, g);
         }
-        known = mark(image, table, known, known, g);
         g += 1;
     }
     r
@@ -210,7 +224,7 @@ fn all_reach(image: &[u8], table: &Table, reached: Groups, rest: Groups) -> bool
 
 // Does every group of `set` lie below `other`? Those that are in `other` do. The others do where the parent of each lies below
 // `other` or `set`: no parents form a ring, so going up from group to group of `set` one comes to `other`. `all` are all groups.
-fn lies_below(image: &[u8], table: &Table, all: Groups, set: Groups, other: Groups) -> bool
+pub fn lies_below(image: &[u8], table: &Table, all: Groups, set: Groups, other: Groups) -> bool
     requires { ⌜ Counted (now image) × (Tabled (now image) (now table) × (placesOf all ≡ allBelow (groups (now image)))) ⌝ }
     ensures { λ r. ⌜ r ≡ within (placesOf set) (hierarchy.below (now (image .entry)) (placesOf other)) ⌝ }
 {

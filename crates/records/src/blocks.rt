@@ -1,11 +1,11 @@
 // A block after the header: its layout, then its records in order.
-ghost use Prim.Native.Nat.{_-_, _<_, _≤_};
+ghost use Prim.Native.Nat.{_-_, _^_, _<_, _≤_};
 ghost use mathlib.Core.Path.{_≡_};
 ghost use Rattle.fields.specs.Scan.{firstBad};
-ghost use Rattle.header.specs.Layout.{countOf, blocksNeeded, Shaped, recordOffset, OneRun};
+ghost use Rattle.header.specs.Layout.{countOf, blocksNeeded, Roomy, Shaped, recordOffset, OneRun};
 ghost use Rattle.records.specs.Rules.{recordRule, layoutRule, firstBadRecord, contentRule};
 ghost use Rattle.header.specs.Limits.{Counted};
-ghost use Rattle.records.specs.Existing.{Exist};
+ghost use Rattle.records.specs.Existing.{Exist, Previous};
 use crate::components::component_ok;
 use crate::existing::Existing;
 use crate::existing::existing_in;
@@ -18,7 +18,7 @@ use header::layout::Kind;
 use header::layout::Shape;
 use header::layout::kind_byte;
 
-// The record begins at `at`.
+// The record begins at `at`, and the one before it at `previous`.
 fn record_ok(
     image: &[u8],
     existing: Existing,
@@ -26,15 +26,28 @@ fn record_ok(
     kind: Kind,
     i: usize,
     at: usize,
+    previous: usize,
 ) -> bool
     requires { ⌜ Counted (now image) × (Exist (now image) existing × (Shaped (now image) kind shape × ((i < countOf (now image) kind) × (at ≡ recordOffset shape i)))) ⌝ }
+    requires { ⌜ Previous shape i previous ⌝ }
     ensures { λ r. ⌜ r ≡ recordRule (now (image .entry)) kind i ⌝ }
 {
     match kind {
         Kind::Component => component_ok(image, i),
-        Kind::Label => label_ok(image, existing, shape, i, at),
+        Kind::Label => label_ok(image, existing, shape, i, at, previous),
         Kind::User => user_ok(image, i),
     }
+}
+
+// Where the record before that at place i begins, if there is one.
+fn previous_offset(shape: Shape, i: usize) -> usize
+    requires { ⌜ Roomy shape × (1 ≤ i → recordOffset shape (i - 1) < 2 ^ 63) ⌝ }
+    ensures { λ r. ⌜ Previous shape i r ⌝ }
+{
+    if i == 0 {
+        return 0;
+    }
+    layout::record_offset(shape, i - 1)
 }
 
 // The records stand in one block, so that the next one begins where one ends.
@@ -45,11 +58,13 @@ fn first_bad(image: &[u8], kind: Kind, from: usize, to: usize) -> usize
     let existing = existing_in(image);
     let shape = layout::shape_of(image, kind);
     let mut at = layout::record_offset(shape, from);
+    let mut previous = previous_offset(shape, from);
     let mut i = from;
     while i < to {
-        if !record_ok(image, existing, shape, kind, i, at) {
+        if !record_ok(image, existing, shape, kind, i, at, previous) {
             return i;
         }
+        previous = at;
         at += shape.size;
         i += 1;
     }

@@ -2,23 +2,20 @@
 ghost use Prim.Native.Nat.{_<_, _≤_};
 ghost use mathlib.Core.Path.{_≡_};
 ghost use lib.ListN.{length};
-ghost use Rattle.sets.specs.Groups.{placesOf};
 ghost use Rattle.header.specs.declared.layout.Kind.the-variants.{Label};
 ghost use Rattle.header.specs.Layout.{editionOf, labels, countsOf, recordSize, Shaped, recordOffset, labelRecord, recordsOf};
-ghost use Rattle.records.specs.Fields.{tagOf, labelLevel, labelCompartments, labelGroups};
+ghost use Rattle.records.specs.Fields.{tagOf};
 ghost use Rattle.records.specs.Rules.{labelShape, tagRule, recordRule};
 ghost use Rattle.header.specs.Limits.{Counted};
-ghost use Rattle.records.specs.Existing.{Exist};
+ghost use Rattle.records.specs.Existing.{Exist, Previous};
 use crate::existing::Existing;
 use crate::group_sets::group_set;
 use fields::numbers::all_zero;
 use fields::numbers::number4;
 use fields::numbers::number8;
-use header::edition::edition_of;
 use header::layout;
 use header::layout::Kind;
 use header::layout::Shape;
-use sets::groups::Groups;
 use sets::word;
 
 // By the shape of the label records, which a loop or a search works out once.
@@ -34,29 +31,6 @@ pub fn tag(image: &[u8], k: usize) -> u32
     ensures { λ r. ⌜ r ≡ tagOf (labelRecord (now (image .entry)) k) ⌝ }
 {
     tag_at(image, layout::shape_of(image, Kind::Label), k)
-}
-
-pub fn level(image: &[u8], k: usize) -> u8
-    requires { ⌜ Counted (now image) × (k < labels (now image)) ⌝ }
-    ensures { λ r. ⌜ r ≡ labelLevel (labelRecord (now (image .entry)) k) ⌝ }
-{
-    let rec = layout::record_part(image, Kind::Label, k);
-    rec[4]
-}
-
-pub fn compartments(image: &[u8], k: usize) -> u64
-    requires { ⌜ Counted (now image) × (k < labels (now image)) ⌝ }
-    ensures { λ r. ⌜ r ≡ labelCompartments (labelRecord (now (image .entry)) k) ⌝ }
-{
-    number8(layout::record_part(image, Kind::Label, k), 8)
-}
-
-pub fn groups(image: &[u8], k: usize) -> Groups
-    requires { ⌜ Counted (now image) × (k < labels (now image)) ⌝ }
-    ensures { λ r. ⌜ placesOf r ≡ labelGroups (editionOf (now (image .entry))) (labelRecord (now (image .entry)) k) ⌝ }
-{
-    let rec = layout::record_part(image, Kind::Label, k);
-    group_set(edition_of(image), rec, 16)
 }
 
 // What a record must be whatever the others are.
@@ -75,22 +49,32 @@ fn shape_ok(image: &[u8], existing: Existing, rec: &[u8]) -> bool
         & group_set(edition, rec, 16).within(all)
 }
 
-// Tags rise strictly. `here` is the tag of the record at place k.
-fn tag_ok(image: &[u8], shape: Shape, k: usize, here: u32) -> bool
-    requires { ⌜ Counted (now image) × (Shaped (now image) Label shape × ((k < labels (now image)) × (here ≡ tagOf (labelRecord (now image) k)))) ⌝ }
+// Tags rise strictly. `here` is the tag of the record at place k; the record before it begins at `previous`.
+fn tag_ok(image: &[u8], shape: Shape, k: usize, previous: usize, here: u32) -> bool
+    requires { ⌜ Counted (now image) × (Shaped (now image) Label shape × ((k < labels (now image)) × Previous shape k previous)) ⌝ }
+    requires { ⌜ here ≡ tagOf (labelRecord (now image) k) ⌝ }
     ensures { λ r. ⌜ r ≡ tagRule (recordsOf (now (image .entry)) Label) k ⌝ }
 {
     if k == 0 {
         return true;
     }
-    tag_at(image, shape, k - 1) < here
+    let rec = layout::placed_part(image, shape, Kind::Label, k - 1, previous);
+    number4(rec, 0) < here
 }
 
-// The record begins at `at`.
-pub fn label_ok(image: &[u8], existing: Existing, shape: Shape, k: usize, at: usize) -> bool
+// The record begins at `at`, and the one before it at `previous`.
+pub fn label_ok(
+    image: &[u8],
+    existing: Existing,
+    shape: Shape,
+    k: usize,
+    at: usize,
+    previous: usize,
+) -> bool
     requires { ⌜ Counted (now image) × (Exist (now image) existing × (Shaped (now image) Label shape × ((k < labels (now image)) × (at ≡ recordOffset shape k)))) ⌝ }
+    requires { ⌜ Previous shape k previous ⌝ }
     ensures { λ r. ⌜ r ≡ recordRule (now (image .entry)) Label k ⌝ }
 {
     let rec = layout::placed_part(image, shape, Kind::Label, k, at);
-    shape_ok(image, existing, rec) & tag_ok(image, shape, k, number4(rec, 0))
+    shape_ok(image, existing, rec) & tag_ok(image, shape, k, previous, number4(rec, 0))
 }

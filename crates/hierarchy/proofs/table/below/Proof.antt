@@ -10,9 +10,10 @@ use Rattle.sets.specs.Groups.{placesOf}
 use Rattle.header.specs.Layout.{groups}
 use Rattle.header.proofs.Inside.{header-inside}
 use Rattle.hierarchy.specs.Below.{below}
-use Rattle.hierarchy.proofs.Room.{groups-fit}
+use Rattle.hierarchy.proofs.Room.{groups-fit, groups-table}
 use Rattle.hierarchy.proofs.Under.{below-groups}
-use Rattle.hierarchy.proofs.Known.{Sorted, sorted-start, sorted-put, sorted-pass, sorted-upto, sorted-end}
+use Rattle.hierarchy.proofs.Known.{Sorted, sorted-start, sorted-put, sorted-pass, sorted-upto, sorted-with, sorted-without, upto-with, sorted-end}
+use Rattle.hierarchy.proofs.Paths.{stops-told}
 use Rattle.hierarchy.proofs.Steps.{groups-of}
 use Rattle.hierarchy.proofs.table.below.Statement.{statement}
 use Rattle.hierarchy.proofs.table.below.Tie as tie
@@ -43,11 +44,34 @@ loop-holds c =
     let is = groups-of _ s _ _ _ count (c .before .all-below .ensures) (c .intersection .ensures) in
     (omega arith, (sorted-start _ s _ is, below-none _))
 
-climb-requires : tie.Need-climb-requires Inv-loop μ-loop
-climb-requires c κs = search needs
+stored-requires : tie.Need-stored-requires Inv-loop μ-loop
+stored-requires c κs =
+    let start = c .before .before .before .before .before .before in
+    omega (arith, groups-table (start .args .image .now) (start .pre .0))
+
+stops-requires : tie.Need-stops-requires Inv-loop μ-loop
+stops-requires c κs = search needs
 
 has-requires : tie.Need-has-requires Inv-loop μ-loop
 has-requires c κs = search needs
+
+with-requires : tie.Need-with-requires Inv-loop μ-loop
+with-requires c κs =
+    let turn = c .before .before .before .before .before in
+    let start = turn .before .before .before .before .before .before in
+    omega (arith, groups-fit (start .args .image .now) (start .pre .0))
+
+with-requires-2 : tie.Need-with-requires-2 Inv-loop μ-loop
+with-requires-2 c κs =
+    let turn = c .before .before .before .before .before in
+    let start = turn .before .before .before .before .before .before in
+    omega (arith, groups-fit (start .args .image .now) (start .pre .0))
+
+climb-requires : tie.Need-climb-requires Inv-loop μ-loop
+climb-requires c κs = search needs
+
+has-requires-2 : tie.Need-has-requires-2 Inv-loop μ-loop
+has-requires-2 c κs = search needs
 
 mark-requires : tie.Need-mark-requires Inv-loop μ-loop
 mark-requires c κs = search needs
@@ -63,23 +87,40 @@ loop-less c = omega arith
 
 loop-again : tie.Need-loop-again Inv-loop μ-loop
 loop-again c =
-    let joined = c .before in
-    let climbed = joined .before .before in
-    let turn = climbed .before .before in
-    let start = turn .before .before .before .before .before in
+    let stored = c .before .before in
+    let turn = stored .before .before in
+    let grouped = turn .before .before .before in
+    let start = grouped .before .before in
     let l : turn .loop .g < groups (start .args .image .now) = omega arith in
     let ends = start .pre .1 .1 in
     let inv = turn .loop .inv .1 in
-    let at = climbed .climb .ensures in
-    let told = sym (joined .before .has .ensures) in
-    let put =
-    ⊎-elim
-    (λ t.
-    sorted-put _ ends _ _ _ _ _ (inv .0) l at _ (told ∙ t .0 .taken) (ap placesOf (t .2) ∙ t .1 .ensures))
-    (λ f. sorted-pass _ ends _ _ _ _ _ (inv .0) l at _ (told ∙ f .0 .left) (ap placesOf (f .1)))
-    (joined .if1 .came)
-    in
-    (omega arith, rw (c .mark2 .ensures) (put, sorted-upto _ ends _ _ _ _ _ (inv .0) l at (inv .1)))
+    let is = stored .stored .ensures ∙ start .pre .1 .0 (turn .loop .g) l in (
+      omega arith,
+      ⊎-elim
+          (λ t.
+          let stop = stops-told _ _ _ _ _ _ (grouped .groups .ensures .0) (c .before .stops .ensures) (t .0 .taken) in
+          let told = sym (t .1 .ensures) in
+          let put =
+          ⊎-elim
+          (λ u. sorted-with _ ends _ _ _ _ _ (inv .0) l is stop _ (told ∙ u .0 .taken) (ap placesOf (u .2) ∙ u .1 .ensures))
+          (λ u. sorted-without _ ends _ _ _ _ _ (inv .0) l is stop _ (told ∙ u .0 .left) (ap placesOf (u .1)))
+          (t .2 .came)
+          in
+          rw (ap placesOf (t .4), ap placesOf (t .5) ∙ t .3 .ensures)
+          (put, upto-with _ ends _ _ _ _ _ (inv .0) l is stop (inv .1)))
+          (λ f.
+          let at = f .1 .ensures in
+          let told = sym (f .2 .ensures) in
+          let put =
+          ⊎-elim
+          (λ u. sorted-put _ ends _ _ _ _ _ (inv .0) l at _ (told ∙ u .0 .taken) (ap placesOf (u .2) ∙ u .1 .ensures))
+          (λ u. sorted-pass _ ends _ _ _ _ _ (inv .0) l at _ (told ∙ u .0 .left) (ap placesOf (u .1)))
+          (f .3 .came)
+          in
+          rw (ap placesOf (f .5), ap placesOf (f .6) ∙ f .4 .ensures)
+          (put, sorted-upto _ ends _ _ _ _ _ (inv .0) l at (inv .1)))
+          (c .if1 .came),
+    )
 
 returns : tie.Need-returns Inv-loop μ-loop
 returns c =
@@ -102,8 +143,13 @@ below-spec =
     all-below-requires
     intersection-requires
     loop-holds
-    climb-requires
+    stored-requires
+    stops-requires
     has-requires
+    with-requires
+    with-requires-2
+    climb-requires
+    has-requires-2
     mark-requires
     mark-requires-2
     add-g

@@ -11,16 +11,17 @@ use Rattle.header.specs.declared.layout.Shape.{Shape}
 use Rattle.header.specs.Layout.{shapeOf, Shaped, recordOffset, OneRun}
 use Rattle.header.proofs.Inside.{header-inside, record-inside, record-upto, one-block}
 use Rattle.records.specs.Rules.{recordRule}
+use Rattle.records.specs.Existing.{Previous}
 use Rattle.records.proofs.blocks.first_bad.Statement.{statement}
 use Rattle.records.proofs.blocks.first_bad.Tie as tie
 
 abbrev Inv-loop : tie.InvT-loop
-Inv-loop image kind from to existing shape at₀ i₀ at i =
-    (from ≤ i) × ((i ≤ to) × ((at ≡ recordOffset shape from + shape .size * (i - from))
+Inv-loop image kind from to existing shape at₀ previous₀ i₀ at previous i =
+    (from ≤ i) × ((i ≤ to) × (((at ≡ recordOffset shape from + shape .size * (i - from)) × Previous shape i previous)
     × (firstBad (recordRule image kind) (to - i) i ≡ firstBad (recordRule image kind) (to - from) from)))
 
 abbrev μ-loop : tie.MeasureT-loop
-μ-loop image kind from to existing shape at₀ i₀ at i = to - i
+μ-loop image kind from to existing shape at₀ previous₀ i₀ at previous i = to - i
 
 next : (o size from i at : ℕ) → from ≤ i → at ≡ o + size * (i - from) → at + size ≡ o + size * (i + 1 - from)
 next o size from i at low e =
@@ -46,33 +47,45 @@ record-offset-requires c κs =
     let s = c .shape-of .ensures in
     (s .roomy, rw (s .is) (omega (arith, record-upto _ (p .0 .fitted) (start .args .kind) (start .args .from) (omega arith))))
 
+previous-offset-requires : tie.Need-previous-offset-requires Inv-loop μ-loop
+previous-offset-requires c κs =
+    let shaped = c .before in
+    let start = shaped .before .before .before in
+    let from = start .args .from in
+    let s = shaped .shape-of .ensures in
+    (s .roomy, λ some. rw (s .is) (omega (arith, record-upto _ (start .pre .0 .fitted) (start .args .kind) (from - 1) (omega arith))))
+
 loop-holds : tie.Need-loop-holds Inv-loop μ-loop
-loop-holds c = (omega arith, (omega arith, (c .record-offset .ensures ∙ rw (sub-self, mul-zero, add-zero), refl)))
+loop-holds c =
+    (omega arith, (omega arith, ((c .before .record-offset .ensures ∙ rw (sub-self, mul-zero, add-zero), c .previous-offset .ensures), refl)))
 
 record-ok-requires : tie.Need-record-ok-requires Inv-loop μ-loop
 record-ok-requires c κs =
     let turn = c .before .loop in
-    let placed = c .before .before in
+    let placed = c .before .before .before in
     let shaped = placed .before in
     let existing = shaped .before in
     let start = existing .before .before in
     let s = shaped .shape-of .ensures in
-    let here = begins _ _ _ _ _ (turn .i) _ s (start .pre .1 .1 .1) (turn .inv .0) (c .loop-test .taken) (turn .inv .1 .1 .0) in
-    (start .pre .0, (existing .existing-in .ensures, (s, (omega arith, here))))
+    let stands = turn .inv .1 .1 .0 in
+    let here = begins _ _ _ _ _ (turn .i) _ s (start .pre .1 .1 .1) (turn .inv .0) (c .loop-test .taken) (stands .0) in
+    ((start .pre .0, (existing .existing-in .ensures, (s, (omega arith, here)))), stands .1)
 
 returns : tie.Need-returns Inv-loop μ-loop
-returns c = loop-bad _ _ _ _ (c .before .before .loop-test .taken) (c .before .before .before .loop .inv .1 .1 .1) (sym (c .before .record-ok .ensures) ∙ not-true _ (c .if1 .taken))
+returns c =
+    let turn = c .before .before in
+    loop-bad _ _ _ _ (turn .loop-test .taken) (turn .before .loop .inv .1 .1 .1) (sym (c .before .record-ok .ensures) ∙ not-true _ (c .if1 .taken))
 
 add-at : tie.Need-add-at Inv-loop μ-loop
 add-at c =
     let inside = c .before .before .before in
     let turn = inside .before .loop in
-    let placed = inside .before .before in
+    let placed = inside .before .before .before in
     let shaped = placed .before in
     let existing = shaped .before in
     let start = existing .before .before in
     let s = shaped .shape-of .ensures in
-    let here = begins _ _ _ _ _ (turn .i) _ s (start .pre .1 .1 .1) (turn .inv .0) (inside .loop-test .taken) (turn .inv .1 .1 .0) in
+    let here = begins _ _ _ _ _ (turn .i) _ s (start .pre .1 .1 .1) (turn .inv .0) (inside .loop-test .taken) (turn .inv .1 .1 .0 .0) in
     let size = ap (λ (x : Shape). x .size) (s .is) in
     let at = ap (λ (x : Shape). recordOffset x (turn .i)) (s .is) in
     omega (arith, record-inside _ (start .pre .0 .fitted) (start .args .kind) (turn .i) (omega arith))
@@ -86,10 +99,21 @@ loop-less c = omega arith
 loop-again : tie.Need-loop-again Inv-loop μ-loop
 loop-again c =
     let passed = c .before in
-    let turn = passed .before .before in
-    let at = turn .before .loop in
-    let good = sym (passed .before .record-ok .ensures) ∙ not-false _ (passed .if1 .left) in
-    (omega arith, (omega arith, (next _ _ _ _ _ (at .inv .0) (at .inv .1 .1 .0), loop-good _ _ _ _ (turn .loop-test .taken) (at .inv .1 .1 .1) good)))
+    let inside = passed .before .before in
+    let turn = inside .before .loop in
+    let shaped = inside .before .before .before .before in
+    let start = shaped .before .before .before in
+    let stands = turn .inv .1 .1 .0 in
+    let here =
+    begins _ _ _ _ _ (turn .i) _ (shaped .shape-of .ensures) (start .pre .1 .1 .1) (turn .inv .0) (inside .loop-test .taken) (stands .0)
+    in
+    let good = sym (passed .before .record-ok .ensures) ∙ not-false _ (passed .if1 .left) in (
+      omega arith,
+      (
+        omega arith,
+        ((next _ _ _ _ _ (turn .inv .0) (stands .0), λ some. here ∙ ap (recordOffset (shaped .shape-of .result)) (omega arith)), loop-good _ _ _ _ (inside .loop-test .taken) (turn .inv .1 .1 .1) good),
+      ),
+    )
 
 returns-2 : tie.Need-returns-2 Inv-loop μ-loop
 returns-2 c = loop-end _ _ _ _ (c .loop-test .left) (c .before .loop .inv .1 .1 .1)
@@ -103,6 +127,7 @@ first-bad-spec =
     existing-in-requires
     shape-of-requires
     record-offset-requires
+    previous-offset-requires
     loop-holds
     record-ok-requires
     returns

@@ -7,7 +7,7 @@ enum-told c = search needs
 
 component-ok-requires : tie.Need-component-ok-requires
 component-ok-requires c κs =
-    let p = c .before .before .before .pre in
+    let p = c .before .before .before .pre .0 in
     (p .0 .fitted, rw (c .enum-told .given .1) at (p .1 .1 .1 .0))
 
 enum-told-2 : tie.Need-enum-told-2
@@ -15,16 +15,17 @@ enum-told-2 c = search needs
 
 label-ok-requires : tie.Need-label-ok-requires
 label-ok-requires c κs =
-    let p = c .before .before .before .pre in
+    let pre = c .before .before .before .pre in
+    let p = pre .0 in
     let label = c .enum-told2 .given .1 in
-    (p .0, (p .1 .0, (rw label at (p .1 .1 .0), (rw label at (p .1 .1 .1 .0), p .1 .1 .1 .1))))
+    ((p .0, (p .1 .0, (rw label at (p .1 .1 .0), (rw label at (p .1 .1 .1 .0), p .1 .1 .1 .1)))), pre .1)
 
 enum-told-3 : tie.Need-enum-told-3
 enum-told-3 c = search needs
 
 user-ok-requires : tie.Need-user-ok-requires
 user-ok-requires c κs =
-    let p = c .before .before .before .pre in
+    let p = c .before .before .before .pre .0 in
     (p .0, rw (c .enum-told3 .given .1) at (p .1 .1 .1 .0))
 
 returns : tie.Need-returns

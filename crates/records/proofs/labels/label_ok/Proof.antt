@@ -22,8 +22,9 @@ number4-requires c κs = search needs
 tag-ok-requires : tie.Need-tag-ok-requires
 tag-ok-requires c κs =
     let part = c .before .before in
-    let p = part .before .before .pre in
-    (p .0, (p .1 .1 .0, (p .1 .1 .1 .0, c .number4 .ensures ∙ ap tagOf (part .placed-part .ensures .0))))
+    let pre = part .before .before .pre in
+    let p = pre .0 in
+    ((p .0, (p .1 .1 .0, (p .1 .1 .1 .0, pre .1))), c .number4 .ensures ∙ ap tagOf (part .placed-part .ensures .0))
 
 returns : tie.Need-returns
 unfolding ruleOf labelRule
@@ -31,7 +32,7 @@ returns c =
     let shaped = c .before .before in
     let part = shaped .before in
     let start = part .before .before in
-    let here : start .args .k < countOf (start .args .image .now) Label = omega (arith, start .pre .1 .1 .1 .0) in
+    let here : start .args .k < countOf (start .args .image .now) Label = omega (arith, start .pre .0 .1 .1 .1 .0) in
     rw (record-of (start .args .image .now) Label (start .args .k) here, shaped .shape-ok .ensures, c .tag-ok .ensures, part .placed-part .ensures .0)
 
 pub label-ok-spec : {M : Type 1} → statement M

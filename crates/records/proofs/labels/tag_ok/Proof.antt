@@ -13,21 +13,28 @@ returns : tie.Need-returns
 unfolding tagRule
 returns c = rw (eq-eqb _ _ (c .if1 .taken))
 
-sub-tag-at : tie.Need-sub-tag-at
-sub-tag-at c = search needs
+sub-placed-part : tie.Need-sub-placed-part
+sub-placed-part c = search needs
 
-tag-at-requires : tie.Need-tag-at-requires
-tag-at-requires c κs = search needs
+placed-part-requires : tie.Need-placed-part-requires
+placed-part-requires c κs =
+    let start = c .before .before in
+    let p = start .pre .0 in
+    (p .0 .fitted, (p .1 .0, (omega arith, p .1 .1 .1 (omega arith))))
+
+number4-requires : tie.Need-number4-requires
+number4-requires c κs = search needs
 
 returns-2 : tie.Need-returns-2
 unfolding tagRule
 returns-2 c =
-    let start = c .before .before .before in
+    let part = c .before in
+    let start = part .before .before .before in
     let im = start .args .image .now in
     let k = start .args .k in
     let before : k - 1 < countOf im Label = omega arith in
     let here : k < countOf im Label = omega arith in
-    rw (ne-eqb _ _ (c .before .if1 .left), record-of im Label (k - 1) before, record-of im Label k here, c .tag-at .ensures, start .pre .1 .1 .1)
+    rw (ne-eqb _ _ (part .before .if1 .left), record-of im Label (k - 1) before, record-of im Label k here, c .number4 .ensures, part .placed-part .ensures .0, start .pre .1)
 
 pub tag-ok-spec : {M : Type 1} → statement M
-tag-ok-spec = tie.close (tie.spec returns sub-tag-at tag-at-requires returns-2)
+tag-ok-spec = tie.close (tie.spec returns sub-placed-part placed-part-requires number4-requires returns-2)
