@@ -144,6 +144,19 @@ static void set_row_label(uint8_t *session) {
     tell("set_row_label", brawnesk_set_row_label(image, length, session, (const uint8_t *)"CREW:GLAZE", 10));
 }
 
+/* Before a move up: who holds COMPACCESS, which edition 2 does not have, and the image without it. In the sample nobody holds it. */
+static void compaccess(void) {
+    static uint8_t cleared[65536];
+    uint8_t users[96];
+    uint64_t count = brawnesk_compaccess_users(image, length, users, sizeof users);
+    tell("compaccess_users", count);
+    if (!brawnesk_refused(count))
+        for (size_t n = 0; n < count; n++)
+            printf("compaccess_users: the user at place %u\n", (unsigned)users[n]);
+    tell("clear_compaccess", brawnesk_clear_compaccess(image, length, cleared, sizeof cleared));
+    tell("clear_compaccess", brawnesk_clear_compaccess(image, length, cleared, 512));
+}
+
 /* The sample in edition 2; MARA's session goes on under it. */
 static void move_up(const uint8_t *session) {
     static uint8_t moved[56832];
@@ -154,6 +167,7 @@ static void move_up(const uint8_t *session) {
         return;
     tell("may_read", brawnesk_may_read(moved, answer, session, 10));
     tell("move_up", brawnesk_move_up(moved, answer, other, sizeof other));
+    tell("compaccess_users", brawnesk_compaccess_users(moved, answer, other, sizeof other));
     tell("move_up", brawnesk_move_up(image, length, other, sizeof other));
 }
 
@@ -171,6 +185,7 @@ static void sessions(void) {
     set_label(session);
     set_row_label(session);
     tell("open", brawnesk_open(image, length, (const uint8_t *)"mara", 4, session));
+    compaccess();
     move_up(session);
 }
 

@@ -2,16 +2,17 @@
  *
  * Every function answers one 64-bit number. Below 2^63 the call is done and the number is its value. Otherwise it is refused:
  * 2^63 + number * 2^32 + place, where number is the refusal and place what it names: a block (refusal 2), an offset (6 and 7), a record as
- * block * 65,536 + its place in the block (32 to 34) or a group (35), each from 0; 0 for every other refusal. A refusal changes no lent byte.
- * The refusals are listed, and an answer is taken apart, at the end of this header.
+ * block * 65,536 + its place in the block (32 to 34) or a group (35), each from 0; how many users (36); 0 for every other refusal. A refusal
+ * changes no lent byte. The refusals are listed, and an answer is taken apart, at the end of this header.
  *
  * Lending. What a call writes overlaps nothing else that is lent to it; parts that are only read may overlap each other. Nobody changes
  * what is lent during the call. A slice's length is below 2^63. A pointer to an empty slice may not be null. A buffer that a call only
- * writes (label out, session out, text out, rows out, image out) may be uninitialised: a call that is done writes what it reports and
- * reads none of it.
+ * writes (label out, session out, text out, rows out, image out, users out) may be uninitialised: a call that is done writes what it
+ * reports and reads none of it.
  *
- * Editions. Every call that is lent an image takes edition 1 and edition 2; only brawnesk_move_up, which makes 2 of 1, refuses edition 2.
- * An image of edition 1 has up to 64 groups, 1,680 labels and 96 users, one of edition 2 up to 256 groups, 800 labels and 32 users. */
+ * Editions. Every call that is lent an image takes edition 1 and edition 2; only brawnesk_move_up, which makes 2 of 1, and the two calls on
+ * COMPACCESS before it refuse edition 2. An image of edition 1 has up to 64 groups, 1,680 labels and 96 users, one of edition 2 up to 256
+ * groups, 800 labels and 32 users. Edition 2 does not have COMPACCESS: a user record that holds it is refused 34. */
 #ifndef BRAWNESK_H
 #define BRAWNESK_H
 
@@ -100,10 +101,21 @@ uint64_t brawnesk_strictly_dominates(const uint8_t *image, size_t image_length, 
  * N none, for the compartments and for the groups. Done: 0, and the 48 bytes of merged are written. Refusal: 17 other letters. */
 uint64_t brawnesk_merge(const uint8_t *label1, const uint8_t *label2, const uint8_t *letters, size_t letters_length, uint8_t *merged);
 
+/* The users of an image of edition 1 who hold COMPACCESS: their places, one byte each, rising, at the front of the buffer; later bytes
+ * stay. 96 bytes are always enough. Done: how many. Refusals: 1, 2, 31 an image of edition 2, 31 to 35, 13 they are more than the buffer
+ * has bytes. */
+uint64_t brawnesk_compaccess_users(const uint8_t *image, size_t image_length, uint8_t *out, size_t out_length);
+
+/* An image of edition 1 with COMPACCESS taken from the users who hold it, at the front of the buffer; later bytes stay. Nothing else in it
+ * changes but the checks of these users' blocks. The new image is accepted, and sessions go on under it: who did not hold COMPACCESS keeps
+ * every verdict, and who held it loses only what COMPACCESS alone gave. Done: its length, which is the old image's. Refusals: 1, 2, 31 an
+ * image of edition 2, 31 to 35, 13 the image is longer than the buffer. */
+uint64_t brawnesk_clear_compaccess(const uint8_t *image, size_t image_length, uint8_t *out, size_t out_length);
+
 /* An image of edition 1 in the layouts of edition 2, at the front of the buffer; later bytes stay. The new image is accepted and has the
  * same components, labels and users, each at the same place. Sessions and labels go on under it, and their verdicts on tags that labels
  * carry are the same. Done: its length, at most 56,832. Refusals: 1, 2, 31 an image of edition 2, 31 to 35, 37 over 800 labels or 32
- * users, 13 the new image is longer than the buffer. */
+ * users, 36 COMPACCESS is held (by how many users), 13 the new image is longer than the buffer. */
 uint64_t brawnesk_move_up(const uint8_t *image, size_t image_length, uint8_t *out, size_t out_length);
 
 /* The refusals: number, name, and what is wrong in words. The enum and brawnesk_message are made of this list. */
@@ -133,6 +145,7 @@ uint64_t brawnesk_move_up(const uint8_t *image, size_t image_length, uint8_t *ou
     REFUSAL(34, BRAWNESK_USER_RECORD, \
             "the user's name, privileges, levels, compartments, groups or unused bytes are wrong, or its name does not rise") \
     REFUSAL(35, BRAWNESK_PARENT_RING, "the group's parents never end: they come back to a group that they passed") \
+    REFUSAL(36, BRAWNESK_COMPACCESS_HOLDERS, "the image has users who hold COMPACCESS, a privilege that edition 2 does not have") \
     REFUSAL(37, BRAWNESK_MOVE_LIMITS, "the image has over 800 labels or 32 users, more than an image of edition 2 holds")
 
 #define BRAWNESK_NAMED(number, name, words) name = number,

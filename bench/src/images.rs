@@ -19,7 +19,8 @@ pub enum Of {
     ParentLower,
     /// The same, but all groups but two stand right under one of these.
     Wide,
-    /// The largest of edition 1 that can be moved up: as many labels and users as edition 2 may have.
+    /// The largest of edition 1 that can be moved up: as many labels and users as edition 2 may have, and
+    /// nobody holds COMPACCESS.
     Movable,
 }
 
@@ -45,7 +46,7 @@ impl Of {
             Of::ParentHigher => largest(Tree::ParentHigher),
             Of::ParentLower => largest(Tree::ParentLower),
             Of::Wide => largest(Tree::Wide),
-            Of::Movable => random_with(Tree::ParentHigher, movable(), &mut Rng::new(SEED)),
+            Of::Movable => movable(),
         }
     }
 
@@ -65,12 +66,13 @@ fn largest(tree: Tree) -> Policy {
     random_with(tree, Sizes::full(Edition::Two), &mut Rng::new(SEED))
 }
 
-fn movable() -> Sizes {
-    Sizes {
+fn movable() -> Policy {
+    let sizes = Sizes {
         labels: Edition::Two.most_labels(),
         users: Edition::Two.most_users(),
         ..Sizes::full(Edition::One)
-    }
+    };
+    random_with(Tree::ParentHigher, sizes, &mut Rng::new(SEED)).held_by(&[])
 }
 
 fn lean(policy: Policy) -> Policy {

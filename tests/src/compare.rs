@@ -28,6 +28,17 @@ pub fn expected(result: Result<u64, Refusal>) -> Answer {
     }
 }
 
+/// The same of a call that writes to the front of a buffer and tells how many bytes; and the buffer after
+/// it: later bytes stay, and all of them on a refusal.
+pub fn written(result: Result<Vec<u8>, Refusal>, buffer: &[u8]) -> (Answer, Vec<u8>) {
+    let mut after = buffer.to_vec();
+    let answer = expected(result.map(|bytes| {
+        after[..bytes.len()].copy_from_slice(&bytes);
+        bytes.len() as u64
+    }));
+    (answer, after)
+}
+
 /// An image, and what the model's check gives for it: one check serves many calls.
 pub struct Checked<'a> {
     pub image: &'a [u8],

@@ -1,5 +1,5 @@
 //! Tests of the compiled library against a second implementation, the model, which follows
-//! document 01 with requests of document 02 and shares no code with the library.
+//! document 01 with requests of document 02 and shares no code with the library.
 //!
 //! - `model`: the rules of an image, of label text, of sessions, of verdicts, of tables and of two
 //!   labels, as the document states them.
@@ -10,6 +10,7 @@
 //! - `walk`: calls on sessions by seed, for comparing.
 //! - `tables`: calls on rows by seed, for comparing.
 //! - `moving`: moves up to edition 2 by seed, for comparing.
+//! - `compaccess`: lists of the users who hold COMPACCESS, and images cleared of it, by seed, for comparing.
 //! - `hidden`: two tables with different hidden rows, and one sequence of calls on each, by seed.
 //! - `pairs`: two labels under a policy, sessions beside label records, and two labels with merge
 //!   letters, by seed, for comparing.
@@ -21,6 +22,7 @@
 pub mod builder;
 pub mod calls;
 pub mod cases;
+pub mod compaccess;
 pub mod compare;
 pub mod damage;
 mod editions;

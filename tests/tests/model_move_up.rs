@@ -4,9 +4,9 @@ use brawnesk_tests::builder::{to_image, Edition};
 use brawnesk_tests::calls::Call;
 use brawnesk_tests::compare::CallTally;
 use brawnesk_tests::ffi::Answer;
-use brawnesk_tests::model::{accepted, check, may_read, may_write, move_up, name, open};
-use brawnesk_tests::model::{Image, Refusal, Session};
-use brawnesk_tests::moving::{around_limits, by_hand, by_model, policy, Move, MoveTally};
+use brawnesk_tests::model::{accepted, check, clear_compaccess, may_read, may_write};
+use brawnesk_tests::model::{move_up, name, open, Image, Refusal, Session};
+use brawnesk_tests::moving::{around_limits, by_hand, by_model, movable, Move, MoveTally};
 use brawnesk_tests::rng::Rng;
 use brawnesk_tests::walk::{each_call, Step};
 
@@ -34,7 +34,7 @@ fn moves_are_varied() {
 #[test]
 fn the_moved_image_is_the_builders() {
     for seed in 0..1_000 {
-        let policy = policy(Edition::One, &mut Rng::new(seed));
+        let policy = movable(&mut Rng::new(seed));
         let moved = move_up(&to_image(&policy), usize::MAX);
         assert!(
             moved.as_ref().is_ok_and(|it| check(it) == Ok(())),
@@ -45,21 +45,26 @@ fn the_moved_image_is_the_builders() {
     }
 }
 
-/// 800 labels and 32 users are moved, and one more of either is not.
+/// 800 labels and 32 users are moved if nobody holds COMPACCESS, and one more of either is not, whoever
+/// holds it.
 #[test]
 fn limits() {
-    let mut seen = [0; 2];
-    for seed in 0..200 {
+    let mut seen = [[0; 2]; 2];
+    for seed in 0..400 {
         let policy = around_limits(&mut Rng::new(seed));
         let fits = policy.labels.len() <= 800 && policy.users.len() <= 32;
+        let holders = policy.holders().len();
         let moved = move_up(&to_image(&policy), usize::MAX);
-        match fits {
-            true => assert_eq!(check(&moved.expect("it fits")), Ok(())),
-            false => assert_eq!(moved, Err(Refusal::Size)),
+        match (fits, holders) {
+            (false, _) => assert_eq!(moved, Err(Refusal::Size)),
+            (true, 0) => assert_eq!(check(&moved.expect("it fits")), Ok(())),
+            (true, _) => assert_eq!(moved, Err(Refusal::Holders(holders))),
         }
-        seen[usize::from(fits)] += 1;
+        seen[usize::from(fits)][usize::from(holders > 0)] += 1;
     }
-    assert!(seen.iter().all(|&times| times >= 30), "{seen:?}");
+    println!("{seen:?}");
+    let least = seen.iter().flatten().min();
+    assert!(least >= Some(&30), "{seen:?}");
 }
 
 /// The names of some components.
@@ -82,7 +87,7 @@ fn verdicts(image: &Image, session: &Session, tag: u32) -> [bool; 2] {
 fn verdicts_stay() {
     let mut seen = CallTally::default();
     for seed in 0..300 {
-        let policy = policy(Edition::One, &mut Rng::new(seed));
+        let policy = movable(&mut Rng::new(seed));
         let image = to_image(&policy);
         let moved = move_up(&image, usize::MAX).expect("the policy is well-formed");
         assert_eq!(names(&image), names(&moved), "seed {seed}");
@@ -113,20 +118,25 @@ fn stays(step: &Step) -> bool {
     }
 }
 
-/// An image, and what it is when moved; kept, since many calls are lent the same one.
+/// An image, and what it is when cleared of COMPACCESS, and when moved then; kept, since many calls are lent
+/// the same one.
 #[derive(Default)]
 struct Kept {
     image: Vec<u8>,
-    moved: Option<Vec<u8>>,
+    moved: Option<[Vec<u8>; 2]>,
 }
 
 impl Kept {
-    fn moved(&mut self, image: &[u8]) -> Option<&[u8]> {
+    fn moved(&mut self, image: &[u8]) -> Option<&[Vec<u8>; 2]> {
         if self.image != image {
             self.image = image.to_vec();
-            self.moved = move_up(image, usize::MAX).ok();
+            let cleared = clear_compaccess(image, usize::MAX).ok();
+            self.moved = cleared.and_then(|cleared| {
+                let moved = move_up(&cleared, usize::MAX).ok()?;
+                Some([cleared, moved])
+            });
         }
-        self.moved.as_deref()
+        self.moved.as_ref()
     }
 }
 
@@ -138,14 +148,16 @@ fn calls_stay() {
     let mut kept = Kept::default();
     for seed in 0..200 {
         each_call(Edition::One, seed, 60, |step| {
-            let Some(moved) = kept.moved(step.image).filter(|_| stays(step)) else {
+            let Some(images) = kept.moved(step.image).filter(|_| stays(step)) else {
                 return;
             };
-            let mut session = step.lent;
-            let answer = step.call.by_model(&accepted(moved), &mut session);
-            let wanted = (step.answer, step.session);
-            assert_eq!((answer, session), wanted, "seed {seed}: {:?}", step.call);
-            seen.add(step.call.name(), step.call.is_verdict(), step.answer);
+            let [before, after] = images.each_ref().map(|image| {
+                let mut session = step.lent;
+                let answer = step.call.by_model(&accepted(image), &mut session);
+                (answer, session)
+            });
+            assert_eq!(before, after, "seed {seed}: {:?}", step.call);
+            seen.add(step.call.name(), step.call.is_verdict(), before.0);
         });
     }
     println!("{seen:?}");

@@ -10,7 +10,7 @@ use brawnesk_tests::builder::{sample, to_image, Edition, Tree};
 use brawnesk_tests::calls::Call;
 use brawnesk_tests::compare::{one_seed, seeds};
 use brawnesk_tests::ffi::{self, Answer, SESSION};
-use brawnesk_tests::moving::{by_hand, by_model, policy, Move, MoveTally};
+use brawnesk_tests::moving::{by_hand, by_model, movable, Move, MoveTally};
 use brawnesk_tests::rng::Rng;
 use std::hint::black_box;
 
@@ -58,7 +58,8 @@ fn answers_by_hand() {
     by_hand::check(&ask);
 }
 
-/// The largest that can be moved, with each form of parents, in buffers around the length that is needed.
+/// The largest that can be moved, with each form of parents, in buffers around the length that is needed;
+/// and the same with users who hold COMPACCESS, which can't.
 #[test]
 fn the_largest_move() {
     for tree in Tree::ALL {
@@ -67,12 +68,17 @@ fn the_largest_move() {
             users: 32,
             ..Sizes::full(Edition::One)
         };
-        let image = to_image(&random_with(tree, sizes, &mut Rng::new(4)));
+        let policy = random_with(tree, sizes, &mut Rng::new(4));
+        assert!(!policy.holders().is_empty());
+        let held = to_image(&policy);
+        let image = to_image(&policy.held_by(&[]));
         // Header, 160 components, 80 blocks of labels and 16 of users.
         let needed = 111 * 512;
         for room in [0, 512, needed - 512, needed - 1, needed, needed + 1, 65_536] {
             let answer = compare(&image, &vec![7; room], &format!("{tree:?}"));
             assert_eq!(answer == Answer::Done(needed as u64), room >= needed);
+            let answer = compare(&held, &vec![7; room], &format!("{tree:?}, held"));
+            assert!(matches!(answer, Answer::Refused { number: 36, .. }));
         }
     }
 }
@@ -89,7 +95,7 @@ fn verdicts(image: &[u8], session: &[u8; SESSION], tag: u32) -> [Answer; 2] {
 fn verdicts_stay() {
     let mut unknown = 0;
     for seed in seeds(0..POLICIES) {
-        let policy = policy(Edition::One, &mut Rng::new(seed));
+        let policy = movable(&mut Rng::new(seed));
         let image = to_image(&policy);
         let mut moved = vec![0; 65_536];
         let Answer::Done(length) = ask(&image, &mut moved) else {

@@ -141,9 +141,10 @@ fn input_past_the_buffer_is_refused(edition: Edition) {
 /// One byte in the sample and the line that is then written; the first three are the request's.
 /// Block 1 holds the components, block 2 the labels and block 3 MARA.
 fn refused_images_give_one_line(edition: Edition) {
-    let (second_label, unused, write_groups) = match edition {
-        Edition::One => (4 + 24, 127, 80),
-        Edition::Two => (4 + 48, 39, 104),
+    // Bit 128 of the privileges, or COMPACCESS, which edition 2 has not.
+    let (second_label, unused, write_groups, privilege) = match edition {
+        Edition::One => (4 + 24, 127, 80, 128),
+        Edition::Two => (4 + 48, 39, 104, 4),
     };
     for (block, at, byte, line) in [
         (3, 509, 1, "refused 31\n"),
@@ -155,6 +156,7 @@ fn refused_images_give_one_line(edition: Edition) {
         (1, 4 + 8 * 40 + 34, 4, "refused 32 at block 1 record 8\n"),
         (2, second_label, 10, "refused 33 at block 2 record 1\n"),
         (3, 4 + unused, 1, "refused 34 at block 3 record 0\n"),
+        (3, 4 + 31, privilege, "refused 34 at block 3 record 0\n"),
         // Her write group is SOUTH, which isn't below NORTH.
         (3, 4 + write_groups, 8, "refused 34 at block 3 record 0\n"),
     ] {

@@ -88,10 +88,11 @@ fn a_session_without_privileges_reads_what_its_label_dominates(edition: Edition)
     }
 }
 
-/// Privileges only add: what is dominated is read. And they do add: with COMPACCESS, and with READ or
-/// FULL, rows are read that are not dominated, so that the request's "no privileges" is needed.
+/// Privileges only add: what is dominated is read. And they do add: with COMPACCESS, which edition 2 has
+/// not, and with READ or FULL, rows are read that are not dominated, so that the request's "no privileges"
+/// is needed.
 fn privileges_read_what_is_not_dominated(edition: Edition) {
-    for held in [Held::CompAccess, Held::ReadOrFull] {
+    for &held in Held::of(edition) {
         let mut tally = ReadingTally::default();
         for seed in seeds(0..POLICIES_READ / 2) {
             each_record((edition, seed), held, Program::Library, |it| {

@@ -1,4 +1,5 @@
-//! A policy image: its check, its names, label text both ways, opening a session, and the move up.
+//! A policy image: its check, its names, label text both ways, opening a session, and the moves: COMPACCESS
+//! taken from its users, and the move up.
 
 use crate::raw;
 use crate::{decode, Label, Refusal, Session, LABEL, SESSION};
@@ -151,11 +152,54 @@ impl<'a> Image<'a> {
         Ok(Session(session))
     }
 
+    /// The users of an image of edition 1 who hold COMPACCESS: their places, one byte each, rising, at the
+    /// front of the buffer; later bytes stay. 96 bytes are always enough. Refusals: 1, 2, 31 an image of
+    /// edition 2, 31 to 35, 13 they are more than the buffer has bytes.
+    ///
+    /// ```
+    /// # use brawnesk::Image;
+    /// # let bytes = std::fs::read("../../sample/cooperative.img")?;
+    /// let image = Image::new(&bytes);
+    /// assert_eq!(image.compaccess_users(&mut [0; 96])?, []);
+    /// # Ok::<(), Box<dyn std::error::Error>>(())
+    /// ```
+    pub fn compaccess_users(self, out: &mut [u8]) -> Result<&[u8], Refusal> {
+        let ((image, length), room) = (self.lent(), out.len());
+        let answer = decode(unsafe {
+            raw::brawnesk_compaccess_users(image, length, out.as_mut_ptr(), room)
+        })?;
+        Ok(&out[..answer as usize])
+    }
+
+    /// Lays an image of edition 1 down with COMPACCESS taken from the users who hold it, at the front of the
+    /// buffer, and gives its length, which is the old image's; later bytes stay. Nothing else in it changes
+    /// but the checks of these users' blocks. The new image is accepted, and sessions go on under it: who
+    /// did not hold COMPACCESS keeps every verdict, and who held it loses only what COMPACCESS alone gave.
+    /// Refusals: 1, 2, 31 an image of edition 2, 31 to 35, 13 the image is longer than the buffer.
+    ///
+    /// ```
+    /// # use brawnesk::{Image, Refusal};
+    /// # let bytes = std::fs::read("../../sample/cooperative.img")?;
+    /// let image = Image::new(&bytes);
+    /// let mut buffer = vec![0; bytes.len()];
+    /// assert_eq!(image.clear_compaccess(&mut buffer), Ok(bytes.len()));
+    /// assert_eq!(buffer, bytes); // nobody holds it in the sample
+    /// assert_eq!(image.clear_compaccess(&mut [0; 512]), Err(Refusal::Room));
+    /// # Ok::<(), std::io::Error>(())
+    /// ```
+    pub fn clear_compaccess(self, out: &mut [u8]) -> Result<usize, Refusal> {
+        let ((image, length), room) = (self.lent(), out.len());
+        let answer =
+            unsafe { raw::brawnesk_clear_compaccess(image, length, out.as_mut_ptr(), room) };
+        Ok(decode(answer)? as usize)
+    }
+
     /// Lays an image of edition 1 out in the layouts of edition 2, at the front of the buffer, and gives
     /// its length, at most 56,832; later bytes stay. The new image is accepted and has the same
     /// components, labels and users, each at the same place. Sessions and labels go on under it, and
     /// their verdicts on tags that labels carry are the same. Refusals: 1, 2, 31 an image of edition 2,
-    /// 31 to 35, 37 over 800 labels or 32 users, 13 the new image is longer than the buffer.
+    /// 31 to 35, 37 over 800 labels or 32 users, 36 COMPACCESS is held (by how many users), 13 the new
+    /// image is longer than the buffer.
     ///
     /// ```
     /// # use brawnesk::{Image, Refusal};

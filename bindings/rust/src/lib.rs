@@ -12,6 +12,7 @@
 //! | `brawnesk_read`, `brawnesk_update`, `brawnesk_masked` | [`Session::read`], [`Session::update`], [`Session::masked`] |
 //! | `brawnesk_dominates`, `brawnesk_strictly_dominates` | [`Label::dominates`], [`Label::strictly_dominates`] |
 //! | `brawnesk_merge` | [`Label::merge`] |
+//! | `brawnesk_compaccess_users`, `brawnesk_clear_compaccess` | [`Image::compaccess_users`], [`Image::clear_compaccess`] |
 //! | `brawnesk_move_up` | [`Image::move_up`] |
 //! | the inline functions that take an answer apart | [`decode`], [`Refusal::number`], [`Refusal::place`], [`Refusal::message`] |
 //!
@@ -23,14 +24,16 @@
 //! the bytes were checked.
 //!
 //! **Editions.** Every call that is lent an image takes edition 1 and edition 2; only [`Image::move_up`],
-//! which makes 2 of 1, refuses edition 2. An image of edition 1 has up to 64 groups, 1,680 labels and 96
-//! users, one of edition 2 up to 256 groups, 800 labels and 32 users.
+//! which makes 2 of 1, and the two calls on COMPACCESS before it refuse edition 2. An image of edition 1 has
+//! up to 64 groups, 1,680 labels and 96 users, one of edition 2 up to 256 groups, 800 labels and 32 users.
+//! Edition 2 does not have COMPACCESS: a user record that holds it is refused 34.
 //!
 //! **Lending.** What a call writes overlaps nothing else that is lent to it; parts that are only read may
 //! overlap each other. Nobody changes what is lent during the call. A slice's length is below 2^63. A
 //! pointer to an empty slice may not be null. A buffer that a call only writes (label out, session out,
-//! text out, rows out, image out) may be uninitialised: a call that is done writes what it reports and
-//! reads none of it. Safe Rust keeps these rules of the C functions: what a call writes is borrowed alone.
+//! text out, rows out, image out, users out) may be uninitialised: a call that is done writes what it
+//! reports and reads none of it. Safe Rust keeps these rules of the C functions: what a call writes is
+//! borrowed alone.
 //!
 //! **Sessions.** The library cannot tell who made a session's bytes. Keep sessions where the programs
 //! of users cannot write them.
@@ -51,6 +54,7 @@
 
 #![deny(missing_docs, dead_code)]
 
+mod answer;
 mod image;
 mod label;
 mod raw;
@@ -58,7 +62,8 @@ mod refusal;
 mod rows;
 mod session;
 
+pub use answer::decode;
 pub use image::{Class, Image, TEXT};
 pub use label::{Label, LABEL};
-pub use refusal::{decode, Refusal};
+pub use refusal::Refusal;
 pub use session::{Session, Verdict, SESSION};

@@ -114,6 +114,18 @@ extern "C" {
         letters_length: usize,
         merged: *mut u8,
     ) -> u64;
+    pub fn brawnesk_compaccess_users(
+        image: *const u8,
+        image_length: usize,
+        out: *mut u8,
+        out_length: usize,
+    ) -> u64;
+    pub fn brawnesk_clear_compaccess(
+        image: *const u8,
+        image_length: usize,
+        out: *mut u8,
+        out_length: usize,
+    ) -> u64;
     pub fn brawnesk_move_up(
         image: *const u8,
         image_length: usize,

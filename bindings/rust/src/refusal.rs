@@ -1,4 +1,4 @@
-//! Answers taken apart, and refusals.
+//! Refusals.
 
 use std::error::Error;
 use std::fmt::{self, Display, Formatter};
@@ -85,10 +85,12 @@ pub enum Refusal {
     },
     /// 35: the parents of a group never end; the lowest such group's place.
     ParentRing(u32),
+    /// 36: users of the image to be moved up hold COMPACCESS; how many.
+    CompaccessHolders(u32),
     /// 37: the image to be moved up has over 800 labels or 32 users.
     MoveLimits,
     /// A number that this crate does not know: it was made for another version of the library.
-    /// [`Refusal::new`] and [`decode`] give it for no number above.
+    /// [`Refusal::new`] and [`decode`](crate::decode) give it for no number above.
     Unknown {
         /// The number.
         number: u32,
@@ -126,6 +128,7 @@ impl Refusal {
             33 => Refusal::LabelRecord { block, record },
             34 => Refusal::UserRecord { block, record },
             35 => Refusal::ParentRing(place),
+            36 => Refusal::CompaccessHolders(place),
             37 => Refusal::MoveLimits,
             _ => Refusal::Unknown { number, place },
         }
@@ -141,7 +144,7 @@ impl Refusal {
         self.entry().1
     }
 
-    /// The place of a C answer, where the number has one: a block, an offset, a group, or
+    /// The place of a C answer, where the number has one: a block, an offset, a group, how many users, or
     /// block * 65,536 + record. That of an unknown number is as it came.
     pub fn place(self) -> Option<u32> {
         match self {
@@ -149,6 +152,7 @@ impl Refusal {
             | Refusal::UnknownName(place)
             | Refusal::RepeatedName(place)
             | Refusal::ParentRing(place)
+            | Refusal::CompaccessHolders(place)
             | Refusal::Unknown { place, .. } => Some(place),
             Refusal::ComponentRecord { block, record }
             | Refusal::LabelRecord { block, record }
@@ -231,6 +235,10 @@ impl Refusal {
                 35,
                 "the group's parents never end: they come back to a group that they passed",
             ),
+            Refusal::CompaccessHolders(_) => (
+                36,
+                "the image has users who hold COMPACCESS, a privilege that edition 2 does not have",
+            ),
             Refusal::MoveLimits => (
                 37,
                 "the image has over 800 labels or 32 users, more than an image of edition 2 holds",
@@ -258,6 +266,7 @@ impl Display for Refusal {
                 write!(formatter, " at block {block} record {record}")?
             }
             Refusal::ParentRing(group) => write!(formatter, " at group {group}")?,
+            Refusal::CompaccessHolders(users) => write!(formatter, " holders {users}")?,
             _ => (),
         }
         write!(formatter, ": {words}")
@@ -265,27 +274,3 @@ impl Display for Refusal {
 }
 
 impl Error for Refusal {}
-
-const REFUSED: u64 = 1 << 63;
-
-/// An answer of a C function taken apart. Below 2^63 it is the value; from there on it is
-/// 2^63 + number * 2^32 + place, and a number that this crate does not know is
-/// [`Refusal::Unknown`].
-///
-/// ```
-/// use brawnesk::{decode, Refusal};
-///
-/// assert_eq!(decode(7), Ok(7));
-/// assert_eq!(decode((1 << 63) + (2 << 32) + 126), Err(Refusal::BlockCheck(126)));
-/// assert_eq!(
-///     decode((1 << 63) + (99 << 32) + 5),
-///     Err(Refusal::Unknown { number: 99, place: 5 }),
-/// );
-/// ```
-pub fn decode(answer: u64) -> Result<u64, Refusal> {
-    if answer < REFUSED {
-        return Ok(answer);
-    }
-    let number = (answer - REFUSED) >> 32;
-    Err(Refusal::new(number as u32, answer as u32))
-}

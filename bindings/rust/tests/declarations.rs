@@ -87,7 +87,7 @@ fn source(path: &str) -> String {
 }
 
 fn exported() -> Declarations {
-    let library = source("../../crates/abi/src/lib.rt");
+    let library = source("../../crates/abi/src/lib.rt") + &source("../../crates/abi/src/moving.rt");
     declared(&library, "pub extern \"C\" fn", " -> u64", rattle_argument)
 }
 

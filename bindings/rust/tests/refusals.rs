@@ -12,7 +12,7 @@ fn refused(number: u32, place: u32) -> u64 {
 const PLACE: u32 = 3 * 65_536 + 2;
 
 /// Each number, its refusal for that place, and the begin of its line.
-const TABLE: [(u32, Refusal, &str); 24] = [
+const TABLE: [(u32, Refusal, &str); 25] = [
     (1, Refusal::ImageLength, "refused 1"),
     (2, Refusal::BlockCheck(PLACE), "refused 2 at block 196610"),
     (4, Refusal::NoUser, "refused 4"),
@@ -61,6 +61,11 @@ const TABLE: [(u32, Refusal, &str); 24] = [
         "refused 34 at block 3 record 2",
     ),
     (35, Refusal::ParentRing(PLACE), "refused 35 at group 196610"),
+    (
+        36,
+        Refusal::CompaccessHolders(PLACE),
+        "refused 36 holders 196610",
+    ),
     (37, Refusal::MoveLimits, "refused 37"),
 ];
 
@@ -92,6 +97,18 @@ fn whole_lines() {
              they passed",
         ),
         (
+            36,
+            1,
+            "refused 36 holders 1: the image has users who hold COMPACCESS, a privilege that edition \
+             2 does not have",
+        ),
+        (
+            36,
+            3,
+            "refused 36 holders 3: the image has users who hold COMPACCESS, a privilege that edition \
+             2 does not have",
+        ),
+        (
             37,
             0,
             "refused 37: the image has over 800 labels or 32 users, more than an image of edition 2 \
@@ -108,11 +125,11 @@ fn whole_lines() {
     }
 }
 
-/// Numbers 2, 6, 7 and 32 to 35 have a place, of up to 32 bits; the others have none.
+/// Numbers 2, 6, 7 and 32 to 36 have a place, of up to 32 bits; the others have none.
 #[test]
 fn places_are_data() {
     for (number, ..) in TABLE {
-        let has_place = [2, 6, 7, 32, 33, 34, 35].contains(&number);
+        let has_place = [2, 6, 7, 32, 33, 34, 35, 36].contains(&number);
         for place in [0, 1, 126, 4_095, 65_535, 65_536, PLACE, u32::MAX] {
             let refusal = decode(refused(number, place)).expect_err("refused");
             assert_eq!(refusal.number(), number);
@@ -149,7 +166,7 @@ fn values_are_below_the_refusals() {
 /// They keep their number and place.
 #[test]
 fn other_numbers_are_unknown() {
-    for number in [0, 3, 20, 30, 36, 99, (1 << 31) - 1] {
+    for number in [0, 3, 20, 30, 38, 99, (1 << 31) - 1] {
         for place in [0, 5, 65_536, u32::MAX] {
             let unknown = Refusal::Unknown { number, place };
             assert_eq!(decode(refused(number, place)), Err(unknown));

@@ -1,21 +1,24 @@
--- The place that a refusal tells fits its 32 bits, for each call on sessions, for prints and for merges. Assumes nothing.
-use Prim.Native.Nat.{ℕ}
+-- The place that a refusal tells fits its 32 bits, for each call on sessions, for prints, merges and moves. Assumes nothing.
+use Prim.Native.Nat.{ℕ, _^_, _<_}
 use mathlib.Core.Path.{_≡_, refl, subst}
 use mathlib.Core.Bool.{Bool, true, false, cond, _&&_}
 use mathlib.Core.List.{List}
 use native.Mathlib.Omega.{arith}
-use lib.Dec.{leb, ltb}
+use borrow.Author.Tests.{leb-true}
+use lib.Dec.{eqb, leb, ltb}
 use lib.ListN.{length}
 use Rattle.refusals.specs.declared.Refusal.{Refusal}
-use Rattle.refusals.specs.declared.Refusal.the-variants.{NoUser, MergeLetters, SessionRules, Room, NoComponent, ImageLayout, MoveLimits}
+use Rattle.refusals.specs.declared.Refusal.the-variants.{NoUser, MergeLetters, SessionRules, Room, NoComponent, ImageLayout, CompaccessHolders, MoveLimits}
 use Rattle.refusals.specs.declared.Refusal.the-variants.{LevelNotAllowed, CompartmentsNotAllowed, GroupsNotAllowed, RowLabelOutside}
 use Rattle.refusals.specs.declared.answers.Checked.{Checked}
 use Rattle.refusals.specs.declared.answers.Checked.the-variants.{Accepted, Refused}
 use Rattle.refusals.specs.declared.answers.Verdict.the-variants as verdict
 use Rattle.refusals.specs.Answers.{onChecked, orRefuse, verdictOf, refusalGiven, checkedGiven, verdictGiven, PlaceFits}
 use Rattle.buffers.specs.Pasting.{atFront}
+use Rattle.fields.proofs.Both.{parts}
+use Rattle.fields.proofs.PlacesWhere.{where-count}
 use Rattle.sets.specs.Sets.{within}
-use Rattle.header.specs.Layout.{users, userRecord}
+use Rattle.header.specs.Layout.{users, labels, userRecord}
 use Rattle.records.specs.Fields.{minimumLevel, maximumLevel, readCompartments}
 use Rattle.image.specs.Check.{checkOf}
 use Rattle.image.specs.Lookup.{userOfName}
@@ -38,8 +41,10 @@ use Rattle.sessions.specs.Changes.{changeIf, changeTo, afterLent, withLabel, wi
 use Rattle.sessions.specs.Asking.{mayReadOf, mayWriteOf}
 use Rattle.moves.specs.declared.answers.Moved.{Moved}
 use Rattle.moves.specs.declared.answers.Moved.the-variants as moved
-use Rattle.moves.specs.Moved.{movedUp}
-use Rattle.moves.specs.Moving.{framedTwo, oldCheckOf, moveLimitsRule, unmoved, moveUpOf}
+use Rattle.moves.specs.declared.target.Move.the-variants.{Up, Clear}
+use Rattle.moves.specs.Moved.{newImage}
+use Rattle.moves.specs.Holders.{isHolder, holders}
+use Rattle.moves.specs.Moving.{framedTwo, oldCheckOf, unmoved, writtenTo, moveLimitsRule, moveAccepted, moveUpOf, compaccessUsersOf, clearCompaccessOf}
 use Rattle.abi.specs.Labels.{printedGiven}
 use Rattle.abi.specs.Moves.{movedGiven}
 use Rattle.abi.specs.Sessions.{openedGiven}
@@ -207,19 +212,46 @@ merge-fits a b letters r e = subst (λ (m : Merging). PlaceFits (mergedGiven m))
     at false = omega arith
 
 -- ---- moves
-pub move-fits : (im buffer : List ℕ) → PlaceFits (movedGiven (moveUpOf im buffer .0))
-unfolding moveUpOf oldCheckOf
-move-fits im buffer = at (framedTwo im) (checkOf im) refl (moveLimitsRule im) (leb (length (movedUp im)) (length buffer))
+-- what is written has no place, and neither has 13
+written-fits : (buffer bytes : List ℕ) → PlaceFits (movedGiven (writtenTo buffer bytes .0))
+written-fits buffer bytes = at (leb (length bytes) (length buffer))
   where
-    taken : (s t : Bool) → PlaceFits (movedGiven (cond {A = Moved × List ℕ} s
-        (cond t (moved.Done (length (movedUp im)), atFront (movedUp im) buffer) (moved.Refused Room, buffer)) (moved.Refused MoveLimits, buffer) .0))
-    taken true true = omega arith
-    taken true false = omega arith
-    taken false t = omega arith
+    at : (t : Bool) → PlaceFits (movedGiven (cond {A = Moved × List ℕ} t (moved.Done (length bytes), atFront bytes buffer) (moved.Refused Room, buffer) .0))
+    at true = omega arith
+    at false = omega arith
 
-    at : (f : Bool) (c : Checked) → checkOf im ≡ c → (s t : Bool)
-        → PlaceFits (movedGiven (onChecked {A = Moved × List ℕ} (cond f (Refused ImageLayout) c) (unmoved buffer)
-        (cond s (cond t (moved.Done (length (movedUp im)), atFront (movedUp im) buffer) (moved.Refused Room, buffer)) (moved.Refused MoveLimits, buffer)) .0))
-    at true c e s t = omega arith
-    at false Accepted e s t = taken s t
-    at false (Refused r) e s t = image-fits im r e
+-- an answer that comes after the check of an image of edition 1
+old-fits : (im buffer : List ℕ) (answer : Moved × List ℕ) → PlaceFits (movedGiven (answer .0))
+    → PlaceFits (movedGiven (onChecked (oldCheckOf im) (unmoved buffer) answer .0))
+unfolding oldCheckOf
+old-fits im buffer answer fits = at (framedTwo im) (checkOf im) refl
+  where
+    at : (f : Bool) (c : Checked) → checkOf im ≡ c
+        → PlaceFits (movedGiven (onChecked {A = Moved × List ℕ} (cond f (Refused ImageLayout) c) (unmoved buffer) answer .0))
+    at true c e = omega arith
+    at false Accepted e = fits
+    at false (Refused r) e = image-fits im r e
+
+pub list-fits : (im buffer : List ℕ) → PlaceFits (movedGiven (compaccessUsersOf im buffer .0))
+unfolding compaccessUsersOf
+list-fits im buffer = old-fits im buffer (writtenTo buffer (holders im)) (written-fits buffer (holders im))
+
+pub clear-fits : (im buffer : List ℕ) → PlaceFits (movedGiven (clearCompaccessOf im buffer .0))
+unfolding clearCompaccessOf
+clear-fits im buffer = old-fits im buffer (writtenTo buffer (newImage Clear im)) (written-fits buffer (newImage Clear im))
+
+-- 36 tells no more than there are users
+few-holders : (im : List ℕ) → moveLimitsRule im ≡ true → length (holders im) < 2 ^ 32
+unfolding moveLimitsRule holders
+few-holders im e = omega (arith, where-count (isHolder im) (users im) 0, leb-true (users im) 32 (parts (leb (labels im) 800) (leb (users im) 32) e .1))
+
+pub move-fits : (im buffer : List ℕ) → PlaceFits (movedGiven (moveUpOf im buffer .0))
+unfolding moveUpOf
+move-fits im buffer = old-fits im buffer (moveAccepted im buffer) (at (moveLimitsRule im) refl (eqb (length (holders im)) 0))
+  where
+    at : (s : Bool) → moveLimitsRule im ≡ s → (h : Bool)
+        → PlaceFits (movedGiven (cond {A = Moved × List ℕ} s
+        (cond h (writtenTo buffer (newImage Up im)) (unmoved buffer (CompaccessHolders (length (holders im))))) (unmoved buffer MoveLimits) .0))
+    at true e true = written-fits buffer (newImage Up im)
+    at true e false = few-holders im e
+    at false e h = omega arith

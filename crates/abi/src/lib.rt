@@ -1,9 +1,10 @@
 // The C functions. Each takes the bytes apart, makes the call and lays its answer down in one number.
+pub mod moving;
+
 ghost use mathlib.Core.Path.{_≡_};
 ghost use Rattle.refusals.specs.Answers.{PlaceFits, refusalGiven, codeOf, answerOf};
 ghost use Rattle.abi.specs.Answers.{afterCheck, checkAnswer, nameSpan};
 ghost use Rattle.abi.specs.Labels.{parseAnswer, printedGiven, printAnswer};
-ghost use Rattle.abi.specs.Moves.{movedGiven, moveUpAnswer};
 ghost use Rattle.abi.specs.Sessions.{openAnswer, setLabelAnswer, setRowLabelAnswer, mayReadAnswer, mayWriteAnswer};
 ghost use Rattle.abi.specs.Tables.{rowsGiven, readAnswer, updateAnswer, maskedAnswer};
 ghost use Rattle.abi.specs.TwoLabels.{dominatesAnswer, strictlyDominatesAnswer, mergeAnswer};
@@ -15,7 +16,6 @@ use encoding::bytes48;
 use encoding::bytes104;
 use image::lookup;
 use labels::answers::Parsed;
-use moves::answers::Moved;
 use printing::answers::Printed;
 use refusals::Refusal;
 use refusals::answers::Checked;
@@ -270,23 +270,4 @@ pub extern "C" fn brawnesk_merge(
         }
         Merged::Refused(r) => refused(r),
     }
-}
-
-// The new image's length, or the refusal.
-fn moved_code(answer: Moved) -> u64
-    requires { ⌜ PlaceFits (movedGiven answer) ⌝ }
-    ensures { λ r. ⌜ r ≡ codeOf (movedGiven answer) ⌝ }
-{
-    match answer {
-        Moved::Done(n) => n as u64,
-        Moved::Refused(r) => refused(r),
-    }
-}
-
-// The edition 1 image as one of edition 2 at the front of `out`. Done: its length.
-#[no_mangle]
-pub extern "C" fn brawnesk_move_up(image: &[u8], out: &mut [u8]) -> u64
-    ensures { λ r. ⌜ (r, now (out .exit)) ≡ moveUpAnswer (now (image .entry)) (now (out .entry)) ⌝ }
-{
-    moved_code(moves::move_up(image, out))
 }

@@ -16,7 +16,8 @@ use Rattle.image.specs.Lookup.{labelOfTag}
 use Rattle.labels.specs.Label.{Marks, labelAt}
 use Rattle.labels.specs.GroupTest.{groupTest}
 use Rattle.access.specs.Rights.{Rights, rightsAt, writeCompartmentsOf, writeGroupsOf}
-use Rattle.access.specs.Verdicts.{placeOfRead, placeOfFull, readsAll, writesAll, holdsCompaccess, readLevelRule, readGroupsRule, readCompartmentsRule, compaccessReads, readTests, writeLevelRule, writeGroupsRule, writeCompartmentsRule, writeSetsRule, compaccessWrites, writeTests, readsLabel, writesLabel, knownTag, mayRead, mayWrite}
+use Rattle.records.specs.Fields.{placeOfRead, placeOfFull}
+use Rattle.access.specs.Verdicts.{readsAll, writesAll, holdsCompaccess, readLevelRule, readGroupsRule, readCompartmentsRule, compaccessReads, readTests, writeLevelRule, writeGroupsRule, writeCompartmentsRule, writeSetsRule, compaccessWrites, writeTests, readsLabel, writesLabel, knownTag, mayRead, mayWrite}
 use Rattle.access.proofs.Tests.{unknown-mono, and-mono, or-mono, cond-mono}
 
 -- the write sets lie inside the sets of reading

@@ -7,21 +7,13 @@ use Rattle.sets.specs.Sets.{has, empty, within, meets}
 use Rattle.header.specs.declared.edition.Edition.{Edition}
 use Rattle.header.specs.declared.edition.Edition.the-variants.{One, Two}
 use Rattle.header.specs.Layout.{editionOf, labels}
+use Rattle.records.specs.Fields.{placeOfRead, placeOfFull, hasCompaccess}
 use Rattle.image.specs.Lookup.{labelOfTag}
 use Rattle.labels.specs.Label.{Marks, labelAt}
 use Rattle.labels.specs.GroupTest.{groupTest}
 use Rattle.access.specs.Rights.{Rights, between, rightsAt, maximumReadLabel}
 
--- ---- privileges: bits 1, 2 and 4 of the record's byte are places 0, 1 and 2 of it as a set
-abbrev pub placeOfRead : ℕ
-placeOfRead = 0
-
-abbrev pub placeOfFull : ℕ
-placeOfFull = 1
-
-abbrev pub placeOfCompaccess : ℕ
-placeOfCompaccess = 2
-
+-- ---- privileges
 -- READ and FULL see rows of every label
 unfoldable pub readsAll : Rights → Bool
 readsAll rights = has (rights .privileges) placeOfRead || has (rights .privileges) placeOfFull
@@ -31,7 +23,7 @@ unfoldable pub writesAll : Rights → Bool
 writesAll rights = has (rights .privileges) placeOfFull
 
 unfoldable pub holdsCompaccess : Rights → Bool
-holdsCompaccess rights = has (rights .privileges) placeOfCompaccess
+holdsCompaccess rights = hasCompaccess (rights .privileges)
 
 -- ---- reading
 -- row level ≤ session level

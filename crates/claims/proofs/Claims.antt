@@ -1,12 +1,13 @@
 -- The main theorems of the library, each stated in full over definitions of specs (and `EveryRule`, which says the image's rules in places,
--- `withCompaccess`, and `MovedBy`, which says what a move keeps), and proved by citing where it is proved. A reader who wants to know what
+-- `withCompaccess`, and `MovedBy` and `ClearedBy`, which say what a move keeps), and proved by citing where it is proved. A reader who wants to know what
 -- is claimed can begin here. Assumes nothing.
-use Prim.Native.Nat.{ℕ, _≤_, _<_}
+use Prim.Native.Nat.{ℕ, suc, _≤_, _<_}
 use mathlib.Core.Path.{_≡_, refl, sym, _∙_}
 use mathlib.Core.Bool.{true, false}
-use mathlib.Core.List.{List, map, flatten}
+use mathlib.Core.List.{List, [], map, flatten}
 use mathlib.Core.Logic.{_↔_, _⊎_}
-use lib.ListN.{length}
+use lib.ListN.{length, getD}
+use Rattle.fields.specs.Bytes.{byteAt}
 use Rattle.buffers.specs.Pasting.{atFront}
 use Rattle.sets.specs.Sets.{has}
 use Rattle.header.specs.declared.layout.Kind.{Kind}
@@ -16,7 +17,7 @@ use Rattle.hierarchy.specs.Below.{Above, below}
 use Rattle.hierarchy.proofs.Under.{below-true, below-above, above-below}
 use Rattle.refusals.specs.declared.answers.Checked.the-variants.{Accepted, Refused}
 use Rattle.refusals.specs.declared.answers.Verdict.the-variants.{Yes, No}
-use Rattle.refusals.specs.declared.Refusal.the-variants.{ImageLayout, ParentRing, MoveLimits}
+use Rattle.refusals.specs.declared.Refusal.the-variants.{ImageLayout, ParentRing, CompaccessHolders, MoveLimits}
 use Rattle.image.specs.declared.faults.Fault.{Fault}
 use Rattle.image.specs.declared.faults.Fault.the-variants.{Sound}
 use Rattle.image.specs.Faults.{keyOf, keyBefore, lowest, Among, faultsOf}
@@ -50,9 +51,13 @@ use Rattle.sessions.proofs.Existing.{session-labels-exist}
 use Rattle.sessions.proofs.Passing as passing
 use Rattle.sessions.proofs.Bounded as bounded
 use Rattle.moves.specs.declared.answers.Moved.the-variants as moved
-use Rattle.moves.specs.Moved.{movedUp}
-use Rattle.moves.specs.Moving.{moveUpOf}
+use Rattle.moves.specs.declared.target.Move.the-variants.{Up, Clear}
+use Rattle.moves.specs.Moved.{newImage}
+use Rattle.moves.specs.Holders.{isHolder, holders}
+use Rattle.moves.specs.Moving.{moveUpOf, compaccessUsersOf, clearCompaccessOf}
 use Rattle.moves.proofs.KeptByMove.{MovedBy, unknown-unread, unknown-unwritten, moved-by-call}
+use Rattle.moves.proofs.ClearedBytes.{cleared-none}
+use Rattle.moves.proofs.KeptByClearing.{ClearedBy, cleared-by-call}
 use Rattle.encoding.specs.Sessions.{sessionBytes, Holds}
 use Rattle.encoding.proofs.ReadBack.{bytes-hold}
 use Rattle.abi.proofs.Widths.{lent-widths}
@@ -193,19 +198,57 @@ compaccess-adds im rights tag = (compaccess-reads rights im tag, compaccess-writ
 pub move-up-keeps : (im buffer after : List ℕ) (n : ℕ) → moveUpOf im buffer ≡ (moved.Done n, after) → MovedBy im buffer after n
 move-up-keeps = moved-by-call
 
--- An accepted image of edition 1 is moved if edition 2 has room for its labels and users and the buffer for the new image, for which 65,536 bytes are
--- always enough; if edition 2 has no room, that is 37, before any look at the buffer.
-pub move-up-done : (im buffer : List ℕ) → IsAccepted im → editionOf im ≡ One → labels im ≤ 800 → users im ≤ 32 → 65536 ≤ length buffer
-    → moveUpOf im buffer ≡ (moved.Done (length (movedUp im)), atFront (movedUp im) buffer)
+-- An accepted image of edition 1 is moved if edition 2 has room for its labels and users, nobody holds COMPACCESS and the buffer has room for the new
+-- image, for which 65,536 bytes are always enough. If edition 2 has no room, that is 37; then, if somebody holds COMPACCESS, 36 with how many do; both
+-- before any look at the buffer.
+pub move-up-done : (im buffer : List ℕ) → IsAccepted im → editionOf im ≡ One → labels im ≤ 800 → users im ≤ 32 → holders im ≡ []
+    → 65536 ≤ length buffer → moveUpOf im buffer ≡ (moved.Done (length (newImage Up im)), atFront (newImage Up im) buffer)
 move-up-done = moves.done-if-few
 
 pub move-up-limited : (im buffer : List ℕ) → IsAccepted im → editionOf im ≡ One → (800 < labels im) ⊎ (32 < users im)
     → moveUpOf im buffer ≡ (moved.Refused MoveLimits, buffer)
 move-up-limited = moves.limited-if-many
 
--- An image of edition 2 that neither 1 nor 2 refuses is given 31, whatever else is wrong with it.
-pub moved-once : (im buffer : List ℕ) → Framed im → editionOf im ≡ Two → moveUpOf im buffer ≡ (moved.Refused ImageLayout, buffer)
+pub move-up-held : (im buffer : List ℕ) → IsAccepted im → editionOf im ≡ One → labels im ≤ 800 → users im ≤ 32 → (length (holders im) ≡ 0 → ⊥)
+    → moveUpOf im buffer ≡ (moved.Refused (CompaccessHolders (length (holders im))), buffer)
+move-up-held = moves.held-if-some
+
+-- An image of edition 2 that neither 1 nor 2 refuses is given 31 by the move up, the list and the clearing move, whatever else is wrong with it.
+pub moved-once : (im buffer : List ℕ) → Framed im → editionOf im ≡ Two
+    → (moveUpOf im buffer ≡ (moved.Refused ImageLayout, buffer))
+    × ((compaccessUsersOf im buffer ≡ (moved.Refused ImageLayout, buffer)) × (clearCompaccessOf im buffer ≡ (moved.Refused ImageLayout, buffer)))
 moved-once = moves.framed-once
+
+-- ---- COMPACCESS
+-- Listed are just the users who hold it, each once, by rising places; in an accepted image of edition 2 there is none.
+pub holders-listed : (im : List ℕ) (u : ℕ)
+    → ((j : ℕ) × ((j < length (holders im)) × (getD (holders im) j 0 ≡ u))) ↔ ((u < users im) × (isHolder im u ≡ true))
+holders-listed = moves.listed-exactly
+
+pub holders-rise : (im : List ℕ) (j : ℕ) → suc j < length (holders im) → getD (holders im) j 0 < getD (holders im) (suc j) 0
+holders-rise = moves.listed-rising
+
+pub two-nobody : (im : List ℕ) → IsAccepted im → editionOf im ≡ Two → holders im ≡ []
+two-nobody = moves.two-nobody
+
+pub list-done : (im buffer : List ℕ) → IsAccepted im → editionOf im ≡ One → length (holders im) ≤ length buffer
+    → compaccessUsersOf im buffer ≡ (moved.Done (length (holders im)), atFront (holders im) buffer)
+list-done = moves.list-done
+
+-- Where the clearing move is done, the front of the buffer is an image, of the length that is told, and later bytes stay as they were. The image is
+-- accepted; nobody in it holds COMPACCESS, so that a move up is not refused 36; each byte outside the privileges of those who held it and the checks of
+-- their blocks is the old one; the same sessions open and are accepted; users without the bit keep every verdict, and the others lose none but what
+-- COMPACCESS gave.
+pub clear-keeps : (im buffer after : List ℕ) (n : ℕ) → clearCompaccessOf im buffer ≡ (moved.Done n, after) → ClearedBy im buffer after n
+clear-keeps = cleared-by-call
+
+-- It is done for every accepted image of edition 1 that the buffer has room for; where nobody holds COMPACCESS it writes the image as it is.
+pub clear-done : (im buffer : List ℕ) → IsAccepted im → editionOf im ≡ One → length im ≤ length buffer
+    → clearCompaccessOf im buffer ≡ (moved.Done (length im), atFront (newImage Clear im) buffer)
+clear-done = moves.clear-done
+
+pub clear-nobody : (im : List ℕ) → IsAccepted im → editionOf im ≡ One → ((i : ℕ) → byteAt im i < 256) → holders im ≡ [] → newImage Clear im ≡ im
+clear-nobody = cleared-none
 
 -- ---- the sample co-operative: each of the 16 cases P1 to P16 gives what document 01 says
 pub sample-cases : (length proved ≡ 16) × (map asked proved ≡ map (λ (c : Case). c .expected) proved)

@@ -6,10 +6,9 @@ use mathlib.Core.Bool.{false}
 use mathlib.Core.List.{List}
 use Rattle.sets.specs.Sets.{has}
 use Rattle.header.specs.Layout.{userRecord}
-use Rattle.records.specs.Fields.{privileges}
-use Rattle.access.specs.Verdicts.{placeOfRead, placeOfFull, placeOfCompaccess}
+use Rattle.records.specs.Fields.{privileges, placeOfRead, placeOfFull, hasCompaccess}
 
 pub record NoPrivileges (im : List ℕ) (u : ℕ) : Type 0 where
   pub read : has (privileges (userRecord im u)) placeOfRead ≡ false
   pub full : has (privileges (userRecord im u)) placeOfFull ≡ false
-  pub compaccess : has (privileges (userRecord im u)) placeOfCompaccess ≡ false
+  pub compaccess : hasCompaccess (privileges (userRecord im u)) ≡ false

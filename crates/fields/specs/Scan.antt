@@ -21,3 +21,8 @@ firstWhere test = firstBad (λ i. not (test i))
 unfoldable pub listFrom : {A : Type 0} → (ℕ → A) → ℕ → ℕ → List A
 listFrom f zero k = []
 listFrom f (suc n) k = f k ∷ listFrom f n (suc k)
+
+-- those of the n places from k on at which the test holds, in order
+unfoldable pub placesWhere : (ℕ → Bool) → ℕ → ℕ → List ℕ
+placesWhere test zero k = []
+placesWhere test (suc n) k = let rest = placesWhere test n (suc k) in cond (test k) (k ∷ rest) rest

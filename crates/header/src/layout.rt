@@ -144,7 +144,7 @@ pub fn size(edition: Edition, kind: Kind) -> usize
 }
 
 // How many records a block holds.
-fn capacity(edition: Edition, kind: Kind) -> usize
+pub fn capacity(edition: Edition, kind: Kind) -> usize
     ensures { λ r. ⌜ (r ≡ capacityOf edition kind) × ((1 ≤ r) × (r ≤ 21)) ⌝ }
 {
     match kind {

@@ -88,9 +88,13 @@ groupText = 32 ∷ 97 ∷ 116 ∷ 32 ∷ 103 ∷ 114 ∷ 111 ∷ 117 ∷ 112 ∷
 abbrev pub offsetText : List ℕ
 offsetText = 32 ∷ 97 ∷ 116 ∷ 32 ∷ 111 ∷ 102 ∷ 102 ∷ 115 ∷ 101 ∷ 116 ∷ 32 ∷ []
 
--- what stands before the one value of a number: with 2 it is a block, with 35 a group, with the others an offset
+-- ` holders `, for 36, which no image is refused with by itself
+abbrev pub holdersText : List ℕ
+holdersText = 32 ∷ 104 ∷ 111 ∷ 108 ∷ 100 ∷ 101 ∷ 114 ∷ 115 ∷ 32 ∷ []
+
+-- what stands before the one value of a number: with 2 it is a block, with 35 a group, with 36 a number of users, with the others an offset
 abbrev pub valueText : ℕ → List ℕ
-valueText number = cond (eqb number 2) blockText (cond (eqb number 35) groupText offsetText)
+valueText number = cond (eqb number 2) blockText (cond (eqb number 35) groupText (cond (eqb number 36) holdersText offsetText))
 
 -- the values returned with the number; two are a block and a record
 abbrev pub placeText : ℕ → List ℕ → List ℕ

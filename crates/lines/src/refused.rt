@@ -50,6 +50,7 @@ fn put_place(refusal: Refusal, buffer: &mut [u8], at: usize) -> usize
         Refusal::ParentRing(g) => put_value(b" at group ", g, buffer, at),
         Refusal::UnknownName(n) => put_value(b" at offset ", n, buffer, at),
         Refusal::RepeatedName(n) => put_value(b" at offset ", n, buffer, at),
+        Refusal::CompaccessHolders(n) => put_value(b" holders ", n, buffer, at),
         _ => at,
     }
 }

@@ -1,6 +1,8 @@
 -- Laws that several proofs use, and what the crates above may cite.
 pub mod Fronts
 pub mod RecordsAlike
+pub mod ClearedAlike
+pub mod Alike
 pub mod NewImage
 pub mod HoldsSame
 pub mod SameGroups
@@ -11,3 +13,8 @@ pub mod MovedAccepted
 pub mod OldAccepted
 pub mod KeptByMove
 pub mod Steps
+pub mod FrontWritten
+pub mod SameBytes
+pub mod ClearedBytes
+pub mod LessPrivileges
+pub mod KeptByClearing

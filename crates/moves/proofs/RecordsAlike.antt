@@ -23,8 +23,15 @@ use Rattle.records.specs.Fields.{readGroups, writeGroups, defaultGroups, rowGro
 use Rattle.writing.specs.Laid.{bytes2, zeros}
 use Rattle.writing.proofs.Sealed.{part-first, padded-byte, zeros-length}
 use Rattle.writing.proofs.HeaderFields.{bytes2-number}
-use Rattle.moves.specs.Moved.{wideParent, wideSet, upComponent, upLabel, upUser, upRecord}
+use Rattle.moves.specs.declared.target.Move.{Move}
+use Rattle.moves.specs.declared.target.Move.the-variants.{Up, Clear}
+use Rattle.moves.specs.Moved.{wideParent, wideSet, upComponent, upLabel, upUser, upRecord, withoutCompaccess}
 use Rattle.moves.proofs.Fronts.{part-next, number2-part, same-part, same-byte, same-number2, same-number4, same-number8, wide-length, wide-groups}
+
+-- a user's privileges after a move
+abbrev pub heldAfter : Move → ℕ → ℕ
+heldAfter Up held = held
+heldAfter Clear held = withoutCompaccess held
 
 -- ---- the same in two records, the old one of edition e and the new one of edition f
 -- class, the field of the name (so the name), numeric form; and the parent's place, or none as the edition has it
@@ -40,10 +47,10 @@ pub record LabelAlike (e f : Edition) (old new : List ℕ) : Type 0 where
   pub compartments : labelCompartments new ≡ labelCompartments old
   pub groups : labelGroups f new ≡ labelGroups e old
 
--- the field of the name (so the name), privileges, the four levels, the four sets of compartments and the four of groups
-pub record UserAlike (e f : Edition) (old new : List ℕ) : Type 0 where
+-- the field of the name (so the name), privileges as the move leaves them, the four levels, the four sets of compartments and the four of groups
+pub record UserAlike (change : ℕ → ℕ) (e f : Edition) (old new : List ℕ) : Type 0 where
   pub name : userNameField new ≡ userNameField old
-  pub held : privileges new ≡ privileges old
+  pub held : privileges new ≡ change (privileges old)
   pub levelMaximum : maximumLevel new ≡ maximumLevel old
   pub levelMinimum : minimumLevel new ≡ minimumLevel old
   pub levelDefault : defaultLevel new ≡ defaultLevel old
@@ -199,7 +206,7 @@ module _ (rec : List ℕ) (long : length rec ≡ recordSize One User) where
   byte-kept : (i : ℕ) → i < 72 → byteAt (upUser rec) (0 + i) ≡ byteAt rec (0 + i)
   byte-kept i h = same-byte (upUser rec) rec 0 0 72 user-front i h
 
-  pub user-alike : UserAlike One Two rec (upUser rec)
+  pub user-alike : UserAlike (heldAfter Up) One Two rec (upUser rec)
   user-alike =
       record {
         name = same-part (upUser rec) rec 0 0 72 user-front 0 31 (omega arith);

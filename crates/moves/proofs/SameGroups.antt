@@ -17,7 +17,7 @@ unfolding collect
 collect-same f g zero h = refl
 collect-same f g (suc n) h = rw (h n (omega arith), collect-same f g n (λ p l. h p (omega arith)))
 
-module _ (im new : List ℕ) (same : HoldsTheSame im new) where
+module _ {change : ℕ → ℕ} (im new : List ℕ) (same : HoldsTheSame change im new) where
   -- ---- following parents
   ends-within : (n g : ℕ) → g < groups im → endsWithin new n g ≡ endsWithin im n g
   unfolding endsWithin

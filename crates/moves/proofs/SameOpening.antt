@@ -17,7 +17,7 @@ use Rattle.refusals.specs.declared.Refusal.the-variants.{NoUser}
 use Rattle.sessions.specs.Opening.{Opening, session, refused, defaultLabel, defaultRowLabel, defaultSession, openAccepted, openOf}
 use Rattle.moves.proofs.HoldsSame.{HoldsTheSame}
 
-module _ (im new : List ℕ) (same : HoldsTheSame im new) where
+module _ {change : ℕ → ℕ} (im new : List ℕ) (same : HoldsTheSame change im new) where
   -- a name is that of the same user
   pub name-alike : (name : List ℕ) → userOfName new name ≡ userOfName im name
   unfolding userOfName

@@ -1,4 +1,4 @@
--- Laws of the loops and the calls that write an image in edition 2's layouts. Assumes nothing.
+-- Laws of the loops and the calls that write the image of a move. Assumes nothing.
 use Prim.Native.Nat.{ℕ, suc, _+_, _-_, _*_, _/_, _≤_, _<_, min}
 use mathlib.Core.Path.{_≡_, refl, sym, ap, ap₂, _∙_, subst}
 use mathlib.Core.Bool.{Bool, true, false}
@@ -12,21 +12,22 @@ use lib.ListN.{length, take, drop, length-append, length-take, length-drop, drop
 use lib.Seq.{take-all, drop-cons, drop-drop}
 use Rattle.fields.specs.Bytes.{part}
 use Rattle.fields.proofs.Laws.{part-length}
-use Rattle.header.specs.declared.edition.Edition.the-variants.{One, Two}
+use Rattle.header.specs.declared.edition.Edition.the-variants.{One}
 use Rattle.header.specs.declared.layout.Kind.{Kind}
 use Rattle.header.specs.declared.layout.Kind.the-variants.{Component, Label, User}
-use Rattle.header.specs.Layout.{levels, compartments, groups, users, labels}
-use Rattle.header.specs.Layout.{editionOf, countOf, kindByte, recordSize, capacityOf, blocksFor, Fitted, recordAt}
+use Rattle.header.specs.Layout.{users, labels}
+use Rattle.header.specs.Layout.{editionOf, countOf, kindByte, recordSize, blocksFor, Fitted, recordAt}
 use Rattle.header.proofs.Editions.{kind-roomy}
 use Rattle.buffers.specs.Pasting.{Written}
 use Rattle.buffers.proofs.Left.{written-long, written-then}
-use Rattle.writing.specs.Laid.{bytes2, headOf, blockOf, Sized, kindBlocks, countsFrom, imageOf}
+use Rattle.writing.specs.Laid.{bytes2, headOf, blockOf, Sized, kindBlocks, imageOf}
 use Rattle.writing.proofs.Packed.{sized-take, sized-drop, used-fits, block-length, kind-length}
 use Rattle.writing.proofs.Placed.{room-for-records, header-length, image-length}
-use Rattle.moves.specs.Moved.{wideSet, upRecord, upRecords, movedUp}
-use Rattle.moves.specs.Parts.{upHeader, upRun, upBlocks, upKind}
+use Rattle.moves.specs.declared.target.Move.{Move}
+use Rattle.moves.specs.Moved.{wideSet, editionAfter, newRecord, newRecords, newCounts, newImage}
+use Rattle.moves.specs.Parts.{newHeader, newRun, newCapacity, newBlocks, newKind}
 use Rattle.moves.proofs.Fronts.{wide-length}
-use Rattle.moves.proofs.NewImage.{up-count, up-record, up-fits}
+use Rattle.moves.proofs.NewImage.{new-count, new-record, new-fits}
 
 -- ---- a record
 -- a list and then a set
@@ -124,95 +125,95 @@ pub written-same : {b : List ℕ} {e : ℕ} {x y mid : List ℕ} {r : ℕ} → x
 written-same {b} {e} {x} {y} {mid} {r} d w = subst (λ (t : List ℕ). Written b e t mid r) d w
 
 -- ---- the records of a kind
-module _ (im : List ℕ) (kind : Kind) where
+module _ (which : Move) (im : List ℕ) (kind : Kind) where
   -- ---- those from `from` up to `to`, as a loop writes them
-  pub run-count : (from to : ℕ) → from ≤ to → to ≤ countOf im kind → length (upRun im kind from to) ≡ to - from
-  run-count from to low high = simp (length-take, length-drop) (omega (arith, up-count im kind))
+  pub run-count : (from to : ℕ) → from ≤ to → to ≤ countOf im kind → length (newRun which im kind from to) ≡ to - from
+  run-count from to low high = simp (length-take, length-drop) (omega (arith, new-count which im kind))
 
   pub run-step : (from to : ℕ) → from < to → to ≤ countOf im kind
-      → flatten (upRun im kind from to) ≡ upRecord kind (recordAt im kind from) ++ flatten (upRun im kind (from + 1) to)
+      → flatten (newRun which im kind from to) ≡ newRecord which kind (recordAt im kind from) ++ flatten (newRun which im kind (from + 1) to)
   unfolding flatten
   run-step from to low high =
       let one : to - from ≡ suc (to - (from + 1)) = omega arith in
-      rw (one, drop-cons (upRecords im kind) from [] (omega (arith, up-count im kind)), up-record im kind from (omega arith), add-one)
+      rw (one, drop-cons (newRecords which im kind) from [] (omega (arith, new-count which im kind)), new-record which im kind from (omega arith), add-one)
 
-  pub run-end : (from to : ℕ) → to ≤ from → flatten (upRun im kind from to) ≡ []
+  pub run-end : (from to : ℕ) → to ≤ from → flatten (newRun which im kind from to) ≡ []
   unfolding flatten
   run-end from to h = let none : to - from ≡ 0 = omega arith in rw none
 
   -- ---- the blocks from place b on, with the records from `from` on
   abbrev pub blocksLeft : ℕ → ℕ → List ℕ
   blocksLeft from b =
-      kindBlocks (kindByte kind) (capacityOf Two kind) (blocksFor (capacityOf Two kind) (countOf im kind - from)) b (drop from (upRecords im kind))
+      kindBlocks (kindByte kind) (newCapacity which kind) (blocksFor (newCapacity which kind) (countOf im kind - from)) b (drop from (newRecords which im kind))
 
-  pub kind-start : (place : ℕ) → blocksLeft 0 place ≡ upKind im kind place
+  pub kind-start : (place : ℕ) → blocksLeft 0 place ≡ newKind which im kind place
   kind-start place = rw sub-zero
 
-  pub kind-step : (from b to : ℕ) → from < countOf im kind → to ≡ min (countOf im kind) (from + capacityOf Two kind)
-      → blocksLeft from b ≡ blockOf (kindByte kind) b (upRun im kind from to) ++ blocksLeft to (b + 1)
+  pub kind-step : (from b to : ℕ) → from < countOf im kind → to ≡ min (countOf im kind) (from + newCapacity which kind)
+      → blocksLeft from b ≡ blockOf (kindByte kind) b (newRun which im kind from to) ++ blocksLeft to (b + 1)
   unfolding kindBlocks
   kind-step from b to h e =
-      let c = capacityOf Two kind in
-      let some = kind-roomy Two kind 0 0 .some in
-      let upto : to ≡ min (length (upRecords im kind)) (from + c) = rw (up-count im kind) e in
+      let c = newCapacity which kind in
+      let some = kind-roomy (editionAfter which) kind 0 0 .some in
+      let upto : to ≡ min (length (newRecords which im kind)) (from + c) = rw (new-count which im kind) e in
       let left : countOf im kind - from - c ≡ countOf im kind - to = omega arith in
       let more : blocksFor c (countOf im kind - from) ≡ suc (blocksFor c (countOf im kind - to)) =
       blocks-step c (countOf im kind - from) some (omega arith) ∙ ap (λ (n : ℕ). suc (blocksFor c n)) left in
-      rw (more, take-upto (upRecords im kind) c from to upto, drop-upto (upRecords im kind) c from to upto, add-one)
+      rw (more, take-upto (newRecords which im kind) c from to upto, drop-upto (newRecords which im kind) c from to upto, add-one)
 
   pub kind-end : (from b : ℕ) → countOf im kind ≤ from → blocksLeft from b ≡ []
   unfolding kindBlocks
   kind-end from b h =
       let none : countOf im kind - from ≡ 0 = omega arith in
-      rw (none, no-blocks (capacityOf Two kind) (kind-roomy Two kind 0 0 .some))
+      rw (none, no-blocks (newCapacity which kind) (kind-roomy (editionAfter which) kind 0 0 .some))
 
   -- ---- lengths
   module _ (fit : Fitted im) (one : editionOf im ≡ One) where
     abbrev size : ℕ
-    size = recordSize Two kind
+    size = recordSize (editionAfter which) kind
 
-    abbrev room : 4 + recordSize Two kind * capacityOf Two kind ≤ 510
-    room = room-for-records Two kind
+    abbrev room : 4 + recordSize (editionAfter which) kind * newCapacity which kind ≤ 510
+    room = room-for-records (editionAfter which) kind
 
-    pub up-long : (i : ℕ) → i < countOf im kind → length (upRecord kind (recordAt im kind i)) ≡ size
-    up-long i h = sym (ap length (up-record im kind i h)) ∙ up-fits im fit one .sizes kind i (omega (arith, up-count im kind))
+    pub new-long : (i : ℕ) → i < countOf im kind → length (newRecord which kind (recordAt im kind i)) ≡ size
+    new-long i h = sym (ap length (new-record which im kind i h)) ∙ new-fits which im fit one .sizes kind i (omega (arith, new-count which im kind))
 
-    pub kind-long : (place : ℕ) → length (upKind im kind place) ≡ 512 * upBlocks im kind
+    pub kind-long : (place : ℕ) → length (newKind which im kind place) ≡ 512 * newBlocks which im kind
     kind-long place =
-        kind-length (kindByte kind) size (capacityOf Two kind) room (upBlocks im kind) place (upRecords im kind)
-        (up-fits im fit one .sizes kind)
+        kind-length (kindByte kind) size (newCapacity which kind) room (newBlocks which im kind) place (newRecords which im kind)
+        (new-fits which im fit one .sizes kind)
 
-    module _ (from to : ℕ) (low : from ≤ to) (high : to ≤ countOf im kind) (few : to ≤ from + capacityOf Two kind) where
-      run-sized : Sized size (upRun im kind from to)
-      run-sized = sized-take size (to - from) (drop from (upRecords im kind)) (sized-drop size from (upRecords im kind) (up-fits im fit one .sizes kind))
+    module _ (from to : ℕ) (low : from ≤ to) (high : to ≤ countOf im kind) (few : to ≤ from + newCapacity which kind) where
+      run-sized : Sized size (newRun which im kind from to)
+      run-sized = sized-take size (to - from) (drop from (newRecords which im kind)) (sized-drop size from (newRecords which im kind) (new-fits which im fit one .sizes kind))
 
-      run-few : length (upRun im kind from to) ≤ capacityOf Two kind
+      run-few : length (newRun which im kind from to) ≤ newCapacity which kind
       run-few = omega (arith, run-count from to low high)
 
       -- a block's used bytes
-      pub run-used : (place : ℕ) → length (headOf (kindByte kind) (length (upRun im kind from to)) place ++ flatten (upRun im kind from to)) ≤ 510
-      run-used place = used-fits (kindByte kind) size (capacityOf Two kind) room place (upRun im kind from to) run-sized run-few
+      pub run-used : (place : ℕ) → length (headOf (kindByte kind) (length (newRun which im kind from to)) place ++ flatten (newRun which im kind from to)) ≤ 510
+      run-used place = used-fits (kindByte kind) size (newCapacity which kind) room place (newRun which im kind from to) run-sized run-few
 
-      pub run-fits : length (flatten (upRun im kind from to)) ≤ 506
+      pub run-fits : length (flatten (newRun which im kind from to)) ≤ 506
       run-fits = omega (arith, run-used 0)
 
-      pub block-long : (place : ℕ) → length (blockOf (kindByte kind) place (upRun im kind from to)) ≡ 512
-      block-long place = block-length (kindByte kind) size (capacityOf Two kind) room place (upRun im kind from to) run-sized run-few
+      pub block-long : (place : ℕ) → length (blockOf (kindByte kind) place (newRun which im kind from to)) ≡ 512
+      block-long place = block-length (kindByte kind) size (newCapacity which kind) room place (newRun which im kind from to) run-sized run-few
 
 -- ---- the image
-module _ (im : List ℕ) where
-  pub moved-parts : movedUp im
-      ≡ upHeader im ++ upKind im Component 1 ++ upKind im Label (1 + upBlocks im Component)
-      ++ upKind im User (1 + upBlocks im Component + upBlocks im Label)
-  unfolding movedUp imageOf
-  moved-parts = rw (up-count im Component, up-count im Label, up-count im User)
+module _ (which : Move) (im : List ℕ) where
+  pub moved-parts : newImage which im
+      ≡ newHeader which im ++ newKind which im Component 1 ++ newKind which im Label (1 + newBlocks which im Component)
+      ++ newKind which im User (1 + newBlocks which im Component + newBlocks which im Label)
+  unfolding newImage imageOf
+  moved-parts = rw (new-count which im Component, new-count which im Label, new-count which im User)
 
-  pub header-long : length (upHeader im) ≡ 512
-  header-long = header-length (countsFrom Two (levels im) (compartments im) (groups im)) (users im) (labels im)
+  pub header-long : length (newHeader which im) ≡ 512
+  header-long = header-length (newCounts which im) (users im) (labels im)
 
   module _ (fit : Fitted im) (one : editionOf im ≡ One) where
-    pub moved-length : length (movedUp im) ≡ 512 * (1 + upBlocks im Component + upBlocks im Label + upBlocks im User)
-    unfolding movedUp
+    pub moved-length : length (newImage which im) ≡ 512 * (1 + newBlocks which im Component + newBlocks which im Label + newBlocks which im User)
+    unfolding newImage
     moved-length =
-        image-length (countsFrom Two (levels im) (compartments im) (groups im)) (upRecords im) (up-fits im fit one .sizes)
-        ∙ rw (up-count im Component, up-count im Label, up-count im User)
+        image-length (newCounts which im) (newRecords which im) (new-fits which im fit one .sizes)
+        ∙ rw (new-count which im Component, new-count which im Label, new-count which im User)

@@ -1,17 +1,23 @@
--- The move up: an accepted image of edition 1 in the layouts of edition 2. Tags, names, numeric forms, places and privileges stay.
+-- What the two moves make of an accepted image of edition 1. The move up: the image in the layouts of edition 2; tags, names, numeric forms, places and
+-- privileges stay. The clearing move: the image in edition 1, without COMPACCESS; all else stays.
 use Prim.Native.Nat.{ℕ}
 use mathlib.Core.Bool.{cond}
-use mathlib.Core.List.{List, _++_, map}
+use mathlib.Core.List.{List, _∷_, _++_, map}
 use lib.Dec.{eqb}
+use lib.ListN.{drop}
 use Rattle.fields.specs.Bytes.{part}
+use Rattle.sets.specs.Sets.{one, difference}
+use Rattle.header.specs.declared.edition.Edition.{Edition}
 use Rattle.header.specs.declared.edition.Edition.the-variants.{One, Two}
 use Rattle.header.specs.declared.layout.Kind.{Kind}
 use Rattle.header.specs.declared.layout.Kind.the-variants.{Component, Label, User}
-use Rattle.header.specs.Layout.{levels, compartments, groups, recordsOf}
-use Rattle.records.specs.Fields.{parentOf, noParent}
+use Rattle.header.specs.Layout.{levels, compartments, groups, Counts, recordsOf}
+use Rattle.records.specs.Fields.{parentOf, noParent, privileges, placeOfCompaccess}
 use Rattle.writing.specs.Laid.{bytes2, zeros, countsFrom, imageOf}
+use Rattle.moves.specs.declared.target.Move.{Move}
+use Rattle.moves.specs.declared.target.Move.the-variants.{Up, Clear}
 
--- ---- the records
+-- ---- the move up: the records
 -- a parent's place, or none as edition 2 has it
 abbrev pub wideParent : ℕ → ℕ
 wideParent parent = cond (eqb parent (noParent One)) (noParent Two) parent
@@ -37,9 +43,36 @@ upRecord Component = upComponent
 upRecord Label = upLabel
 upRecord User = upUser
 
--- ---- the image
-abbrev pub upRecords : List ℕ → Kind → List (List ℕ)
-upRecords im kind = map (upRecord kind) (recordsOf im kind)
+-- ---- the clearing move: the records
+-- a user's privileges without COMPACCESS
+unfoldable pub withoutCompaccess : ℕ → ℕ
+withoutCompaccess held = difference held (one placeOfCompaccess)
 
-unfoldable pub movedUp : List ℕ → List ℕ
-movedUp im = imageOf (countsFrom Two (levels im) (compartments im) (groups im)) (upRecords im)
+-- every byte as it was but for the privileges
+unfoldable pub clearUser : List ℕ → List ℕ
+clearUser rec = part rec 0 31 ++ withoutCompaccess (privileges rec) ∷ drop 32 rec
+
+abbrev pub clearRecord : Kind → List ℕ → List ℕ
+clearRecord Component rec = rec
+clearRecord Label rec = rec
+clearRecord User rec = clearUser rec
+
+-- ---- either move
+-- the edition of what it writes
+abbrev pub editionAfter : Move → Edition
+editionAfter Up = Two
+editionAfter Clear = One
+
+abbrev pub newRecord : Move → Kind → List ℕ → List ℕ
+newRecord Up = upRecord
+newRecord Clear = clearRecord
+
+abbrev pub newRecords : Move → List ℕ → Kind → List (List ℕ)
+newRecords move im kind = map (newRecord move kind) (recordsOf im kind)
+
+-- as many levels, compartments and groups as there were
+abbrev pub newCounts : Move → List ℕ → Counts
+newCounts move im = countsFrom (editionAfter move) (levels im) (compartments im) (groups im)
+
+unfoldable pub newImage : Move → List ℕ → List ℕ
+newImage move im = imageOf (newCounts move im) (newRecords move im)

@@ -2,7 +2,7 @@
 use refusals::Refusal;
 
 pub enum Moved {
-    // How many bytes of the buffer the new image has.
+    // How many bytes of the buffer are written: a new image, or a place for each user listed.
     Done(usize),
     Refused(Refusal),
 }

@@ -4,11 +4,10 @@ ghost use mathlib.Core.Path.{_≡_};
 ghost use lib.ListN.{length};
 ghost use Rattle.buffers.specs.Pasting.{Written};
 ghost use Rattle.header.specs.declared.edition.Edition.the-variants.{One, Two};
-ghost use Rattle.header.specs.Layout.{editionOf, countOf, recordSize, Fitted, recordAt};
+ghost use Rattle.header.specs.Layout.{recordSize};
 ghost use Rattle.writing.specs.Laid.{bytes2};
 ghost use Rattle.moves.specs.Moved.{wideParent, wideSet, upComponent, upLabel, upUser, upRecord};
 use buffers::given::put;
-use header::layout;
 use header::layout::Kind;
 use writing::block::put_zeros;
 
@@ -75,13 +74,11 @@ fn put_user(rec: &[u8], buffer: &mut [u8], at: usize) -> usize
     put_set(rec, 96, buffer, default)
 }
 
-// Writes the record of that kind at place i.
-pub(crate) fn put_record(image: &[u8], kind: Kind, i: usize, buffer: &mut [u8], at: usize) -> usize
-    requires { ⌜ Fitted (now image) × ((editionOf (now image) ≡ One) × (i < countOf (now image) kind)) ⌝ }
-    requires { ⌜ at + recordSize Two kind ≤ length (now buffer) ⌝ }
-    ensures { λ r. ⌜ Written (now (buffer .entry)) at (upRecord kind (recordAt (now (image .entry)) kind i)) (now (buffer .exit)) r ⌝ }
+// Writes the record of that kind.
+pub(crate) fn put_widened(kind: Kind, rec: &[u8], buffer: &mut [u8], at: usize) -> usize
+    requires { ⌜ (length (now rec) ≡ recordSize One kind) × (at + recordSize Two kind ≤ length (now buffer)) ⌝ }
+    ensures { λ r. ⌜ Written (now (buffer .entry)) at (upRecord kind (now (rec .entry))) (now (buffer .exit)) r ⌝ }
 {
-    let rec = layout::record_part(image, kind, i);
     match kind {
         Kind::Component => put_component(rec, buffer, at),
         Kind::Label => put_label(rec, buffer, at),

@@ -1,12 +1,12 @@
 -- What the rules of user records mean, but for those of below, both ways: a rule holds exactly if what it says holds. Assumes nothing.
 use Prim.Native.Nat.{ℕ, _-_, _≤_, _<_}
-use mathlib.Core.Path.{_≡_, sym, ap, _∙_}
-use mathlib.Core.Bool.{true, false}
+use mathlib.Core.Path.{_≡_, refl, sym, ap, _∙_}
+use mathlib.Core.Bool.{true, false, not}
 use mathlib.Core.List.{List}
 use mathlib.Core.Logic.{_⊎_, inl, inr, ⊎-elim}
 use native.Mathlib.Nat.{le-refl}
 use native.Mathlib.Omega.{arith}
-use borrow.Author.Tests.{leb-true, eqb-true, ltb-true, le-leb, eq-eqb, lt-ltb}
+use borrow.Author.Tests.{leb-true, eqb-true, ltb-true, le-leb, eq-eqb, lt-ltb, not-true}
 use lib.Dec.{eqb}
 use lib.ListN.{length}
 use Rattle.fields.specs.Bytes.{byteAt}
@@ -17,9 +17,10 @@ use Rattle.sets.specs.Sets.{has}
 use Rattle.sets.proofs.Bounds.{below-lacks}
 use Rattle.sets.proofs.Within.{within-has, has-within}
 use Rattle.header.specs.declared.edition.Edition.{Edition}
+use Rattle.header.specs.declared.edition.Edition.the-variants.{One, Two}
 use Rattle.header.specs.Layout.{Counts}
-use Rattle.records.specs.Fields.{userNameField, userName, privileges, maximumLevel, minimumLevel, defaultLevel, rowLevel, readCompartments, writeCompartments, defaultCompartments, rowCompartments, readGroups, writeGroups, defaultGroups, rowGroups, userEnd}
-use Rattle.records.specs.Rules.{recordIn, userLevelsRule, userCompartmentsRule, userGroupsRule, userShape, userNameRule, userRule}
+use Rattle.records.specs.Fields.{userNameField, userName, privileges, hasCompaccess, maximumLevel, minimumLevel, defaultLevel, rowLevel, readCompartments, writeCompartments, defaultCompartments, rowCompartments, readGroups, writeGroups, defaultGroups, rowGroups, userEnd}
+use Rattle.records.specs.Rules.{recordIn, userLevelsRule, userCompartmentsRule, userGroupsRule, privilegesRule, userShape, userNameRule, userRule}
 use Rattle.records.proofs.MeaningLabels.{exist-means, exist-holds}
 use Rattle.records.proofs.Rising.{rise, apart}
 
@@ -112,11 +113,32 @@ user-groups-holds edition count rec k =
       exist-holds (rowGroups edition rec) count (k .rowExist),
     )
 
+-- ---- privileges: every one is a bit below 128, and in edition 2 none is COMPACCESS
+pub record PrivilegesKept (edition : Edition) (held : ℕ) : Type 0 where
+  pub limit : held < 128
+  pub compaccessGone : edition ≡ Two → hasCompaccess held ≡ false
+
+pub privileges-means : (edition : Edition) (held : ℕ) → privilegesRule edition held ≡ true → PrivilegesKept edition held
+unfolding privilegesRule
+privileges-means One held e =
+    record { limit = ltb-true _ _ e; compaccessGone = λ q. let z : _≡_ {A = ℕ} 0 1 = cc in absurd (omega arith) }
+privileges-means Two held e =
+    let q = parts _ _ e in
+    record { limit = ltb-true _ _ (q .0); compaccessGone = λ two. not-held (q .1) }
+  where
+    not-held : not (hasCompaccess held) ≡ true → hasCompaccess held ≡ false
+    not-held = not-true _
+
+pub privileges-holds : (edition : Edition) (held : ℕ) → PrivilegesKept edition held → privilegesRule edition held ≡ true
+unfolding privilegesRule
+privileges-holds One held k = lt-ltb _ _ (k .limit)
+privileges-holds Two held k = rw (lt-ltb _ _ (k .limit), k .compaccessGone refl)
+
 -- ---- a record by itself
--- every privilege is a bit below 128; bytes 36..39 and those after the sets are unused
+-- bytes 36..39 and those after the sets are unused
 pub record UserKept (n : Counts) (rec : List ℕ) : Type 0 where
   pub named : NameKept (userNameField rec)
-  pub privilegesLimit : privileges rec < 128
+  pub privilegesKept : PrivilegesKept (n .edition) (privileges rec)
   pub unusedLevels : (i : ℕ) → 36 ≤ i → i < 40 → byteAt rec i ≡ 0
   pub unusedEnd : (i : ℕ) → userEnd (n .edition) ≤ i → byteAt rec i ≡ 0
   pub levelsKept : LevelsKept (n .levels) rec
@@ -135,7 +157,7 @@ module _ (n : Counts) (rec : List ℕ) where
       let q1 = parts _ _ (q2 .0) in
       record {
         named = name-means _ (q1 .0);
-        privilegesLimit = ltb-true _ _ (q1 .1);
+        privilegesKept = privileges-means (n .edition) (privileges rec) (q1 .1);
         unusedLevels = zero-part rec 36 4 (q2 .1);
         unusedEnd = zero-rest rec (userEnd (n .edition)) (q3 .1);
         levelsKept = user-levels-means (n .levels) rec (q4 .1);
@@ -148,7 +170,7 @@ module _ (n : Counts) (rec : List ℕ) where
   user-shape-holds k =
       rw (
         name-holds _ (k .named),
-        lt-ltb _ _ (k .privilegesLimit),
+        privileges-holds (n .edition) (privileges rec) (k .privilegesKept),
         part-zero rec 36 4 (k .unusedLevels),
         rest-zero rec (userEnd (n .edition)) (k .unusedEnd),
         user-levels-holds (n .levels) rec (k .levelsKept),
@@ -158,7 +180,7 @@ module _ (n : Counts) (rec : List ℕ) where
 
   -- the last privilege bit is zero
   pub last-bit : UserKept n rec → has (privileges rec) 7 ≡ false
-  last-bit k = below-lacks (privileges rec) 7 (k .privilegesLimit) 7 (le-refl 7)
+  last-bit k = below-lacks (privileges rec) 7 (k .privilegesKept .limit) 7 (le-refl 7)
 
 -- ---- among the others
 module _ (records : List (List ℕ)) (u : ℕ) where

@@ -1,8 +1,10 @@
 -- What the records hold, field by field, from the record's first byte. Where a field stands and how wide it is may differ by edition.
 use Prim.Native.Nat.{ℕ, zero, suc, _+_}
+use mathlib.Core.Bool.{Bool}
 use mathlib.Core.List.{List, [], _∷_}
 use Rattle.fields.specs.Bytes.{byteAt, part, number2, number4, number8}
 use Rattle.fields.specs.Names.{nameIn}
+use Rattle.sets.specs.Sets.{has}
 use Rattle.sets.specs.Words.{joined}
 use Rattle.header.specs.declared.edition.Edition.{Edition}
 use Rattle.header.specs.Layout.{byEdition}
@@ -65,6 +67,20 @@ userName rec = nameIn (userNameField rec)
 
 abbrev pub privileges : List ℕ → ℕ
 privileges rec = byteAt rec 31
+
+-- privileges as a set: READ, FULL and COMPACCESS, bits 1, 2 and 4 of the byte, are places 0, 1 and 2 of it
+abbrev pub placeOfRead : ℕ
+placeOfRead = 0
+
+abbrev pub placeOfFull : ℕ
+placeOfFull = 1
+
+abbrev pub placeOfCompaccess : ℕ
+placeOfCompaccess = 2
+
+-- COMPACCESS is among them
+abbrev pub hasCompaccess : ℕ → Bool
+hasCompaccess held = has held placeOfCompaccess
 
 abbrev pub maximumLevel : List ℕ → ℕ
 maximumLevel rec = byteAt rec 32

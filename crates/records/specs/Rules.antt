@@ -10,10 +10,11 @@ use Rattle.fields.specs.Names.{nameRule, sameName, nameBefore}
 use Rattle.fields.specs.Scan.{firstBad, everywhere}
 use Rattle.sets.specs.Sets.{within, allBelow}
 use Rattle.header.specs.declared.edition.Edition.{Edition}
+use Rattle.header.specs.declared.edition.Edition.the-variants.{One, Two}
 use Rattle.header.specs.declared.layout.Kind.{Kind}
 use Rattle.header.specs.declared.layout.Kind.the-variants.{Component, Label, User}
 use Rattle.header.specs.Layout.{Counts, countsOf, classFirst, classAt, kindByte, recordAt, recordsOf, contentsOf}
-use Rattle.records.specs.Fields.{classOf, componentNameField, componentName, numericForm, parentOf, noParent, componentEnd, tagOf, labelLevel, labelCompartments, labelGroups, userNameField, userName, privileges, maximumLevel, minimumLevel, defaultLevel, rowLevel, readCompartments, writeCompartments, defaultCompartments, rowCompartments, readGroups, writeGroups, defaultGroups, rowGroups, userEnd}
+use Rattle.records.specs.Fields.{classOf, componentNameField, componentName, numericForm, parentOf, noParent, componentEnd, tagOf, labelLevel, labelCompartments, labelGroups, userNameField, userName, privileges, hasCompaccess, maximumLevel, minimumLevel, defaultLevel, rowLevel, readCompartments, writeCompartments, defaultCompartments, rowCompartments, readGroups, writeGroups, defaultGroups, rowGroups, userEnd}
 
 -- ---- lists of records
 -- the record at place i
@@ -96,10 +97,16 @@ userGroupsRule edition count rec =
     within (readGroups edition rec) (allBelow count) && within (writeGroups edition rec) (allBelow count)
     && within (defaultGroups edition rec) (allBelow count) && within (rowGroups edition rec) (allBelow count)
 
--- what a user record must be, whatever the others are; privilege bit 128 is zero
+-- privilege bit 128 is zero; edition 2 doesn't have COMPACCESS
+unfoldable pub privilegesRule : Edition → ℕ → Bool
+privilegesRule One held = ltb held 128
+privilegesRule Two held = ltb held 128 && not (hasCompaccess held)
+
+-- what a user record must be, whatever the others are
 unfoldable pub userShape : Counts → List ℕ → Bool
 userShape n rec =
-    nameRule (userNameField rec) && ltb (privileges rec) 128 && allZero (part rec 36 4) && allZero (drop (userEnd (n .edition)) rec)
+    nameRule (userNameField rec) && privilegesRule (n .edition) (privileges rec) && allZero (part rec 36 4)
+    && allZero (drop (userEnd (n .edition)) rec)
     && userLevelsRule (n .levels) rec && userCompartmentsRule (n .compartments) rec && userGroupsRule (n .edition) (n .groups) rec
 
 -- user names rise strictly in byte order

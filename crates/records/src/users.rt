@@ -8,7 +8,7 @@ ghost use Rattle.header.specs.Layout.{editionOf, users, countsOf, recordSize, u
 ghost use Rattle.records.specs.Fields as fields;
 ghost use Rattle.records.specs.Fields.{userName};
 ghost use Rattle.records.specs.Users.{levelsOf, compartmentsOf, GroupsAre};
-ghost use Rattle.records.specs.Rules.{userLevelsRule, userCompartmentsRule, userGroupsRule, userShape, userNameRule, recordRule};
+ghost use Rattle.records.specs.Rules.{userLevelsRule, userCompartmentsRule, userGroupsRule, privilegesRule, userShape, userNameRule, recordRule};
 ghost use Rattle.header.specs.Limits.{Counted};
 use crate::group_sets::group_set;
 use fields::names;
@@ -142,6 +142,16 @@ fn groups_ok(edition: Edition, rec: &[u8], count: usize) -> bool
     sets.read.within(all) & sets.write.within(all) & sets.default.within(all) & sets.row.within(all)
 }
 
+// Bit 128 is zero, and edition 2 doesn't have COMPACCESS.
+fn privileges_ok(edition: Edition, held: u8) -> bool
+    ensures { λ r. ⌜ r ≡ privilegesRule edition held ⌝ }
+{
+    match edition {
+        Edition::One => held < 128,
+        Edition::Two => (held < 128) & !word::has(held as u64, 2),
+    }
+}
+
 // What a record must be whatever the others are.
 fn shape_ok(image: &[u8], rec: &[u8]) -> bool
     requires { ⌜ Counted (now image) × ((length (now rec) ≡ recordSize (editionOf (now image)) User) × (128 ≤ length (now rec))) ⌝ }
@@ -150,7 +160,7 @@ fn shape_ok(image: &[u8], rec: &[u8]) -> bool
     let edition = edition_of(image);
     let end = by_edition(edition, 104, 200);
     names::name_ok(&rec[0..31])
-        & (rec[31] < 128)
+        & privileges_ok(edition, rec[31])
         & all_zero(&rec[36..40])
         & all_zero(&rec[end..])
         & levels_ok(rec, layout::levels(image))

@@ -1,12 +1,12 @@
--- The table "Numbers given back" of the scope document, with 31 to 35 of request R-2 in place of 3, and 37 of request R-11: each
--- refusal's number, and the values that are returned with it.
+-- The table "Numbers given back" of the scope document, with 31 to 35 of request R-2 in place of 3, 36 of request R-12 and 37 of
+-- request R-11: each refusal's number, and the values that are returned with it.
 -- Assumes nothing.
 use Prim.Native.Nat.{ℕ, _+_, _*_}
 use mathlib.Core.List.{List, [], _∷_}
 use Rattle.refusals.specs.declared.Refusal.{Refusal}
 use Rattle.refusals.specs.declared.Refusal.the-variants.{ImageLength, BlockCheck, ImageLayout, ComponentRecord, LabelRecord, UserRecord, ParentRing, NoUser, TextShape, UnknownName, RepeatedName}
 use Rattle.refusals.specs.declared.Refusal.the-variants.{LevelNotAllowed, CompartmentsNotAllowed, GroupsNotAllowed, RowLabelOutside, TableShape, Room}
-use Rattle.refusals.specs.declared.Refusal.the-variants.{NoRow, RowNotWritable, PayloadLength, MergeLetters, NoComponent, SessionRules, MoveLimits}
+use Rattle.refusals.specs.declared.Refusal.the-variants.{NoRow, RowNotWritable, PayloadLength, MergeLetters, NoComponent, SessionRules, CompaccessHolders, MoveLimits}
 
 -- the table's first column
 abbrev pub numberOf : Refusal → ℕ
@@ -33,10 +33,11 @@ numberOf PayloadLength = 16
 numberOf MergeLetters = 17
 numberOf NoComponent = 18
 numberOf SessionRules = 19
+numberOf (CompaccessHolders count) = 36
 numberOf MoveLimits = 37
 
--- the values returned with the number: the table's third column, and for 32 to 35 what request R-2 says; `slot` is the record's place in
--- its block
+-- the values returned with the number: the table's third column, for 32 to 35 what request R-2 says, and for 36 how many hold COMPACCESS; `slot` is
+-- the record's place in its block
 abbrev pub valuesOf : Refusal → List ℕ
 valuesOf ImageLength = []
 valuesOf (BlockCheck block) = block ∷ []
@@ -61,6 +62,7 @@ valuesOf PayloadLength = []
 valuesOf MergeLetters = []
 valuesOf NoComponent = []
 valuesOf SessionRules = []
+valuesOf (CompaccessHolders count) = count ∷ []
 valuesOf MoveLimits = []
 
 -- ---- the values in one number, as a C function gives it

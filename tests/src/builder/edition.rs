@@ -1,6 +1,7 @@
-//! What differs between the editions of an image (request R-11 of document 02), as values.
+//! What differs between the editions of an image (requests of document 02), as values.
 
 use super::layout::{Shape, LABELS_1, LABELS_2, USERS_1, USERS_2};
+use super::COMPACCESS;
 use std::ops::Range;
 
 #[derive(Clone, Copy, Debug, PartialEq, Eq, PartialOrd, Ord)]
@@ -44,6 +45,16 @@ impl Edition {
     /// How many bytes a label text may have.
     pub fn longest_text(self) -> usize {
         self.pick(4_096, 10_000)
+    }
+
+    /// The privileges that a user may hold.
+    pub fn privileges(self) -> u8 {
+        self.pick(127, 127 & !COMPACCESS)
+    }
+
+    /// How many different bytes of privileges there are.
+    pub fn privilege_bytes(self) -> usize {
+        1 << self.privileges().count_ones()
     }
 
     /// The bytes of the header that hold the number of groups.

@@ -18,6 +18,9 @@ pub use trees::Tree;
 use layout::{seal, Shape, BLOCK, COMPONENTS};
 use std::iter;
 
+/// The privilege that edition 2 has not.
+pub const COMPACCESS: u8 = 4;
+
 /// A level, a compartment or a group. Only a group may have a parent, by its place among groups.
 #[derive(Clone, Debug)]
 pub struct Component {
@@ -82,10 +85,35 @@ pub struct Policy {
     pub users: Vec<User>,
 }
 
+impl User {
+    pub fn holds_compaccess(&self) -> bool {
+        self.privileges & COMPACCESS != 0
+    }
+}
+
 impl Policy {
-    /// The same in an edition, which may have lower limits than the policy goes to.
+    /// The same in an edition, which may have lower limits than the policy goes to, and not all privileges
+    /// that its users hold.
     pub fn in_edition(self, edition: Edition) -> Policy {
         Policy { edition, ..self }
+    }
+
+    /// The places of the users who hold COMPACCESS.
+    pub fn holders(&self) -> Vec<usize> {
+        let places = 0..self.users.len();
+        let holds = |&place: &usize| self.users[place].holds_compaccess();
+        places.filter(holds).collect()
+    }
+
+    /// The same with these users as those who hold COMPACCESS.
+    pub fn held_by(mut self, holders: &[usize]) -> Policy {
+        for (place, user) in self.users.iter_mut().enumerate() {
+            user.privileges &= !COMPACCESS;
+            if holders.contains(&place) {
+                user.privileges |= COMPACCESS;
+            }
+        }
+        self
     }
 
     /// S with every group that has an ancestor in S: subgroups are added until none is left to add.

@@ -121,7 +121,7 @@ fn user(name: String, policy: &Policy, rng: &mut Rng) -> User {
     let [minimum, row, default, maximum] = levels;
     User {
         name,
-        privileges: rng.index(128) as u8,
+        privileges: rng.index(128) as u8 & policy.edition.privileges(),
         levels: Levels {
             maximum,
             minimum,

@@ -1,4 +1,5 @@
-//! An image of edition 2 whose bytes are written out from request R-11, and bytes by which it is refused.
+//! An image of edition 2 whose bytes are written out from request R-11, and bytes by which it is refused,
+//! also from request R-12.
 
 use crate::builder::layout::BLOCK;
 use crate::ffi::Answer;
@@ -188,8 +189,13 @@ const IN_LABELS: [Example; 12] = [
     (&[(1, 3)], LAYOUT),
 ];
 
-/// The same of four group sets; the last three break rules by below, since H doesn't reach G.
-const IN_USER: [Example; 20] = [
+/// COMPACCESS and bit 128, alone and with others; the same of four group sets; the last three break rules by
+/// below, since H doesn't reach G.
+const IN_USER: [Example; 24] = [
+    (&[(4 + 31, 4)], U),
+    (&[(4 + 31, 7)], U),
+    (&[(4 + 31, 127)], U),
+    (&[(4 + 31, 132)], U),
     (&[(4 + 31, 128)], U),
     (&[(4 + 36, 1)], U),
     (&[(4 + 39, 1)], U),
@@ -215,6 +221,9 @@ const IN_USER: [Example; 20] = [
 /// All cases.
 pub fn check(ask: Ask) {
     assert_eq!(ask(&image()), Answer::Done(0));
+    // All privileges but COMPACCESS.
+    let privileged = changed(3, &[(4 + 31, 1 + 2 + 8 + 16 + 32 + 64)]);
+    assert_eq!(ask(&privileged), Answer::Done(0));
     let examples: [&[Example]; 4] = [&IN_HEADER, &IN_COMPONENTS, &IN_LABELS, &IN_USER];
     for (block, examples) in examples.into_iter().enumerate() {
         for (bytes, refusal) in examples {

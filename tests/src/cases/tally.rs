@@ -2,7 +2,7 @@
 
 use super::Case;
 use crate::builder::layout::BLOCK;
-use crate::builder::Edition;
+use crate::builder::{Edition, COMPACCESS};
 use crate::compare::expected;
 use crate::ffi::Answer;
 use crate::model::{faults, Fault, Kind};
@@ -12,7 +12,12 @@ use std::collections::{BTreeMap, BTreeSet};
 const PAIRS: usize = 13;
 
 /// Kinds of faults that only edition 2 has.
-const PAST_63: [&str; 2] = ["32 at a group past place 63", "35 past place 63"];
+const ONLY_TWO: [&str; 4] = [
+    "32 at a group past place 63",
+    "35 past place 63",
+    "34 by COMPACCESS",
+    "34 by COMPACCESS, 35 or below",
+];
 
 /// Counts damaged images that 31 to 35 refuse. Those that 1 or 2 refuse tell nothing of places.
 #[derive(Debug, Default)]
@@ -41,7 +46,11 @@ impl DamageTally {
         let mut faults = faults(&case.image);
         faults.sort_by_key(Fault::key);
         faults.dedup();
-        for (kind, holds) in kinds(&case.image, faults[0]) {
+        let by_compaccess = kinds_by_compaccess(&case.image, &faults);
+        for (kind, holds) in kinds(&case.image, faults[0])
+            .into_iter()
+            .chain(by_compaccess)
+        {
             *self.kinds.entry(kind).or_default() += usize::from(holds);
         }
         if case.has_several() {
@@ -58,7 +67,8 @@ impl DamageTally {
     }
 
     /// Asks that there are so many images, that at least half of them have several faults, and that
-    /// all that is counted came at least so often. Edition 1 has no group past the 64th.
+    /// all that is counted came at least so often. Edition 1 has no group past the 64th, and there COMPACCESS
+    /// is no fault.
     pub fn assert_varied(&self, edition: Edition, images: usize, least: usize) {
         let [one, several] = self.images;
         assert!(one + several >= images, "{one} and {several} images");
@@ -67,7 +77,7 @@ impl DamageTally {
         assert!(self.as_first_and_not.iter().all(|&times| times >= least));
         assert_eq!(self.pairs.len(), PAIRS, "{:?}", self.pairs);
         for (kind, times) in self.kinds.iter().chain(&self.pairs) {
-            let is_right = match PAST_63.contains(kind) && edition == Edition::One {
+            let is_right = match ONLY_TWO.contains(kind) && edition == Edition::One {
                 true => *times == 0,
                 false => *times >= least,
             };
@@ -101,7 +111,7 @@ fn kinds(image: &[u8], told: Fault) -> Vec<(&'static str, bool)> {
             number == 32 && is_later,
         ),
         ("32 at the last record of a block", number == 32 && is_last),
-        (PAST_63[0], number == 32 && is_high),
+        (ONLY_TWO[0], number == 32 && is_high),
         ("33", number == 33),
         ("33 in a later block of labels", number == 33 && is_later),
         ("33 at the last record of a block", number == 33 && is_last),
@@ -112,8 +122,27 @@ fn kinds(image: &[u8], told: Fault) -> Vec<(&'static str, bool)> {
         ("34 by below in a later block", is_below && is_later),
         ("35 at group 0", told == Fault::Ring { group: 0 }),
         ("35", matches!(told, Fault::Ring { group: 1.. })),
-        (PAST_63[1], matches!(told, Fault::Ring { group: 64.. })),
+        (ONLY_TWO[1], matches!(told, Fault::Ring { group: 64.. })),
     ]
+}
+
+/// The same of a user who holds COMPACCESS, alone or beside faults that come after all records. Of an image
+/// with these faults, in order.
+fn kinds_by_compaccess(image: &[u8], faults: &[Fault]) -> [(&'static str, bool); 2] {
+    let is_held = match faults[0] {
+        Fault::Record {
+            kind: Kind::User,
+            block,
+            record,
+        } if image[4] == Edition::Two.number() => {
+            let user = block * BLOCK + 4 + record * Edition::Two.users().size;
+            image[user + 31] & COMPACCESS != 0
+        }
+        _ => false,
+    };
+    let is_late = |fault: &Fault| matches!(fault, Fault::Ring { .. } | Fault::Below { .. });
+    let is_before = is_held && faults.iter().any(is_late);
+    [(ONLY_TWO[2], is_held), (ONLY_TWO[3], is_before)]
 }
 
 /// The fault that is told, and another.

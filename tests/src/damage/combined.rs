@@ -4,6 +4,7 @@
 use super::users::{group, group_of, last_unused, Inclusion};
 use super::{blocks, components, places, rings, Draft, Expected};
 use crate::builder::layout::{RecordAt, Run};
+use crate::builder::{Edition, COMPACCESS};
 use crate::rng::Rng;
 
 /// Kinds of records, by their place among a policy's runs.
@@ -28,6 +29,7 @@ fn spoil(draft: &mut Draft, rng: &mut Rng, at: RecordAt) -> Option<Expected> {
     let (byte, value) = match at.kind {
         67 => *rng.pick(&[(0, 0), (1, 31), (2, b'a'), (33, 255), (39, 1)]),
         76 => *rng.pick(&[(3, 255), (4, 255), (5, 1), (7, 1)]),
+        _ if draft.edition() == Edition::Two && rng.once_in(2) => (31, COMPACCESS),
         _ => *rng.pick(&[(0, 0), (1, b'a'), (31, 128), (32, 255), (unused, 1)]),
     };
     draft.break_record(at, byte, &[value])

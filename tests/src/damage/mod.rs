@@ -139,6 +139,7 @@ damages! {
         UserNameLower => name_lower,
         UserNameBegins => name_begins,
         Privilege128 => privilege_128,
+        Compaccess => compaccess,
         MinimumOverRow => minimum_over_row,
         RowOverDefault => row_over_default,
         DefaultOverMaximum => default_over_maximum,
@@ -176,10 +177,14 @@ impl Damage {
     }
 
     /// Whether images of an edition can be damaged so. Byte 7 of the header and byte 35 of a component
-    /// are other things in edition 1.
+    /// are other things in edition 1, and its users may hold COMPACCESS.
     pub fn is_of(self, edition: Edition) -> bool {
-        let is_of_two = [Damage::OldGroupCount, Damage::ParentHighByte].contains(&self);
-        !is_of_two || edition == Edition::Two
+        let of_two = [
+            Damage::OldGroupCount,
+            Damage::ParentHighByte,
+            Damage::Compaccess,
+        ];
+        edition == Edition::Two || !of_two.contains(&self)
     }
 
     /// Whether no fault after block 0 is told beside this one. Such kinds stand first.

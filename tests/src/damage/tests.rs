@@ -115,5 +115,5 @@ fn damage_of_one_edition_alone() {
             }
         }
     }
-    assert_eq!(left_out, 2);
+    assert_eq!(left_out, 3);
 }

@@ -2,7 +2,7 @@
 
 use super::{places, Draft, Expected};
 use crate::builder::layout::RecordAt;
-use crate::builder::{user_record, Edition, Policy, Rights, Set, User};
+use crate::builder::{user_record, Edition, Policy, Rights, Set, User, COMPACCESS};
 use crate::rng::Rng;
 use std::ops::Range;
 
@@ -63,6 +63,16 @@ fn rename(draft: &mut Draft, place: usize, name: String) -> Option<Expected> {
 pub fn privilege_128(draft: &mut Draft, rng: &mut Rng) -> Option<Expected> {
     let at = any(draft, rng)?;
     let value = draft.get(at.offset + 31) | 128;
+    draft.break_record(at, 31, &[value])
+}
+
+/// Edition 2: a user holds COMPACCESS beside what else is held.
+pub fn compaccess(draft: &mut Draft, rng: &mut Rng) -> Option<Expected> {
+    let at = any(draft, rng)?;
+    if draft.edition() == Edition::One {
+        return None;
+    }
+    let value = draft.get(at.offset + 31) | COMPACCESS;
     draft.break_record(at, 31, &[value])
 }
 

@@ -1,5 +1,5 @@
 //! What differs between the editions of an image, as values: document 01 has edition 1, request R-11 of
-//! document 02 adds edition 2.
+//! document 02 adds edition 2, and request R-12 takes COMPACCESS from it.
 
 use std::ops::Range;
 
@@ -26,6 +26,8 @@ pub struct Edition {
     pub user_records: Records,
     /// The bytes of a set of groups in a record.
     pub group_set: usize,
+    /// The privilege bits that a user may hold.
+    pub privileges: u8,
     /// How many bytes a label text may have.
     pub longest_text: usize,
     /// Whether READ and FULL see tag 0 and unknown tags.
@@ -49,6 +51,7 @@ pub static ONE: Edition = Edition {
         in_block: 3,
     },
     group_set: 8,
+    privileges: 127,
     longest_text: 4_096,
     shows_unknown: true,
 };
@@ -70,6 +73,7 @@ pub static TWO: Edition = Edition {
         in_block: 2,
     },
     group_set: 32,
+    privileges: 127 - 4,
     longest_text: 10_000,
     shows_unknown: false,
 };

@@ -1,9 +1,10 @@
 //! The rules of a policy image, of label text, of sessions, of verdicts, of tables, of two labels
 //! and of the report, written from document 01 section by section, and from the requests of document
 //! 02: R-2 for what a faulty image is refused with, R-3 for dominance, R-11 for edition 2 and the move
-//! up to it. There is little thought for speed, and nothing here is shared with the library or with the
-//! builder of images.
+//! up to it, R-12 for the users who hold COMPACCESS. There is little thought for speed, and nothing here is
+//! shared with the library or with the builder of images.
 
+mod compaccess;
 mod edition;
 mod faults;
 mod groups;
@@ -21,6 +22,7 @@ mod two_labels;
 mod user;
 mod verdict;
 
+pub use compaccess::{clear_compaccess, compaccess_users};
 pub use faults::{faults, first_fault, Fault, Key};
 pub use label::Label;
 pub use layout::{Image, Kind};
@@ -62,6 +64,16 @@ fn sound(image: &[u8]) -> Result<(), Refusal> {
 pub fn accepted(image: &[u8]) -> Result<Image<'_>, Refusal> {
     check(image)?;
     Image::read(image).ok_or(Refusal::Layout)
+}
+
+/// The same of an image of edition 1. One of edition 2 is refused 31, "as for a header fault", so before
+/// what else may be wrong with it.
+fn of_edition_1(image: &[u8]) -> Result<Image<'_>, Refusal> {
+    sound(image)?;
+    if image[4] == edition::TWO.number {
+        return Err(Refusal::Layout);
+    }
+    accepted(image)
 }
 
 /// Where the name of a component stands in the image: its offset and length.

@@ -1,21 +1,21 @@
 //! The move up of request R-11: an image of edition 1 as one of edition 2.
 
+use super::compaccess::holders;
 use super::edition::{Records, ONE, TWO};
 use super::layout::{Image, Kind, Run, BLOCK};
-use super::{accepted, sound, sums, Refusal};
+use super::{of_edition_1, sums, Refusal};
 
-/// The moved image, for a buffer of `room` bytes. "Only the move up answers 31 for edition 2, as for a
-/// header fault", so before what else may be wrong with such an image. "37 for a move up of over 800
-/// labels or 32 users, then 13."
+/// The moved image, for a buffer of `room` bytes. "37 for a move up of over 800 labels or 32 users, then
+/// 13." By R-12: "36, with their number, for a plain move up with holders, after 37 and before 13."
 pub fn move_up(image: &[u8], room: usize) -> Result<Vec<u8>, Refusal> {
-    sound(image)?;
-    if image[4] == TWO.number {
-        return Err(Refusal::Layout);
-    }
-    let image = accepted(image)?;
+    let image = of_edition_1(image)?;
     let [_, labels, users] = image.counts.runs();
     if labels.count > TWO.labels || users.count > TWO.users {
         return Err(Refusal::Size);
+    }
+    let holders = holders(&image).len();
+    if holders > 0 {
+        return Err(Refusal::Holders(holders));
     }
     let moved = laid_out(&image);
     if moved.len() > room {

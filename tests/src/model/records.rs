@@ -119,7 +119,7 @@ fn user_holds(image: &Image, place: usize) -> bool {
     let groups = image.user_groups(record);
     let end = 72 + groups.len() * image.edition().group_set;
     name_holds(record[0], &record[1..31])
-        && record[31] < 128
+        && record[31] & !image.edition().privileges == 0
         && levels
             .iter()
             .all(|&level| usize::from(level) < image.counts.levels)

@@ -10,7 +10,7 @@ pub enum Refusal {
     /// 2: a block's check or place is wrong; the lowest such block.
     Block(usize),
     /// 31: the header, a length unfit for its counts, or a block's kind, record count or bytes
-    /// outside records; and any image of edition 2 in a move up.
+    /// outside records; and any image of edition 2 in a move up, and in what R-12 asks of edition 1.
     Layout,
     /// 32, 33, 34: a component, a label or a user is at fault; its block, and its place there.
     Record {
@@ -52,6 +52,8 @@ pub enum Refusal {
     Component,
     /// 19: a lent session breaks its rules for that image.
     Session,
+    /// 36: a move up of an image with users who hold COMPACCESS; how many.
+    Holders(usize),
     /// 37: a move up of over 800 labels or 32 users.
     Size,
 }
@@ -84,6 +86,7 @@ impl Refusal {
             Refusal::Letters => 17,
             Refusal::Component => 18,
             Refusal::Session => 19,
+            Refusal::Holders(_) => 36,
             Refusal::Size => 37,
         }
     }
@@ -95,6 +98,7 @@ impl Refusal {
             Refusal::Record { block, record, .. } => block * 65_536 + record,
             Refusal::Ring(group) => group,
             Refusal::NameUnknown(offset) | Refusal::NameRepeated(offset) => offset,
+            Refusal::Holders(count) => count,
             _ => 0,
         }
     }

@@ -69,8 +69,8 @@ fn moved() -> Vec<u8> {
     image
 }
 
-/// The sample in edition 1 with so many labels and users.
-fn sized(labels: usize, users: usize) -> Policy {
+/// The sample in edition 1 with so many labels and users, U00 and so on.
+pub fn sized(labels: usize, users: usize) -> Policy {
     let mut policy = sample();
     let (label, user) = (policy.labels[0].clone(), policy.users[0].clone());
     let labels = (0..labels).map(|place| Label {
@@ -91,7 +91,7 @@ fn refused(number: u32, place: u32) -> Answer {
 }
 
 /// A refusal, with every length of a buffer up to some bytes and with long ones, leaves the buffer alone.
-fn expect_refused(ask: Ask, image: &[u8], answer: Answer) {
+pub fn expect_refused(ask: Ask, image: &[u8], answer: Answer) {
     for room in (0..4).chain([511, 512, 2_047, 2_048, 2_049, 65_536]) {
         let mut buffer = vec![0xa5; room];
         assert_eq!(ask(image, &mut buffer), answer, "{room} bytes");
@@ -104,6 +104,7 @@ pub fn check(ask: Ask) {
     rooms(ask);
     refusals_of_images(ask);
     limits(ask);
+    holders(ask);
 }
 
 /// 13 in a buffer that is too short; later bytes stay in a longer one.
@@ -125,7 +126,7 @@ fn rooms(ask: Ask) {
 
 /// An image of edition 1 is refused as everywhere. One of edition 2 is refused by 1 and 2, and else by 31
 /// whatever is wrong with it, if anything is.
-fn refusals_of_images(ask: Ask) {
+pub fn refusals_of_images(ask: Ask) {
     for (image, answer) in refused_images(Edition::One) {
         expect_refused(ask, &image, answer);
     }
@@ -162,4 +163,28 @@ fn limits(ask: Ask) {
     broken.labels[800].level = 3;
     let place = (2 + 800 / 21) * 65_536 + 800 % 21;
     expect_refused(ask, &to_image(&broken), refused(33, place));
+}
+
+/// 36 tells how many users hold COMPACCESS, after 37 and before 13.
+fn holders(ask: Ask) {
+    for (labels, users, holders) in [
+        (1, 1, &[0][..]),
+        (1, 7, &[6]),
+        (1, 7, &[0, 2, 3]),
+        (0, 32, &[31]),
+        (800, 32, &[0, 1, 2, 30, 31]),
+    ] {
+        let image = to_image(&sized(labels, users).held_by(holders));
+        expect_refused(ask, &image, refused(36, holders.len() as u32));
+    }
+    let all: Vec<usize> = (0..96).collect();
+    let image = to_image(&sized(3, 32).held_by(&all));
+    expect_refused(ask, &image, refused(36, 32));
+    for (labels, users) in [(801, 1), (0, 33), (1_680, 96)] {
+        let image = to_image(&sized(labels, users).held_by(&all));
+        expect_refused(ask, &image, refused(37, 0));
+    }
+    let mut broken = sized(30, 32).held_by(&all);
+    broken.labels[21].level = 3;
+    expect_refused(ask, &to_image(&broken), refused(33, 3 * 65_536));
 }

@@ -1,5 +1,5 @@
-//! Moves up by seed (request R-11): images of both editions, whole and damaged, with buffers of all
-//! lengths.
+//! Moves up by seed (request R-11): images of both editions, whole and damaged, with and without users who
+//! hold COMPACCESS, with buffers of all lengths.
 
 pub mod by_hand;
 mod tally;
@@ -8,10 +8,11 @@ pub use tally::MoveTally;
 
 use crate::builder::{random, to_image, Edition, Policy, Sizes};
 use crate::cases::Case;
-use crate::compare::expected;
+use crate::compaccess::held;
+use crate::compare::written;
 use crate::damage::{Damage, Draft};
 use crate::ffi::Answer;
-use crate::model::move_up;
+use crate::model::{clear_compaccess, move_up};
 use crate::rng::Rng;
 use crate::tables::numbers::{bytes, room};
 
@@ -19,7 +20,7 @@ use crate::tables::numbers::{bytes, room};
 pub struct Move {
     pub image: Vec<u8>,
     pub buffer: Vec<u8>,
-    /// The length of the moved image, if there is one.
+    /// The length of the moved image, if there is one, also where it is refused for holders of COMPACCESS.
     pub needed: Option<usize>,
     pub answer: Answer,
     /// The buffer after the move.
@@ -30,7 +31,9 @@ impl Move {
     pub fn new(seed: u64) -> Move {
         let mut rng = Rng::new(seed);
         let image = image(seed, &mut rng);
-        let needed = move_up(&image, usize::MAX).ok().map(|moved| moved.len());
+        let cleared = clear_compaccess(&image, usize::MAX);
+        let moved = cleared.and_then(|image| move_up(&image, usize::MAX));
+        let needed = moved.ok().map(|moved| moved.len());
         let about = needed.unwrap_or_else(|| rng.range(0, 3_000));
         let room = room(about, &mut rng);
         let buffer = bytes(room, &mut rng);
@@ -45,19 +48,13 @@ impl Move {
     }
 }
 
-/// The model's answer, and the buffer after it: later bytes stay, and all of them on a refusal.
+/// The model's answer, and the buffer after it.
 pub fn by_model(image: &[u8], buffer: &[u8]) -> (Answer, Vec<u8>) {
-    let mut after = buffer.to_vec();
-    let moved = move_up(image, buffer.len());
-    let answer = expected(moved.map(|moved| {
-        after[..moved.len()].copy_from_slice(&moved);
-        moved.len() as u64
-    }));
-    (answer, after)
+    written(move_up(image, buffer.len()), buffer)
 }
 
-/// Mostly one of edition 1 that is accepted; often damaged, of edition 2, or of sizes about which edition
-/// 2 has limits.
+/// Mostly one of edition 1 that can be moved; often one whose users hold COMPACCESS, that is damaged, of
+/// edition 2, or of sizes about which edition 2 has limits.
 fn image(seed: u64, rng: &mut Rng) -> Vec<u8> {
     match rng.index(16) {
         0..=2 => Case::new(Edition::One, seed).image,
@@ -65,11 +62,17 @@ fn image(seed: u64, rng: &mut Rng) -> Vec<u8> {
         6 => to_image(&policy(Edition::Two, rng)),
         7 => to_image(&around_limits(rng)),
         8 if rng.once_in(2) => damaged(around_limits(rng), rng),
-        _ => to_image(&policy(Edition::One, rng)),
+        9 | 10 => to_image(&held(policy(Edition::One, rng), rng)),
+        _ => to_image(&movable(rng)),
     }
 }
 
-/// A policy that edition 2 has room for.
+/// A policy of edition 1 that can be moved up.
+pub fn movable(rng: &mut Rng) -> Policy {
+    policy(Edition::One, rng).held_by(&[])
+}
+
+/// A policy that edition 2 has room for. In edition 1 users may hold COMPACCESS.
 pub fn policy(edition: Edition, rng: &mut Rng) -> Policy {
     let sizes = match rng.index(24) {
         0 => Sizes::any(edition, rng),
@@ -86,7 +89,7 @@ pub fn policy(edition: Edition, rng: &mut Rng) -> Policy {
 }
 
 /// A policy of edition 1 with as many labels or users as edition 2 may have, with one more, or with as
-/// many as there may be.
+/// many as there may be. Nobody, some or all of the users hold COMPACCESS.
 pub fn around_limits(rng: &mut Rng) -> Policy {
     let small = Sizes::small(Edition::One, rng);
     let labels = [small.labels, 799, 800, 801, 1_680];
@@ -96,11 +99,11 @@ pub fn around_limits(rng: &mut Rng) -> Policy {
         users: *rng.pick(&users),
         ..small
     };
-    random(sizes, rng)
+    held(random(sizes, rng), rng)
 }
 
 /// The image after damage that 31 to 35 refuse, if the policy has what such damage needs.
-fn damaged(policy: Policy, rng: &mut Rng) -> Vec<u8> {
+pub fn damaged(policy: Policy, rng: &mut Rng) -> Vec<u8> {
     let mut draft = Draft::new(policy);
     let mut kinds: Vec<&Damage> = Damage::ALL.iter().filter(|it| it.number() > 30).collect();
     rng.shuffle(&mut kinds);

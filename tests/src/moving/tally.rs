@@ -4,7 +4,7 @@ use super::Move;
 use crate::builder::Edition;
 use crate::compare::CallTally;
 use crate::ffi::Answer;
-use crate::model::check;
+use crate::model::{check, compaccess_users};
 
 const MOVE: &str = "move_up";
 
@@ -13,7 +13,11 @@ pub struct MoveTally(CallTally);
 
 impl MoveTally {
     pub fn add(&mut self, it: &Move) {
-        self.0.count(MOVE, outcome(it));
+        let outcome = outcome(it);
+        if outcome.starts_with("37") {
+            self.0.count(MOVE, format!("37, {}", holders(&it.image)));
+        }
+        self.0.count(MOVE, outcome);
     }
 
     /// Asks that each answer came at least so often in each of its ways.
@@ -24,6 +28,16 @@ impl MoveTally {
             "13, no buffer",
             "13, a buffer short by one",
             "13",
+            "36, one holds it",
+            "36, one holds it, before 13",
+            "36, some hold it",
+            "36, some hold it, before 13",
+            "36, all hold it",
+            "36, all hold it, before 13",
+            "37, nobody holds it",
+            "37, one holds it",
+            "37, some hold it",
+            "37, all hold it",
             "37 by labels",
             "37 by users",
             "37 by both",
@@ -63,6 +77,7 @@ fn outcome(it: &Move) -> String {
         13 if room == 0 => "13, no buffer".to_string(),
         13 if it.needed == Some(room + 1) => "13, a buffer short by one".to_string(),
         13 => "13".to_string(),
+        36 => before_room(it),
         37 => by_what(&it.image),
         31 if is_two => match check(&it.image) {
             Ok(()) => "31 in edition 2, accepted elsewhere".to_string(),
@@ -71,6 +86,26 @@ fn outcome(it: &Move) -> String {
         31.. if is_over && !is_two => "31 to 35 before 37".to_string(),
         _ if is_two => format!("{number} in edition 2"),
         _ => format!("{number} in edition 1"),
+    }
+}
+
+/// Which users of an accepted image of edition 1 hold COMPACCESS.
+fn holders(image: &[u8]) -> &'static str {
+    let users = usize::from(image[8]) + 256 * usize::from(image[9]);
+    match compaccess_users(image, usize::MAX).map_or(0, |list| list.len()) {
+        0 => "nobody holds it",
+        1 => "one holds it",
+        count if count == users => "all hold it",
+        _ => "some hold it",
+    }
+}
+
+/// Who holds COMPACCESS, and whether the moved image would have room without it.
+fn before_room(it: &Move) -> String {
+    let who = holders(&it.image);
+    match it.needed.is_some_and(|needed| it.buffer.len() < needed) {
+        true => format!("36, {who}, before 13"),
+        false => format!("36, {who}"),
     }
 }
 

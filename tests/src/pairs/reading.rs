@@ -1,7 +1,7 @@
 //! Sessions beside the label records of their policy: what a session reads, and what its label
 //! dominates.
 
-use crate::builder::{to_image, Edition, Label, Policy, User};
+use crate::builder::{to_image, Edition, Label, Policy, User, COMPACCESS};
 use crate::calls::{Call, Pair, PairCall};
 use crate::compare::Checked;
 use crate::ffi::{Answer, LABEL, SESSION};
@@ -10,7 +10,6 @@ use crate::walk::{Walk, LABEL_AT, ROW_AT};
 
 const READ: u8 = 1;
 const FULL: u8 = 2;
-const COMPACCESS: u8 = 4;
 
 /// How many users of a policy are asked, and how many changes of labels are tried for each.
 const USERS: usize = 4;
@@ -27,7 +26,7 @@ pub enum Program {
 }
 
 impl Program {
-    fn call(self, call: &Call, lent: &Checked, session: &mut [u8; SESSION]) -> Answer {
+    pub fn call(self, call: &Call, lent: &Checked, session: &mut [u8; SESSION]) -> Answer {
         match self {
             Program::Library => call.by_library(lent.image, session),
             Program::Model => call.by_model(&lent.by_model, session),
@@ -48,12 +47,21 @@ impl Program {
 #[derive(Clone, Copy, Debug, PartialEq, Eq)]
 pub enum Held {
     Nothing,
+    /// Edition 2 has it not.
     CompAccess,
     /// At least one of the two.
     ReadOrFull,
 }
 
 impl Held {
+    /// All by which more is read than is dominated.
+    pub fn of(edition: Edition) -> &'static [Held] {
+        match edition {
+            Edition::One => &[Held::CompAccess, Held::ReadOrFull],
+            Edition::Two => &[Held::ReadOrFull],
+        }
+    }
+
     fn give(self, user: &mut User, rng: &mut Rng) {
         let held = match self {
             Held::Nothing => 0,

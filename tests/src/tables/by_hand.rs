@@ -190,6 +190,11 @@ pub fn refused_images(edition: Edition) -> Vec<(Vec<u8>, Answer)> {
     };
     let mut unsound = whole.clone();
     unsound[600] ^= 1;
+    // Bit 128, or COMPACCESS, which edition 2 has not.
+    let privilege = match edition {
+        Edition::One => 128,
+        Edition::Two => 4,
+    };
     vec![
         (whole[..511].to_vec(), refused(1, 0)),
         (unsound, refused(2, 1)),
@@ -198,7 +203,7 @@ pub fn refused_images(edition: Edition) -> Vec<(Vec<u8>, Answer)> {
         (changed(2, 509, 1), refused(31, 0)),
         (changed(1, 4 + 8 * 40 + 35, 1), refused(32, 65_536 + 8)),
         (changed(2, second_label + 4, 3), refused(33, 2 * 65_536 + 1)),
-        (changed(3, 4 + 31, 128), refused(34, 3 * 65_536)),
+        (changed(3, 4 + 31, privilege), refused(34, 3 * 65_536)),
         // The third group is its own parent.
         (changed(1, 4 + 7 * 40 + 34, 2), refused(35, 2)),
         // MARA's write group is SOUTH, which isn't below NORTH.

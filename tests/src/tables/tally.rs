@@ -51,7 +51,8 @@ impl RowTally {
     }
 
     /// Asks that each call gave each of its answers and saw each of its kinds at least so often,
-    /// and that users had all 128 privilege bytes. What only one edition has never came in the other.
+    /// and that users had all privilege bytes of the edition. What only one edition has never came in the
+    /// other.
     pub fn assert_varied(&self, edition: Edition, least: usize) {
         for (call, outcomes) in OUTCOMES {
             self.answers.assert_least(call, outcomes, least);
@@ -68,7 +69,7 @@ impl RowTally {
             };
             assert!(is_right, "{call}: {kind} came {times} times");
         }
-        assert_eq!(self.privileges.len(), 128);
+        assert_eq!(self.privileges.len(), edition.privilege_bytes());
     }
 }
 

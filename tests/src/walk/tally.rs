@@ -64,8 +64,8 @@ impl WalkTally {
     }
 
     /// Asks that each call gave each of its answers at least so often, that neither yes nor no is
-    /// rare, also where labels decide, and that users had all 128 privilege bytes. Unknown tags are seen
-    /// with READ and FULL in edition 1, and in edition 2 they are not.
+    /// rare, also where labels decide, and that users had all privilege bytes of the edition. Unknown tags
+    /// are seen with READ and FULL in edition 1, and in edition 2 they are not.
     pub fn assert_varied(&self, edition: Edition, least: usize) {
         for (call, outcomes) in OUTCOMES {
             self.answers.assert_least(call, outcomes, least);
@@ -84,7 +84,7 @@ impl WalkTally {
         if edition == Edition::Two {
             self.assert_high(least);
         }
-        assert_eq!(self.privileges.len(), 128);
+        assert_eq!(self.privileges.len(), edition.privilege_bytes());
     }
 
     /// Asks that groups which only edition 2 has came in sessions at least so often, and at times texts

@@ -1,6 +1,9 @@
 //! The sample co-operative of document 01. Each test has its own copy on the heap, of just its
 //! length, so that valgrind sees a read past its end.
 
+#[allow(dead_code)]
+pub mod images;
+
 use brawnesk::{Image, Refusal, Session};
 
 fn file(name: &str) -> Box<[u8]> {

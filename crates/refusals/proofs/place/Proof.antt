@@ -37,6 +37,9 @@ enum-known-r-6 c = search needs
 enum-known-r-7 : tie.Need-enum-known-r-7
 enum-known-r-7 c = search needs
 
+enum-known-r-8 : tie.Need-enum-known-r-8
+enum-known-r-8 c = search needs
+
 returns : tie.Need-returns
 returns c = sym (ap placeOf (c .before .r .given .1))
 
@@ -59,7 +62,10 @@ returns-7 : tie.Need-returns-7
 returns-7 c = sym (ap placeOf (c .before .r7 .given .1))
 
 returns-8 : tie.Need-returns-8
-returns-8 c = sym (ap placeIn (others-none (c .before .args .r) (c .match .keys8)))
+returns-8 c = sym (ap placeOf (c .before .r8 .given .1))
+
+returns-9 : tie.Need-returns-9
+returns-9 c = sym (ap placeIn (others-none (c .before .args .r) (c .match .keys9)))
 
 pub place-spec : {M : Type 1} → statement M
 place-spec =
@@ -75,6 +81,7 @@ place-spec =
     enum-known-r-5
     enum-known-r-6
     enum-known-r-7
+    enum-known-r-8
     returns
     returns-2
     returns-3
@@ -82,4 +89,5 @@ place-spec =
     returns-5
     returns-6
     returns-7
-    returns-8)
+    returns-8
+    returns-9)

@@ -58,6 +58,15 @@ slice-aggregate-put-value-4 c = search needs
 put-value-requires-4 : tie.Need-put-value-requires-4
 put-value-requires-4 c κs = search needs
 
+enum-known-refusal-8 : tie.Need-enum-known-refusal-8
+enum-known-refusal-8 c = search needs
+
+slice-aggregate-put-value-5 : tie.Need-slice-aggregate-put-value-5
+slice-aggregate-put-value-5 c = search needs
+
+put-value-requires-5 : tie.Need-put-value-requires-5
+put-value-requires-5 c κs = search needs
+
 same-length : tie.Need-same-length
 same-length c = search needs
 
@@ -114,10 +123,18 @@ returns-7 c =
     let v = c .before .before in
     rw (v .before .before .before .before .refusal7 .given .1) (v .put-value4 .ensures)
 
+same-length-8 : tie.Need-same-length-8
+same-length-8 c = search needs
+
 returns-8 : tie.Need-returns-8
 returns-8 c =
+    let v = c .before .before in
+    rw (v .before .before .before .before .refusal8 .given .1) (v .put-value5 .ensures)
+
+returns-9 : tie.Need-returns-9
+returns-9 c =
     let start = c .before .before in
-    told-none (start .args .refusal) _ _ (others-none (start .args .refusal) (c .match .keys8))
+    told-none (start .args .refusal) _ _ (others-none (start .args .refusal) (c .match .keys9))
 
 pub put-place-spec : {M : Type 1} → statement M
 put-place-spec =
@@ -141,6 +158,9 @@ put-place-spec =
     enum-known-refusal-7
     slice-aggregate-put-value-4
     put-value-requires-4
+    enum-known-refusal-8
+    slice-aggregate-put-value-5
+    put-value-requires-5
     same-length
     returns
     same-length-2
@@ -155,4 +175,6 @@ put-place-spec =
     returns-6
     same-length-7
     returns-7
-    returns-8)
+    same-length-8
+    returns-8
+    returns-9)

@@ -4,11 +4,11 @@ use mathlib.Core.List.{List, flatten}
 use native.Mathlib.Omega.{arith}
 use borrow.Author.Needs.{needs}
 use lib.ListN.{length}
-use Rattle.header.specs.declared.edition.Edition.the-variants.{Two}
 use Rattle.header.proofs.Editions.{kind-roomy}
 use Rattle.writing.specs.Laid.{headOf, blockOf}
 use Rattle.writing.proofs.Ended.{block-written}
-use Rattle.moves.specs.Parts.{upRun}
+use Rattle.moves.specs.Moved.{editionAfter}
+use Rattle.moves.specs.Parts.{newRun}
 use Rattle.moves.proofs.Steps.{run-count, run-used, run-fits, room-after, then-written, written-same}
 use Rattle.moves.proofs.packing.move_block.Statement.{statement}
 use Rattle.moves.proofs.packing.move_block.Tie as tie
@@ -21,16 +21,16 @@ abbrev head-at : tie.After-put-records → tie.After-put-head
 head-at c = c .before .before .before .before
 
 abbrev run : tie.Start → List (List ℕ)
-run s = upRun (s .args .image .now) (s .args .kind) (s .args .from) (s .args .to)
+run s = newRun (s .args .which) (s .args .image .now) (s .args .kind) (s .args .from) (s .args .to)
 
 fits : (s : tie.Start) → length (flatten (run s)) ≤ 506
-fits s = run-fits _ _ (s .pre .0 .0) (s .pre .0 .1 .0) (s .args .from) (s .args .to) (s .pre .1 .0 .0) (s .pre .0 .1 .1) (s .pre .1 .0 .1)
+fits s = run-fits (s .args .which) _ _ (s .pre .0 .0) (s .pre .0 .1 .0) (s .args .from) (s .args .to) (s .pre .1 .0 .0) (s .pre .0 .1 .1) (s .pre .1 .0 .1)
 
 sub-count : tie.Need-sub-count
 sub-count c = search needs
 
 cast-count : tie.Need-cast-count
-cast-count c = omega (arith, kind-roomy Two (c .before .before .args .kind) 0 0 .few)
+cast-count c = omega (arith, kind-roomy (editionAfter (c .before .before .args .which)) (c .before .before .args .kind) 0 0 .few)
 
 kind-byte-requires : tie.Need-kind-byte-requires
 kind-byte-requires c κs = search needs
@@ -65,8 +65,8 @@ returns c =
     let headed = head-at filled in
     let s = start headed in
     let pre = s .pre in
-    let count = run-count _ _ (s .args .from) (s .args .to) (pre .1 .0 .0) (pre .0 .1 .1) in
-    let used = run-used _ _ (pre .0 .0) (pre .0 .1 .0) (s .args .from) (s .args .to) (pre .1 .0 .0) (pre .0 .1 .1) (pre .1 .0 .1) (s .args .place) in
+    let count = run-count (s .args .which) _ _ (s .args .from) (s .args .to) (pre .1 .0 .0) (pre .0 .1 .1) in
+    let used = run-used (s .args .which) _ _ (pre .0 .0) (pre .0 .1 .0) (s .args .from) (s .args .to) (pre .1 .0 .0) (pre .0 .1 .1) (pre .1 .0 .1) (s .args .place) in
     let first = ap₂ (λ (k n : ℕ). headOf k n (s .args .place)) (headed .before .before .kind-byte .ensures) (sym count) in
     let head = written-same first (headed .put-head .ensures) in
     let rest = filled .put-records .ensures in

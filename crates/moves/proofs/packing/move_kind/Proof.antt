@@ -1,33 +1,34 @@
 use Prim.Native.Nat.{ℕ, _+_, _-_, _≤_, _<_, min}
-use mathlib.Core.Path.{_≡_}
+use mathlib.Core.Path.{_≡_, ap, _∙_}
 use mathlib.Core.List.{List, _++_}
 use native.Mathlib.Omega.{arith}
 use borrow.Author.Needs.{needs}
 use lib.ListN.{length}
-use Rattle.header.specs.declared.edition.Edition.the-variants.{Two}
+use Rattle.header.specs.declared.edition.Edition.{Edition}
 use Rattle.header.specs.declared.layout.Kind.{Kind}
 use Rattle.header.specs.Layout.{countOf, kindByte, capacityOf}
 use Rattle.writing.specs.Laid.{blockOf}
 use Rattle.header.proofs.Inside.{header-inside}
 use Rattle.buffers.proofs.Left.{Left, left-start, left-room, left-turn, left-end}
-use Rattle.moves.specs.Parts.{upRun, upKind}
+use Rattle.moves.specs.declared.target.Move.{Move}
+use Rattle.moves.specs.Parts.{newRun, newCapacity, newKind}
 use Rattle.moves.proofs.Steps.{blocksLeft, last-place, kind-start, kind-step, kind-end, kind-long, block-long}
 use Rattle.moves.proofs.packing.move_kind.Statement.{statement}
 use Rattle.moves.proofs.packing.move_kind.Tie as tie
 
 abbrev Inv-loop : tie.InvT-loop
-Inv-loop image kind place buffer₀ at held count end₀ b₀ from₀ buffer end b from =
-    (from ≤ count) × ((b ≤ place + from) × Left buffer₀ at (upKind image kind place) buffer end (blocksLeft image kind from b))
+Inv-loop which image kind place buffer₀ at held count end₀ b₀ from₀ buffer end b from =
+    (from ≤ count) × ((b ≤ place + from) × Left buffer₀ at (newKind which image kind place) buffer end (blocksLeft which image kind from b))
 
 abbrev μ-loop : tie.MeasureT-loop
-μ-loop image kind place buffer₀ at held count end₀ b₀ from₀ buffer end b from = count - from
+μ-loop which image kind place buffer₀ at held count end₀ b₀ from₀ buffer end b from = count - from
 
 -- from the block's last place back to where the records are counted, and from there to the entry
 abbrev counted-at : tie.After-lower Inv-loop μ-loop → tie.After-count Inv-loop μ-loop
 counted-at c = c .before .before .before
 
 abbrev start : tie.After-count Inv-loop μ-loop → tie.Start Inv-loop μ-loop
-start c = c .before .before .before .before
+start c = c .before .before .before .before .before
 
 -- a turn of the loop: the block's records, and the buffer's room for all blocks
 module _ (c : tie.After-lower Inv-loop μ-loop) where
@@ -40,6 +41,9 @@ module _ (c : tie.After-lower Inv-loop μ-loop) where
   abbrev kind : Kind
   kind = a .args .kind
 
+  abbrev which : Move
+  which = a .args .which
+
   abbrev from : ℕ
   from = c .before .before .loop .from
 
@@ -50,33 +54,41 @@ module _ (c : tie.After-lower Inv-loop μ-loop) where
   b = c .before .before .loop .b
 
   abbrev block : List ℕ
-  block = blockOf (kindByte kind) b (upRun im kind from to)
+  block = blockOf (kindByte kind) b (newRun which im kind from to)
 
   abbrev rest : List ℕ
-  rest = blocksLeft im kind to (b + 1)
+  rest = blocksLeft which im kind to (b + 1)
 
-  upto : to ≡ min (countOf im kind) (from + capacityOf Two kind)
-  upto = last-place from (c .lower .ensures) (counted-at c .count .ensures .0) (counted-at c .before .capacity .ensures .0)
+  capacity-told : counted-at c .before .capacity .result ≡ newCapacity which kind
+  capacity-told =
+      let told = counted-at c .before in
+      told .capacity .ensures .0 ∙ ap (λ (e : Edition). capacityOf e kind) (told .before .edition-after .ensures)
+
+  upto : to ≡ min (countOf im kind) (from + newCapacity which kind)
+  upto = last-place from (c .lower .ensures) (counted-at c .count .ensures .0) capacity-told
 
   here : from < countOf im kind
   here = omega (arith, c .before .loop-test .taken, counted-at c .count .ensures .0)
 
-  step : blocksLeft im kind from b ≡ block ++ rest
-  step = kind-step im kind from b to here upto
+  step : blocksLeft which im kind from b ≡ block ++ rest
+  step = kind-step which im kind from b to here upto
 
-  whole : a .args .at + length (upKind im kind (a .args .place)) ≤ length (a .args .buffer .now)
-  whole = rw (kind-long im kind (a .pre .0 .0) (a .pre .0 .1 .0) (a .args .place)) (a .pre .1)
+  whole : a .args .at + length (newKind which im kind (a .args .place)) ≤ length (a .args .buffer .now)
+  whole = rw (kind-long which im kind (a .pre .0 .0) (a .pre .0 .1 .0) (a .args .place)) (a .pre .1)
+
+edition-after-requires : tie.Need-edition-after-requires Inv-loop μ-loop
+edition-after-requires c κs = search needs
 
 capacity-requires : tie.Need-capacity-requires Inv-loop μ-loop
 capacity-requires c κs = search needs
 
 count-requires : tie.Need-count-requires Inv-loop μ-loop
-count-requires c κs = header-inside _ (c .before .before .before .pre .0 .0)
+count-requires c κs = header-inside _ (c .before .before .before .before .pre .0 .0)
 
 loop-holds : tie.Need-loop-holds Inv-loop μ-loop
 loop-holds c =
-    let start = c .before .before .before .before in
-    (omega arith, (omega arith, left-start _ _ _ _ (kind-start (start .args .image .now) (start .args .kind) (start .args .place))))
+    let start = c .before .before .before .before .before in
+    (omega arith, (omega arith, left-start _ _ _ _ (kind-start (start .args .which) (start .args .image .now) (start .args .kind) (start .args .place))))
 
 add-lower : tie.Need-add-lower Inv-loop μ-loop
 add-lower c = omega arith
@@ -92,8 +104,8 @@ move-block-requires c κs =
     let some = here l in
     let low : from l ≤ to l = omega arith in
     let high : to l ≤ countOf (im l) (kind l) = omega arith in
-    let few : to l ≤ from l + capacityOf Two (kind l) = omega arith in
-    let long = block-long (im l) (kind l) (pre .0 .0) (pre .0 .1 .0) (from l) (to l) low high few (b l) in
+    let few : to l ≤ from l + newCapacity (which l) (kind l) = omega arith in
+    let long = block-long (which l) (im l) (kind l) (pre .0 .0) (pre .0 .1 .0) (from l) (to l) low high few (b l) in
     let fits = left-room _ _ _ _ _ _ (l .before .before .loop .inv .1 .1) (block l) (rest l) (step l) (whole l) in
     ((pre .0 .0, (pre .0 .1 .0, high)), ((low, few), (omega arith, rw long at fits)))
 
@@ -118,10 +130,10 @@ same-length c = c .before .loop .inv .1 .1 .long
 returns : tie.Need-returns Inv-loop μ-loop
 returns c =
     let counted = c .before .before in
-    let start = counted .before .before .before .before in
+    let start = counted .before .before .before .before .before in
     let inv = c .before .loop .inv in
     left-end _ _ _ _ _ _ (inv .1 .1)
-    (kind-end (start .args .image .now) (start .args .kind) _ _ (omega (arith, counted .count .ensures .0)))
+    (kind-end (start .args .which) (start .args .image .now) (start .args .kind) _ _ (omega (arith, counted .count .ensures .0)))
 
 pub move-kind-spec : {M : Type 1} → statement M
 move-kind-spec =
@@ -129,6 +141,7 @@ move-kind-spec =
     (tie.spec
     Inv-loop
     μ-loop
+    edition-after-requires
     capacity-requires
     count-requires
     loop-holds

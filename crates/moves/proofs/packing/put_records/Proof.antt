@@ -4,18 +4,18 @@ use mathlib.Core.Path.{refl}
 use mathlib.Core.List.{flatten}
 use Rattle.header.specs.Layout.{recordAt}
 use Rattle.buffers.proofs.Left.{Left, left-start, left-room, left-turn, left-end}
-use Rattle.moves.specs.Moved.{upRecord}
-use Rattle.moves.specs.Parts.{upRun}
-use Rattle.moves.proofs.Steps.{run-step, run-end, up-long}
+use Rattle.moves.specs.Moved.{newRecord}
+use Rattle.moves.specs.Parts.{newRun}
+use Rattle.moves.proofs.Steps.{run-step, run-end, new-long}
 use Rattle.moves.proofs.packing.put_records.Statement.{statement}
 use Rattle.moves.proofs.packing.put_records.Tie as tie
 
 abbrev Inv-loop : tie.InvT-loop
-Inv-loop image kind from to buffer₀ at end₀ i₀ buffer end i =
-    Left buffer₀ at (flatten (upRun image kind from to)) buffer end (flatten (upRun image kind i to))
+Inv-loop which image kind from to buffer₀ at end₀ i₀ buffer end i =
+    Left buffer₀ at (flatten (newRun which image kind from to)) buffer end (flatten (newRun which image kind i to))
 
 abbrev μ-loop : tie.MeasureT-loop
-μ-loop image kind from to buffer₀ at end₀ i₀ buffer end i = to - i
+μ-loop which image kind from to buffer₀ at end₀ i₀ buffer end i = to - i
 
 loop-holds : tie.Need-loop-holds Inv-loop μ-loop
 loop-holds c = left-start _ _ _ _ refl
@@ -27,11 +27,12 @@ put-record-requires c κs =
     let pre = start .pre in
     let im = start .args .image .now in
     let kind = start .args .kind in
+    let which = start .args .which in
     let i = turned .before .loop .i in
-    let step = run-step im kind i _ (turned .loop-test .taken) (pre .0 .1 .1) in
-    let fits = left-room _ _ _ _ _ _ (turned .before .loop .inv) (upRecord kind (recordAt im kind i)) _ step (pre .1) in (
+    let step = run-step which im kind i _ (turned .loop-test .taken) (pre .0 .1 .1) in
+    let fits = left-room _ _ _ _ _ _ (turned .before .loop .inv) (newRecord which kind (recordAt im kind i)) _ step (pre .1) in (
       (pre .0 .0, (pre .0 .1 .0, omega arith)),
-      rw (up-long im kind (pre .0 .0) (pre .0 .1 .0) i (omega arith)) at fits,
+      rw (new-long which im kind (pre .0 .0) (pre .0 .1 .0) i (omega arith)) at fits,
     )
 
 add-i : tie.Need-add-i Inv-loop μ-loop
@@ -44,15 +45,16 @@ loop-again : tie.Need-loop-again Inv-loop μ-loop
 loop-again c =
     let written = c .before .before in
     let turned = written .before .before in
-    let pre = turned .before .before .before .before .pre in
-    let step = run-step _ _ _ _ (turned .loop-test .taken) (pre .0 .1 .1) in
+    let start = turned .before .before .before .before in
+    let pre = start .pre in
+    let step = run-step (start .args .which) _ _ _ _ (turned .loop-test .taken) (pre .0 .1 .1) in
     left-turn _ _ _ _ _ _ (turned .before .loop .inv) _ _ step _ _ (pre .1) (written .put-record .ensures)
 
 same-length : tie.Need-same-length Inv-loop μ-loop
 same-length c = c .before .loop .inv .long
 
 returns : tie.Need-returns Inv-loop μ-loop
-returns c = left-end _ _ _ _ _ _ (c .before .loop .inv) (run-end _ _ _ _ (c .loop-test .left))
+returns c = left-end _ _ _ _ _ _ (c .before .loop .inv) (run-end (c .before .before .before .before .args .which) _ _ _ _ (c .loop-test .left))
 
 pub put-records-spec : {M : Type 1} → statement M
 put-records-spec =
