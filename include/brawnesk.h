@@ -12,7 +12,11 @@
  *
  * Editions. Every call that is lent an image takes edition 1 and edition 2; only brawnesk_move_up, which makes 2 of 1, and the two calls on
  * COMPACCESS before it refuse edition 2. An image of edition 1 has up to 64 groups, 1,680 labels and 96 users, one of edition 2 up to 256
- * groups, 800 labels and 32 users. Edition 2 does not have COMPACCESS: a user record that holds it is refused 34. */
+ * groups, 800 labels and 32 users. Edition 2 does not have COMPACCESS: a user record that holds it is refused 34.
+ *
+ * Profiles. Byte 12 of an image tells its profile, in both editions: 0 groups with parents, 1 release groups; any other is refused 31. In a
+ * release image the groups of a row are those that it may go to: without READ and FULL a session may read or write a row only if all groups
+ * of the session label are among them. Groups have no parents there (32), and users do not hold COMPACCESS (34). */
 #ifndef BRAWNESK_H
 #define BRAWNESK_H
 
@@ -27,7 +31,7 @@ extern "C" {
  * 31 the header, a length unfit for its counts, or a block's kind, record count or bytes outside records; 32 a component record, 33 a
  * label record, 34 a user record (its block, and its place there); 35 the parents of a group never end (the lowest such group).
  * The lowest block decides among 31 to 34, in it 31 first and then the lowest record; of two records that clash the later is at fault.
- * 35 comes after all these; the rules that a user's groups lie below others come last, as 34. */
+ * 35 comes after all these; the rules that a user's groups lie below others, or contain others in a release image, come last, as 34. */
 uint64_t brawnesk_check(const uint8_t *image, size_t image_length);
 
 /* Where the name of a component stands: class 1 level, 2 compartment, 3 group; place counts from 0 in its class, for groups up to 255.
@@ -61,7 +65,9 @@ uint64_t brawnesk_open(const uint8_t *image, size_t image_length, const uint8_t 
 
 /* Gives the session the session label, or the row label, that a text names. Done: 0, and the session's 104 bytes are written.
  * Refusals: 1, 2, 31 to 35, 19 the session breaks its rules for that image, 5, then the leftmost name refused by 6 or 7 (its offset),
- * then 8 level, 9 compartments, 10 groups not allowed; a new session label also 11 the row label would stand outside it. */
+ * then 8 level, 9 compartments, 10 groups not allowed; a new session label also 11 the row label would stand outside it. Under a release
+ * image a session label lacks none of the groups that the user reads, and a row label none of the session label's: otherwise 10 for the
+ * new label, and 11 for the row label that a new session label would leave. */
 uint64_t brawnesk_set_label(const uint8_t *image, size_t image_length, uint8_t *session, const uint8_t *text, size_t text_length);
 uint64_t brawnesk_set_row_label(const uint8_t *image, size_t image_length, uint8_t *session, const uint8_t *text, size_t text_length);
 
@@ -91,8 +97,9 @@ uint64_t brawnesk_masked(const uint8_t *image, size_t image_length, const uint8_
                          size_t width, size_t place, const uint8_t *mask, size_t mask_length);
 
 /* Does label 1 dominate label 2: is its level at least as high, has it all compartments of label 2, and has label 2 no groups, or one that
- * is among label 1's or has an ancestor there, at any distance? Strictly: and the labels differ. Where a session's user has none of READ,
- * FULL and COMPACCESS, the session may read a row whose tag the image has exactly if the session label dominates the row's label.
+ * is among label 1's or has an ancestor there, at any distance? Under a release image, in place of that: are all groups of label 1 among
+ * label 2's? Strictly: and the labels differ. Where a session's user has none of READ, FULL and COMPACCESS, the session may read a row whose
+ * tag the image has exactly if the session label dominates the row's label.
  * Done: 1 yes, 0 no. Refusals: 1, 2, 31 to 35, 18 either label names a component that the policy lacks. */
 uint64_t brawnesk_dominates(const uint8_t *image, size_t image_length, const uint8_t *label1, const uint8_t *label2);
 uint64_t brawnesk_strictly_dominates(const uint8_t *image, size_t image_length, const uint8_t *label1, const uint8_t *label2);
@@ -102,8 +109,8 @@ uint64_t brawnesk_strictly_dominates(const uint8_t *image, size_t image_length, 
 uint64_t brawnesk_merge(const uint8_t *label1, const uint8_t *label2, const uint8_t *letters, size_t letters_length, uint8_t *merged);
 
 /* The users of an image of edition 1 who hold COMPACCESS: their places, one byte each, rising, at the front of the buffer; later bytes
- * stay. 96 bytes are always enough. Done: how many. Refusals: 1, 2, 31 an image of edition 2, 31 to 35, 13 they are more than the buffer
- * has bytes. */
+ * stay. 96 bytes are always enough. Done: how many, 0 for a release image. Refusals: 1, 2, 31 an image of edition 2, 31 to 35, 13 they are
+ * more than the buffer has bytes. */
 uint64_t brawnesk_compaccess_users(const uint8_t *image, size_t image_length, uint8_t *out, size_t out_length);
 
 /* An image of edition 1 with COMPACCESS taken from the users who hold it, at the front of the buffer; later bytes stay. Nothing else in it
@@ -113,8 +120,8 @@ uint64_t brawnesk_compaccess_users(const uint8_t *image, size_t image_length, ui
 uint64_t brawnesk_clear_compaccess(const uint8_t *image, size_t image_length, uint8_t *out, size_t out_length);
 
 /* An image of edition 1 in the layouts of edition 2, at the front of the buffer; later bytes stay. The new image is accepted and has the
- * same components, labels and users, each at the same place. Sessions and labels go on under it, and their verdicts on tags that labels
- * carry are the same. Done: its length, at most 56,832. Refusals: 1, 2, 31 an image of edition 2, 31 to 35, 37 over 800 labels or 32
+ * same profile, components, labels and users, each at the same place. Sessions and labels go on under it, and their verdicts on tags that
+ * labels carry are the same. Done: its length, at most 56,832. Refusals: 1, 2, 31 an image of edition 2, 31 to 35, 37 over 800 labels or 32
  * users, 36 COMPACCESS is held (by how many users), 13 the new image is longer than the buffer. */
 uint64_t brawnesk_move_up(const uint8_t *image, size_t image_length, uint8_t *out, size_t out_length);
 
@@ -129,7 +136,8 @@ uint64_t brawnesk_move_up(const uint8_t *image, size_t image_length, uint8_t *ou
     REFUSAL(8, BRAWNESK_LEVEL_NOT_ALLOWED, "the level of the new label is not allowed") \
     REFUSAL(9, BRAWNESK_COMPARTMENTS_NOT_ALLOWED, "the compartments of the new label are not allowed") \
     REFUSAL(10, BRAWNESK_GROUPS_NOT_ALLOWED, "the groups of the new label are not allowed") \
-    REFUSAL(11, BRAWNESK_ROW_LABEL_OUTSIDE, "the row label would be above the new level, or outside the new write compartments or groups") \
+    REFUSAL(11, BRAWNESK_ROW_LABEL_OUTSIDE, \
+            "the row label would be above the new level, outside the new write compartments or groups, or in a release image lack a new group") \
     REFUSAL(12, BRAWNESK_TABLE_SHAPE, "the row width is not 5 to 512, or the table's length is not a multiple of it") \
     REFUSAL(13, BRAWNESK_ROOM, "the result is longer than the buffer for it") \
     REFUSAL(14, BRAWNESK_NO_ROW, "there is no row of that number") \

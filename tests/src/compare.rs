@@ -1,6 +1,7 @@
 //! What two programs are compared by: an image for both, the model's result as an answer, the seeds,
 //! and how often each answer came.
 
+use crate::builder::Profile;
 use crate::ffi::Answer;
 use crate::model::{accepted, Image, Refusal};
 use std::collections::BTreeMap;
@@ -76,8 +77,16 @@ impl Tally {
     }
 }
 
-/// The refusals of an image, which every call gives that is lent one.
-pub const OF_IMAGES: [&str; 7] = ["1", "2", "31", "32", "33", "34", "35"];
+/// The refusals of an image, which every call gives that is lent one. The last is none of the release profile.
+const OF_IMAGES: [&str; 7] = ["1", "2", "31", "32", "33", "34", "35"];
+
+/// The refusals of images of a profile.
+pub fn of_images(profile: Profile) -> &'static [&'static str] {
+    match profile {
+        Profile::Tree => &OF_IMAGES,
+        Profile::Release => &OF_IMAGES[..6],
+    }
+}
 
 /// How often each answer came to each call: "done", or "yes" and "no", or the refusal's number.
 #[derive(Debug, Default)]
@@ -109,6 +118,15 @@ impl CallTally {
         for outcome in outcomes {
             let times = self.times(call, outcome);
             assert!(times >= least, "{call}: {outcome} came {times} times");
+        }
+    }
+
+    /// Asks that a call gave the refusals of images of a profile at least so often, and no others of images.
+    pub fn assert_of_images(&self, profile: Profile, call: &'static str, least: usize) {
+        let refusals = of_images(profile);
+        self.assert_least(call, refusals, least);
+        for never in OF_IMAGES.iter().filter(|it| !refusals.contains(it)) {
+            assert_eq!(self.times(call, never), 0, "{call}: {never}");
         }
     }
 

@@ -1,17 +1,18 @@
 //! Label texts and labels for a policy, by seed: right ones, and ones that are wrong in every way that
 //! the rules of label text name.
 
-use crate::builder::{letters, random, Component, Edition, Label, Policy, Set, Sizes};
+use crate::builder::{letters, random, Component, Edition, Label, Policy, Set, Sizes, Variant};
 use crate::rng::Rng;
 
 /// Mostly small, sometimes up to all limits of components. Label text asks nothing of users and
 /// labels, so these are few.
-pub fn policy(edition: Edition, rng: &mut Rng) -> Policy {
+pub fn policy(variant: impl Into<Variant>, rng: &mut Rng) -> Policy {
+    let variant = variant.into();
     let mut sizes = match rng.index(40) {
-        0 => Sizes::any(edition, rng),
-        1 => Sizes::full(edition),
-        2..=7 => Sizes::medium(edition, rng),
-        _ => Sizes::small(edition, rng),
+        0 => Sizes::any(variant, rng),
+        1 => Sizes::full(variant),
+        2..=7 => Sizes::medium(variant, rng),
+        _ => Sizes::small(variant, rng),
     };
     sizes.users = sizes.users.min(4);
     sizes.labels = sizes.labels.min(30);
@@ -20,8 +21,8 @@ pub fn policy(edition: Edition, rng: &mut Rng) -> Policy {
 
 /// A policy of all limits whose names all have 30 bytes: its longest text has 3,998 bytes in edition 1
 /// and 9,950 in edition 2.
-pub fn longest_names(edition: Edition) -> Policy {
-    let mut policy = random(Sizes::full(edition), &mut Rng::new(2));
+pub fn longest_names(variant: impl Into<Variant>) -> Policy {
+    let mut policy = random(Sizes::full(variant), &mut Rng::new(2));
     for class in [
         &mut policy.levels,
         &mut policy.compartments,

@@ -8,17 +8,23 @@ mod moving;
 #[path = "compaccess/raw.rs"]
 mod raw;
 
-use brawnesk_tests::builder::{full, sample, to_image, Edition, Policy};
+use brawnesk_tests::builder::{full, partners, to_image};
+use brawnesk_tests::builder::{Edition, Policy, Profile, Variant};
 use brawnesk_tests::compaccess::{by_hand, each_verdict, held, Asked};
 use brawnesk_tests::compaccess::{HolderCall, HolderTally, VerdictTally};
 use brawnesk_tests::compare::{one_seed, seeds, CallTally};
 use brawnesk_tests::ffi::{self, Answer, SESSION};
+use brawnesk_tests::in_each_profile;
 use brawnesk_tests::moving::{by_hand::sized, by_model, policy};
 use brawnesk_tests::pairs::Program;
 use brawnesk_tests::rng::Rng;
 use std::hint::black_box;
 
-/// Images, each of which both calls are asked on.
+in_each_profile! {
+    the_library_agrees_with_the_model
+}
+
+/// Images, each of which both calls are asked on, in each profile.
 const IMAGES: u64 = 12_000;
 
 /// Policies whose verdicts are asked before and after a clearing move.
@@ -66,11 +72,10 @@ fn clear(image: &[u8]) -> Vec<u8> {
     cleared
 }
 
-#[test]
-fn the_library_agrees_with_the_model() {
+fn the_library_agrees_with_the_model(profile: Profile) {
     let mut tally = HolderTally::default();
     for seed in seeds(0..IMAGES) {
-        for it in Asked::both(seed) {
+        for it in Asked::both(profile, seed) {
             let mut given = it.buffer.clone();
             let answer = ask(it.call, &it.image, &mut given);
             assert_eq!(answer, it.answer, "seed {seed}: {:?}", it.call);
@@ -80,7 +85,7 @@ fn the_library_agrees_with_the_model() {
     }
     println!("{tally:?}");
     if one_seed().is_none() {
-        tally.assert_varied(40);
+        tally.assert_varied(profile, 40);
     }
 }
 
@@ -118,15 +123,32 @@ fn every_user_of_the_largest_image() {
     }
 }
 
-/// Each byte of privileges in each edition, also those that are refused.
+/// Each byte of privileges in each edition and profile, also those that are refused.
 #[test]
 fn every_privilege_byte() {
-    for edition in Edition::ALL {
+    for variant in Variant::ALL {
         for privileges in 0..=255 {
-            let mut policy = sample().in_edition(edition);
+            let mut policy = variant.sample();
             policy.users[0].privileges = privileges;
-            compare(&to_image(&policy), &format!("{edition:?}, {privileges}"));
+            compare(&to_image(&policy), &format!("{variant:?}, {privileges}"));
         }
+    }
+}
+
+/// A release image has no holders: the list is empty, and the cleared image is the same.
+#[test]
+fn release_images_are_cleared_to_themselves() {
+    for policy in [partners(), full(Edition::One.release())] {
+        let image = to_image(&policy);
+        assert_eq!(ask(HolderCall::Users, &image, &mut []), Answer::Done(0));
+        assert_eq!(clear(&image), image);
+        compare(&image, "a release image");
+        let held = to_image(&policy.held_by(&[1]));
+        assert!(matches!(
+            ask(HolderCall::Users, &held, &mut []),
+            Answer::Refused { number: 34, .. }
+        ));
+        compare(&held, "a release image, held");
     }
 }
 

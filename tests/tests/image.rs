@@ -4,29 +4,33 @@
 //! alone.
 
 use brawnesk_tests::builder::layout::seal;
-use brawnesk_tests::builder::{full, random_with, sample, to_image, Edition, Sizes, Tree};
-use brawnesk_tests::cases::{by_hand, Case, DamageTally, Kind};
+use brawnesk_tests::builder::{full, random_with, sample, to_image};
+use brawnesk_tests::builder::{Edition, Sizes, Tree, Variant};
+use brawnesk_tests::cases::{by_hand, release, Case, DamageTally, Kind};
 use brawnesk_tests::compare::{expected, one_seed, seeds, Tally};
 use brawnesk_tests::ffi::{self, Answer};
-use brawnesk_tests::in_each_edition;
 use brawnesk_tests::model::{self, Refusal};
 use brawnesk_tests::rng::Rng;
 use brawnesk_tests::vectors;
+use brawnesk_tests::{in_each_edition, in_each_variant};
 
-/// In each edition.
+/// In each edition and profile.
 const CASES: u64 = 54_000;
 
 /// How many damaged images there are at least that 31 to 35 refuse, half of them with several
 /// faults.
 const DAMAGED: usize = 40_000;
 
-in_each_edition! {
+in_each_variant! {
     the_library_agrees_with_the_model
-    the_sample_is_accepted_and_its_names_are_right
     all_names_of_the_largest_image_are_right
-    trees_are_accepted
     alignment_does_not_matter
     vectors_of_images
+}
+
+in_each_edition! {
+    the_sample_is_accepted_and_its_names_are_right
+    trees_are_accepted
 }
 
 #[derive(Default)]
@@ -75,8 +79,8 @@ fn questions(case: &Case, rng: &mut Rng) -> Vec<(u8, u8)> {
 }
 
 /// Number and place of both are the same: block and record of 32 to 34, the group of 35.
-fn compare(edition: Edition, seed: u64, seen: &mut Seen) {
-    let case = Case::new(edition, seed);
+fn compare(variant: Variant, seed: u64, seen: &mut Seen) {
+    let case = Case::new(variant, seed);
     let kind = case.kind;
     let image = &case.image;
     let answer = ffi::check(image);
@@ -105,10 +109,10 @@ fn compare(edition: Edition, seed: u64, seen: &mut Seen) {
     seen.large += usize::from(image.len() >= 100 * 512 && image.len() <= 65_536);
 }
 
-fn the_library_agrees_with_the_model(edition: Edition) {
+fn the_library_agrees_with_the_model(variant: Variant) {
     let mut seen = Seen::default();
     for seed in seeds(0..CASES) {
-        compare(edition, seed, &mut seen);
+        compare(variant, seed, &mut seen);
     }
     println!("answers {:?}, large images {}", seen.answers, seen.large);
     println!("{:?}", seen.damaged);
@@ -117,9 +121,9 @@ fn the_library_agrees_with_the_model(edition: Edition) {
     }
     let least = [(0, 4_000), (1, 1_000), (2, 1_000), (18, 4_000)];
     seen.answers.assert_least(&least);
-    seen.damaged.assert_varied(edition, DAMAGED, 300);
+    seen.damaged.assert_varied(variant, DAMAGED, 300);
     assert!(seen.large >= 300, "{} large images", seen.large);
-    match edition {
+    match variant.edition {
         Edition::One => assert_eq!(seen.high_names, 0),
         Edition::Two => assert!(seen.high_names >= 300, "{}", seen.high_names),
     }
@@ -147,8 +151,8 @@ fn the_sample_is_accepted_and_its_names_are_right(edition: Edition) {
 }
 
 /// Every name of the largest image, in all its component blocks.
-fn all_names_of_the_largest_image_are_right(edition: Edition) {
-    let policy = full(edition);
+fn all_names_of_the_largest_image_are_right(variant: Variant) {
+    let policy = full(variant);
     let image = to_image(&policy);
     let classes = [&policy.levels, &policy.compartments, &policy.groups];
     for (class, components) in (1..).zip(classes) {
@@ -187,15 +191,16 @@ fn the_sample_file_is_the_sample() {
     assert_eq!(std::fs::read(path).unwrap(), to_image(&sample()));
 }
 
-/// Edition 2, byte by byte.
+/// Edition 2, and the release profile in both editions, byte by byte.
 #[test]
 fn refusals_by_hand() {
     by_hand::check(&ffi::check);
+    release::check(&ffi::check);
 }
 
 /// A slice may begin anywhere.
-fn alignment_does_not_matter(edition: Edition) {
-    let image = to_image(&full(edition));
+fn alignment_does_not_matter(variant: Variant) {
+    let image = to_image(&full(variant));
     for shift in 1..8 {
         let mut shifted = vec![255; shift];
         shifted.extend_from_slice(&image);
@@ -218,24 +223,31 @@ fn lengths_are_judged_first() {
     assert_eq!(ffi::check(&[0; 65_536]), expected(Err(Refusal::Block(1))));
 }
 
-/// Every edition that there isn't, in the sample and in the largest image.
+/// Every edition and every profile that there isn't.
 #[test]
-fn unknown_editions() {
-    for edition in Edition::ALL {
-        for policy in [sample().in_edition(edition), full(edition)] {
-            let mut image = to_image(&policy);
-            for number in (0..=255).filter(|number| ![1, 2].contains(number)) {
-                image[4] = number;
+fn unknown_editions_and_profiles() {
+    let policies = Variant::ALL.map(|variant| [variant.sample(), full(variant)]);
+    for policy in policies.as_flattened() {
+        let image = to_image(policy);
+        assert_eq!(ffi::check(&image), Answer::Done(0));
+        for (at, known) in [(4, [1, 2]), (12, [0, 1])] {
+            let mut image = image.clone();
+            for number in (0..=255).filter(|number| !known.contains(number)) {
+                image[at] = number;
                 seal(&mut image, 0);
                 let answer = ffi::check(&image);
-                assert_eq!(answer, expected(Err(Refusal::Layout)), "edition {number}");
+                assert_eq!(
+                    answer,
+                    expected(Err(Refusal::Layout)),
+                    "byte {at}: {number}"
+                );
             }
         }
     }
 }
 
-fn vectors_of_images(edition: Edition) {
-    for case in vectors::images(edition) {
+fn vectors_of_images(variant: Variant) {
+    for case in vectors::images(variant) {
         assert_eq!(ffi::check(&case.image), case.answer, "{}", case.line);
     }
 }

@@ -1,19 +1,23 @@
 //! The model by itself: what it accepts, and what it is compared on.
 
-use brawnesk_tests::builder::{full, random, random_with, sample, to_image, Edition, Sizes, Tree};
+use brawnesk_tests::builder::{full, random, random_with, sample, to_image};
+use brawnesk_tests::builder::{Edition, Profile, Sizes, Tree, Variant};
 use brawnesk_tests::cases::{Case, DamageTally};
 use brawnesk_tests::compare::expected;
-use brawnesk_tests::in_each_edition;
 use brawnesk_tests::model::{check, faults, name, Fault, Refusal};
 use brawnesk_tests::rng::Rng;
 use brawnesk_tests::vectors;
+use brawnesk_tests::{in_each_edition, in_each_variant};
 
 in_each_edition! {
     the_sample_is_accepted
-    the_largest_image_is_accepted
-    random_policies_are_accepted
     random_parents_are_varied
     trees_are_accepted
+}
+
+in_each_variant! {
+    the_largest_image_is_accepted
+    random_policies_are_accepted
     cases_are_varied
     wrong_orders_are_found
     vectors_of_images
@@ -28,19 +32,19 @@ fn the_sample_is_accepted(edition: Edition) {
     assert_eq!(name(&image, 3, 4), Err(Refusal::Component));
 }
 
-fn the_largest_image_is_accepted(edition: Edition) {
-    let image = to_image(&full(edition));
+fn the_largest_image_is_accepted(variant: Variant) {
+    let image = to_image(&full(variant));
     assert_eq!(image.len(), 127 * 512);
     assert_eq!(check(&image), Ok(()));
 }
 
-fn random_policies_are_accepted(edition: Edition) {
+fn random_policies_are_accepted(variant: Variant) {
     for seed in 0..2_000 {
         let mut rng = Rng::new(seed);
         let sizes = match seed % 50 {
-            0 => Sizes::any(edition, &mut rng),
-            1..=9 => Sizes::medium(edition, &mut rng),
-            _ => Sizes::small(edition, &mut rng),
+            0 => Sizes::any(variant, &mut rng),
+            1..=9 => Sizes::medium(variant, &mut rng),
+            _ => Sizes::small(variant, &mut rng),
         };
         let image = to_image(&random(sizes, &mut rng));
         assert_eq!(check(&image), Ok(()), "seed {seed}");
@@ -86,10 +90,10 @@ fn trees_are_accepted(edition: Edition) {
 }
 
 /// The images for comparing go everywhere.
-fn cases_are_varied(edition: Edition) {
+fn cases_are_varied(variant: Variant) {
     let mut tally = DamageTally::default();
     for seed in 0..16_000 {
-        let case = Case::new(edition, seed);
+        let case = Case::new(variant, seed);
         let checked = check(&case.image);
         if let Some(refusal) = case.expected() {
             assert_eq!(checked, Err(refusal), "{:?}, seed {seed}", case.kind);
@@ -97,7 +101,7 @@ fn cases_are_varied(edition: Edition) {
         tally.add(&case, expected(checked.map(|()| 0)));
     }
     println!("{tally:?}");
-    tally.assert_varied(edition, 10_000, 75);
+    tally.assert_varied(variant, 10_000, 75);
 }
 
 /// The stage of a fault, its block or group, and its record counted from 1, or 0 without one.
@@ -116,7 +120,7 @@ fn key(fault: &Fault) -> Parts {
 /// An order by name, made from the right one.
 type Order = (&'static str, fn(Parts) -> Parts);
 
-/// Orders that a program might go by and that are wrong.
+/// Orders that a program might go by and that are wrong. In the release profile 35 has no place in any.
 const WRONG: [Order; 9] = [
     ("35 first", |[stage, place, record]| {
         [(stage + 2) % 3, place, record]
@@ -152,10 +156,10 @@ const WRONG: [Order; 9] = [
 
 /// Each wrong order tells another fault for many of the images for comparing, and the right one for
 /// none.
-fn wrong_orders_are_found(edition: Edition) {
+fn wrong_orders_are_found(variant: Variant) {
     let mut found = [0; WRONG.len()];
     for seed in 0..8_000 {
-        let image = Case::new(edition, seed).image;
+        let image = Case::new(variant, seed).image;
         let Err(refusal) = check(&image) else {
             continue;
         };
@@ -174,12 +178,20 @@ fn wrong_orders_are_found(edition: Edition) {
     }
     let found: Vec<_> = WRONG.iter().map(|(name, _)| name).zip(found).collect();
     println!("{found:?}");
-    assert!(found.iter().all(|(_, times)| *times >= 25), "{found:?}");
+    let is_found = |(name, times): &(&&str, usize)| {
+        let is_of_rings = name.contains("35") && variant.is_release();
+        is_of_rings || *times >= 25
+    };
+    assert!(found.iter().all(is_found), "{found:?}");
 }
 
-fn vectors_of_images(edition: Edition) {
-    let cases = vectors::images(edition);
-    assert!(cases.len() >= 45, "{} cases", cases.len());
+fn vectors_of_images(variant: Variant) {
+    let cases = vectors::images(variant);
+    let least = match variant.profile {
+        Profile::Tree => 45,
+        Profile::Release => 25,
+    };
+    assert!(cases.len() >= least, "{} cases", cases.len());
     for case in cases {
         let answer = expected(check(&case.image).map(|()| 0));
         assert_eq!(answer, case.answer, "{}", case.line);

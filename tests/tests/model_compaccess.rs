@@ -2,10 +2,11 @@
 //! on.
 
 use brawnesk_tests::builder::layout::BLOCK;
-use brawnesk_tests::builder::{to_image, Edition, Policy, COMPACCESS};
+use brawnesk_tests::builder::{to_image, Edition, Policy, Profile, COMPACCESS};
 use brawnesk_tests::compaccess::{by_hand, each_verdict, held, Asked, HolderTally, VerdictTally};
 use brawnesk_tests::compare::CallTally;
 use brawnesk_tests::ffi::Answer;
+use brawnesk_tests::in_each_profile;
 use brawnesk_tests::model::Refusal;
 use brawnesk_tests::model::{accepted, check, clear_compaccess, compaccess_users, move_up};
 use brawnesk_tests::moving::{around_limits, by_hand::sized, policy};
@@ -13,6 +14,11 @@ use brawnesk_tests::pairs::Program;
 use brawnesk_tests::rng::Rng;
 use brawnesk_tests::walk::each_call;
 use std::collections::BTreeSet;
+
+in_each_profile! {
+    calls_are_varied
+    refusals_are_those_of_the_move_up
+}
 
 #[test]
 fn answers_by_hand() {
@@ -24,14 +30,14 @@ fn answers_by_hand() {
 }
 
 /// The calls for comparing go everywhere.
-#[test]
-fn calls_are_varied() {
+fn calls_are_varied(profile: Profile) {
     let mut tally = HolderTally::default();
     for seed in 0..6_000 {
-        Asked::both(seed).iter().for_each(|it| tally.add(it));
+        let both = Asked::both(profile, seed);
+        both.iter().for_each(|it| tally.add(it));
     }
     println!("{tally:?}");
-    tally.assert_varied(20);
+    tally.assert_varied(profile, 20);
 }
 
 fn clear(image: &[u8]) -> Vec<u8> {
@@ -47,7 +53,7 @@ fn list(image: &[u8]) -> Vec<usize> {
 fn any_policy(seed: u64) -> Policy {
     let mut rng = Rng::new(seed);
     match seed % 8 {
-        0 => around_limits(&mut rng),
+        0 => around_limits(Profile::Tree, &mut rng),
         _ => held(policy(Edition::One, &mut rng), &mut rng),
     }
 }
@@ -143,11 +149,10 @@ fn every_set_of_holders() {
 }
 
 /// What is refused is refused in the same words by both calls and by the move up, but for 36 and 37.
-#[test]
-fn refusals_are_those_of_the_move_up() {
+fn refusals_are_those_of_the_move_up(profile: Profile) {
     let mut seen = CallTally::default();
     for seed in 0..3_000 {
-        let [list, clear] = Asked::both(seed);
+        let [list, clear] = Asked::both(profile, seed);
         let image = &list.image;
         let [users, cleared] = [list.call, clear.call].map(|it| it.bytes(image, usize::MAX).err());
         assert_eq!(users, cleared, "seed {seed}");

@@ -3,7 +3,8 @@
 
 use brawnesk_tests::builder::layout::{seal, BLOCK};
 use brawnesk_tests::builder::{
-    sample, to_image, Component, Edition, Label, Levels, Policy, Rights, Set, User, COMPACCESS,
+    sample, to_image, Component, Edition, Label, Levels, Policy, Profile, Rights, Set, User,
+    COMPACCESS,
 };
 use brawnesk_tests::cases::by_hand::{self, image};
 use brawnesk_tests::compare::expected;
@@ -12,13 +13,16 @@ use brawnesk_tests::model::{self, check, faults, Kind, Places, Refusal};
 use brawnesk_tests::moving::{self, by_hand::sized};
 use brawnesk_tests::rng::Rng;
 
-/// The image's policy.
-fn policy() -> Policy {
-    let component = |name: &str, number: u16, parent: Option<u16>| Component {
+fn component(name: &str, number: u16, parent: Option<u16>) -> Component {
+    Component {
         name: name.to_string(),
         number,
         parent,
-    };
+    }
+}
+
+/// The image's policy.
+fn policy() -> Policy {
     let [c, g, h] = [0, 0, 1].map(Set::of);
     let label = |tag, compartments, groups| Label {
         tag,
@@ -34,6 +38,7 @@ fn policy() -> Policy {
     };
     Policy {
         edition: Edition::Two,
+        profile: Profile::Tree,
         levels: vec![component("L", 10, None)],
         compartments: vec![component("C", 1, None)],
         groups: vec![component("G", 1, None), component("H", 2, Some(0))],

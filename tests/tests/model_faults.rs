@@ -162,7 +162,7 @@ fn each_fault_is_told_before_the_ones_added_before(edition: Edition) {
         assert!(faults(&image).len() >= count, "{:?}", faults(&image));
     }
     // Nothing after block 0 is looked at where the header is at fault.
-    assert_refused(&mut image, &[(0, 12, 1)], Refusal::Layout);
+    assert_refused(&mut image, &[(0, 12, 2)], Refusal::Layout);
     assert_eq!(faults(&image), [Fault::Layout { block: 0 }]);
     image[3 * BLOCK] ^= 1;
     assert_eq!(check(&image), Err(Refusal::Block(3)));

@@ -1,14 +1,23 @@
 //! The model of the move up by itself, and what it is compared on.
 
-use brawnesk_tests::builder::{to_image, Edition};
+use brawnesk_tests::builder::{to_image, Edition, Profile};
 use brawnesk_tests::calls::Call;
 use brawnesk_tests::compare::CallTally;
 use brawnesk_tests::ffi::Answer;
+use brawnesk_tests::in_each_profile;
 use brawnesk_tests::model::{accepted, check, clear_compaccess, may_read, may_write};
 use brawnesk_tests::model::{move_up, name, open, Image, Refusal, Session};
 use brawnesk_tests::moving::{around_limits, by_hand, by_model, movable, Move, MoveTally};
 use brawnesk_tests::rng::Rng;
 use brawnesk_tests::walk::{each_call, Step};
+
+in_each_profile! {
+    moves_are_varied
+    the_moved_image_is_the_builders
+    limits
+    verdicts_stay
+    calls_stay
+}
 
 #[test]
 fn answers_by_hand() {
@@ -20,21 +29,19 @@ fn answers_by_hand() {
 }
 
 /// The moves for comparing go everywhere.
-#[test]
-fn moves_are_varied() {
+fn moves_are_varied(profile: Profile) {
     let mut tally = MoveTally::default();
     for seed in 0..6_000 {
-        tally.add(&Move::new(seed));
+        tally.add(&Move::new(profile, seed));
     }
     println!("{tally:?}");
-    tally.assert_varied(20);
+    tally.assert_varied(profile, 20);
 }
 
-/// The moved image is the one that the builder makes of the policy in edition 2.
-#[test]
-fn the_moved_image_is_the_builders() {
+/// The moved image is the one that the builder makes of the policy in edition 2, and of the same profile.
+fn the_moved_image_is_the_builders(profile: Profile) {
     for seed in 0..1_000 {
-        let policy = movable(&mut Rng::new(seed));
+        let policy = movable(profile, &mut Rng::new(seed));
         let moved = move_up(&to_image(&policy), usize::MAX);
         assert!(
             moved.as_ref().is_ok_and(|it| check(it) == Ok(())),
@@ -46,12 +53,11 @@ fn the_moved_image_is_the_builders() {
 }
 
 /// 800 labels and 32 users are moved if nobody holds COMPACCESS, and one more of either is not, whoever
-/// holds it.
-#[test]
-fn limits() {
+/// holds it. In the release profile nobody does.
+fn limits(profile: Profile) {
     let mut seen = [[0; 2]; 2];
     for seed in 0..400 {
-        let policy = around_limits(&mut Rng::new(seed));
+        let policy = around_limits(profile, &mut Rng::new(seed));
         let fits = policy.labels.len() <= 800 && policy.users.len() <= 32;
         let holders = policy.holders().len();
         let moved = move_up(&to_image(&policy), usize::MAX);
@@ -63,8 +69,12 @@ fn limits() {
         seen[usize::from(fits)][usize::from(holders > 0)] += 1;
     }
     println!("{seen:?}");
-    let least = seen.iter().flatten().min();
-    assert!(least >= Some(&30), "{seen:?}");
+    let least = match profile {
+        Profile::Tree => 30,
+        Profile::Release => 0,
+    };
+    let is_right = |[nobody, some]: &[usize; 2]| *nobody >= 30 && *some >= least;
+    assert!(seen.iter().all(is_right), "{seen:?}");
 }
 
 /// The names of some components.
@@ -83,11 +93,10 @@ fn verdicts(image: &Image, session: &Session, tag: u32) -> [bool; 2] {
 
 /// Components keep their places and names, users open the same sessions, and these have the same verdicts
 /// on known tags.
-#[test]
-fn verdicts_stay() {
+fn verdicts_stay(profile: Profile) {
     let mut seen = CallTally::default();
     for seed in 0..300 {
-        let policy = movable(&mut Rng::new(seed));
+        let policy = movable(profile, &mut Rng::new(seed));
         let image = to_image(&policy);
         let moved = move_up(&image, usize::MAX).expect("the policy is well-formed");
         assert_eq!(names(&image), names(&moved), "seed {seed}");
@@ -142,12 +151,11 @@ impl Kept {
 
 /// "A session (by places) is accepted for one image exactly if for the other, and then the verdicts are
 /// equal": calls of walks, also with broken sessions.
-#[test]
-fn calls_stay() {
+fn calls_stay(profile: Profile) {
     let mut seen = CallTally::default();
     let mut kept = Kept::default();
     for seed in 0..200 {
-        each_call(Edition::One, seed, 60, |step| {
+        each_call(Edition::One.of(profile), seed, 60, |step| {
             let Some(images) = kept.moved(step.image).filter(|_| stays(step)) else {
                 return;
             };

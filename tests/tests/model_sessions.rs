@@ -1,24 +1,27 @@
 //! The model of sessions and verdicts by itself, and what it is compared on.
 
-use brawnesk_tests::builder::{sample, to_image, Edition};
+use brawnesk_tests::builder::{sample, to_image, Edition, Profile, Variant};
 use brawnesk_tests::calls::Call;
 use brawnesk_tests::ffi::{Answer, SESSION};
-use brawnesk_tests::in_each_edition;
 use brawnesk_tests::model::{accepted, check, Label, Session};
 use brawnesk_tests::rng::Rng;
 use brawnesk_tests::vectors;
 use brawnesk_tests::walk::{each_call, policy, Break, WalkTally};
+use brawnesk_tests::{in_each_edition, in_each_variant};
 
 in_each_edition! {
-    vectors_of_sessions
     vectors_are_of_the_sample
+}
+
+in_each_variant! {
+    vectors_of_sessions
     walks_are_varied
     each_break_is_refused
 }
 
-fn vectors_of_sessions(edition: Edition) {
+fn vectors_of_sessions(variant: Variant) {
     let mut cases = 0;
-    for section in vectors::sessions(edition) {
+    for section in vectors::sessions(variant) {
         assert_eq!(check(&section.image), Ok(()), "{}", section.cases[0].line);
         let checked = accepted(&section.image);
         for case in &section.cases {
@@ -26,12 +29,16 @@ fn vectors_of_sessions(edition: Edition) {
             cases += 1;
         }
     }
-    assert!(cases >= 200, "{cases} cases");
+    let least = match variant.profile {
+        Profile::Tree => 200,
+        Profile::Release => 120,
+    };
+    assert!(cases >= least, "{cases} cases");
 }
 
 /// The last file's policy is the sample's.
 fn vectors_are_of_the_sample(edition: Edition) {
-    let sections = vectors::sessions(edition);
+    let sections = vectors::sessions(edition.tree());
     let mut last = sections
         .into_iter()
         .last()
@@ -42,17 +49,17 @@ fn vectors_are_of_the_sample(edition: Edition) {
 }
 
 /// The walks for comparing go everywhere.
-fn walks_are_varied(edition: Edition) {
+fn walks_are_varied(variant: Variant) {
     let mut tally = WalkTally::default();
     for seed in 0..2_000 {
-        each_call(edition, seed, 200, |step| tally.add(step));
+        each_call(variant, seed, 200, |step| tally.add(step));
     }
     println!("{tally:?}");
-    tally.assert_varied(edition, 50);
+    tally.assert_varied(variant, 50);
 }
 
 /// Each way to break a session applies often, and the session is then refused.
-fn each_break_is_refused(edition: Edition) {
+fn each_break_is_refused(variant: Variant) {
     let refused = Answer::Refused {
         number: 19,
         place: 0,
@@ -60,7 +67,7 @@ fn each_break_is_refused(edition: Edition) {
     let mut applied = vec![0; Break::ALL.len()];
     for seed in 0..400 {
         let mut rng = Rng::new(seed);
-        let policy = policy(edition, &mut rng);
+        let policy = policy(variant, &mut rng);
         let image = to_image(&policy);
         let checked = accepted(&image);
         for user in policy.users.iter().take(4) {

@@ -1,15 +1,18 @@
 //! The model of tables by itself, and what it is compared on.
 
-use brawnesk_tests::builder::{sample, to_image, Edition};
+use brawnesk_tests::builder::{sample, to_image, Edition, Variant};
 use brawnesk_tests::hidden::{both, case, HiddenTally, Model};
-use brawnesk_tests::in_each_edition;
 use brawnesk_tests::model::{accepted, may_read_at_maximum};
 use brawnesk_tests::tables::{by_hand, each_row_call, RowTally};
+use brawnesk_tests::{in_each_edition, in_each_variant};
 
 in_each_edition! {
     answers_by_hand
-    row_calls_are_varied
     the_maximum_read_label
+}
+
+in_each_variant! {
+    row_calls_are_varied
     hidden_rows_do_not_show
 }
 
@@ -20,13 +23,13 @@ fn answers_by_hand(edition: Edition) {
 }
 
 /// The row calls for comparing go everywhere.
-fn row_calls_are_varied(edition: Edition) {
+fn row_calls_are_varied(variant: Variant) {
     let mut tally = RowTally::default();
     for seed in 0..2_000 {
-        each_row_call(edition, seed, 40, |step| tally.add(step));
+        each_row_call(variant, seed, 40, |step| tally.add(step));
     }
     println!("{tally:?}");
-    tally.assert_varied(edition, 50);
+    tally.assert_varied(variant, 50);
 }
 
 /// At VAULT:KILN,GLAZE:NORTH, MARA's maximum read label: 10 is CREW:KILN:DOCK, 20 is CREW::WORKS, 30 is
@@ -41,10 +44,10 @@ fn the_maximum_read_label(edition: Edition) {
 }
 
 /// The runs for demand 3 go everywhere, and the model keeps it.
-fn hidden_rows_do_not_show(edition: Edition) {
+fn hidden_rows_do_not_show(variant: Variant) {
     let mut tally = HiddenTally::default();
     for seed in 0..500 {
-        let (scene, steps) = case(edition, seed, 50);
+        let (scene, steps) = case(variant, seed, 50);
         let runs = both(&scene, &steps, &Model::new(&scene.image));
         let runs = runs.unwrap_or_else(|difference| panic!("seed {seed}: {difference:?}"));
         tally.add(&scene, &steps, &runs);

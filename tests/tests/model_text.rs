@@ -1,19 +1,22 @@
 //! The model of label text by itself.
 
-use brawnesk_tests::builder::{sample, to_image, Edition};
+use brawnesk_tests::builder::{sample, to_image, Edition, Variant};
 use brawnesk_tests::compare::{expected, Tally};
-use brawnesk_tests::in_each_edition;
 use brawnesk_tests::model::{parse, print, print_within, Label, Refusal};
 use brawnesk_tests::rng::Rng;
 use brawnesk_tests::texts;
 use brawnesk_tests::vectors::{self, Expected};
+use brawnesk_tests::{in_each_edition, in_each_variant};
 
 in_each_edition! {
     cases_of_the_document
+    lengths_of_texts
+}
+
+in_each_variant! {
     vectors_of_label_text
     what_is_printed_is_read_as_the_same_label
     the_longest_text
-    lengths_of_texts
     labels_past_the_policy
     texts_are_varied
 }
@@ -26,8 +29,8 @@ fn cases_of_the_document(edition: Edition) {
     assert_eq!(parse(&image, b"CREW::"), Err(Refusal::Text));
 }
 
-fn vectors_of_label_text(edition: Edition) {
-    for vector in vectors::label_text(edition) {
+fn vectors_of_label_text(variant: Variant) {
+    for vector in vectors::label_text(variant) {
         let image = to_image(&vector.policy);
         let label = parse(&image, vector.text.as_bytes());
         match vector.expected {
@@ -42,10 +45,10 @@ fn vectors_of_label_text(edition: Edition) {
     }
 }
 
-fn what_is_printed_is_read_as_the_same_label(edition: Edition) {
+fn what_is_printed_is_read_as_the_same_label(variant: Variant) {
     for seed in 0..4_000 {
         let mut rng = Rng::new(seed);
-        let policy = texts::policy(edition, &mut rng);
+        let policy = texts::policy(variant, &mut rng);
         let image = to_image(&policy);
         let label = Label::read(&texts::label(&policy, &mut rng));
         let text = print(&image, &label).expect("the policy has all that the label names");
@@ -54,9 +57,9 @@ fn what_is_printed_is_read_as_the_same_label(edition: Edition) {
 }
 
 /// No label is too long to be read back.
-fn the_longest_text(edition: Edition) {
-    let image = to_image(&texts::longest_names(edition));
-    let (groups, length) = match edition {
+fn the_longest_text(variant: Variant) {
+    let image = to_image(&texts::longest_names(variant));
+    let (groups, length) = match variant.edition {
         Edition::One => (64, 3_998),
         Edition::Two => (256, 9_950),
     };
@@ -91,10 +94,10 @@ fn lengths_of_texts(edition: Edition) {
     }
 }
 
-fn labels_past_the_policy(edition: Edition) {
+fn labels_past_the_policy(variant: Variant) {
     for seed in 0..2_000 {
         let mut rng = Rng::new(seed);
-        let policy = texts::policy(edition, &mut rng);
+        let policy = texts::policy(variant, &mut rng);
         let label = Label::read(&texts::label_past(&policy, &mut rng));
         let printed = print(&to_image(&policy), &label);
         assert_eq!(printed, Err(Refusal::Component), "seed {seed}");
@@ -128,11 +131,11 @@ fn bytes_of_a_label() {
 }
 
 /// The texts for comparing are of all kinds.
-fn texts_are_varied(edition: Edition) {
+fn texts_are_varied(variant: Variant) {
     let mut tally = Tally::default();
     for seed in 0..400 {
         let mut rng = Rng::new(seed);
-        let policy = texts::policy(edition, &mut rng);
+        let policy = texts::policy(variant, &mut rng);
         let image = to_image(&policy);
         for _ in 0..20 {
             let text = texts::text(&policy, &mut rng);

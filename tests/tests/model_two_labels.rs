@@ -1,28 +1,35 @@
 //! The model of two labels by itself, and what it is compared on.
 
-use brawnesk_tests::builder::{Edition, Label, Policy, Set};
+use brawnesk_tests::builder::{Edition, Label, Policy, Profile, Set, Variant};
 use brawnesk_tests::calls::PairCall;
 use brawnesk_tests::compare::CallTally;
 use brawnesk_tests::ffi::{Answer, LABEL};
-use brawnesk_tests::in_each_edition;
 use brawnesk_tests::model::accepted;
 use brawnesk_tests::pairs::{by_hand, each_pair, each_record, merges, pair};
 use brawnesk_tests::pairs::{Held, PairTally, Program, ReadingTally};
 use brawnesk_tests::rng::Rng;
 use brawnesk_tests::vectors;
+use brawnesk_tests::{in_each_edition, in_each_variant};
 
 in_each_edition! {
-    vectors_of_two_labels
     answers_by_hand
+    wrong_rules_are_found
+}
+
+in_each_variant! {
+    vectors_of_two_labels
     pairs_are_varied
     a_session_without_privileges_reads_what_its_label_dominates
-    wrong_rules_are_found
     labels_differ_in_each_part_alone
 }
 
-fn vectors_of_two_labels(edition: Edition) {
-    let cases = vectors::two_labels(edition);
-    assert!(cases.len() >= 70, "{} cases", cases.len());
+fn vectors_of_two_labels(variant: Variant) {
+    let cases = vectors::two_labels(variant);
+    let least = match variant.profile {
+        Profile::Tree => 70,
+        Profile::Release => 20,
+    };
+    assert!(cases.len() >= least, "{} cases", cases.len());
     for case in cases {
         case.run(|call, image, pair, out| call.by_model(&accepted(image), pair, out));
     }
@@ -35,13 +42,13 @@ fn answers_by_hand(edition: Edition) {
 }
 
 /// The pairs for comparing go everywhere.
-fn pairs_are_varied(edition: Edition) {
+fn pairs_are_varied(variant: Variant) {
     let mut tally = PairTally::default();
     for seed in 0..1_500 {
-        each_pair(edition, seed, 40, |step| tally.add(step));
+        each_pair(variant, seed, 40, |step| tally.add(step));
     }
     println!("{tally:?}");
-    tally.assert_varied(edition, 40_000, 50);
+    tally.assert_varied(variant, 40_000, 50);
 }
 
 #[test]
@@ -61,10 +68,10 @@ fn merges_are_varied() {
 }
 
 /// The two sides of request R-3 are written apart from each other in the model too.
-fn a_session_without_privileges_reads_what_its_label_dominates(edition: Edition) {
+fn a_session_without_privileges_reads_what_its_label_dominates(variant: Variant) {
     let mut tally = ReadingTally::default();
     for seed in 0..400 {
-        each_record((edition, seed), Held::Nothing, Program::Model, |it| {
+        each_record((variant, seed), Held::Nothing, Program::Model, |it| {
             assert_eq!(it.reads, it.dominates, "seed {seed}: {it:?}");
             tally.add(it);
         });
@@ -173,10 +180,10 @@ fn wrong_rules_are_found(edition: Edition) {
 
 /// Labels of which one strictly dominates the other often differ in one part alone, so that a program
 /// which doesn't compare that part is found.
-fn labels_differ_in_each_part_alone(edition: Edition) {
+fn labels_differ_in_each_part_alone(variant: Variant) {
     let mut alone = [0; 3];
     for seed in 0..400 {
-        each_pair(edition, seed, 40, |step| {
+        each_pair(variant, seed, 40, |step| {
             let [one, two] = step.labels;
             let differ = [
                 one.level != two.level,

@@ -5,19 +5,26 @@
 #[path = "move_up/raw.rs"]
 mod raw;
 
-use brawnesk_tests::builder::{random_with, Sizes};
-use brawnesk_tests::builder::{sample, to_image, Edition, Tree};
+use brawnesk_tests::builder::{partners, random, random_with, sample, to_image};
+use brawnesk_tests::builder::{Edition, Profile, Sizes, Tree, Variant};
 use brawnesk_tests::calls::Call;
 use brawnesk_tests::compare::{one_seed, seeds};
 use brawnesk_tests::ffi::{self, Answer, SESSION};
+use brawnesk_tests::in_each_profile;
 use brawnesk_tests::moving::{by_hand, by_model, movable, Move, MoveTally};
 use brawnesk_tests::rng::Rng;
 use std::hint::black_box;
 
+/// In each profile.
 const MOVES: u64 = 6_000;
 
-/// Policies whose verdicts are asked before and after a move.
+/// Policies whose verdicts are asked before and after a move, in each profile.
 const POLICIES: u64 = 300;
+
+in_each_profile! {
+    the_library_agrees_with_the_model
+    verdicts_stay
+}
 
 /// Asks the library. The image has to stay as it is.
 fn ask(image: &[u8], buffer: &mut [u8]) -> Answer {
@@ -37,11 +44,10 @@ fn compare(image: &[u8], buffer: &[u8], case: &str) -> Answer {
     answer
 }
 
-#[test]
-fn the_library_agrees_with_the_model() {
+fn the_library_agrees_with_the_model(profile: Profile) {
     let mut tally = MoveTally::default();
     for seed in seeds(0..MOVES) {
-        let it = Move::new(seed);
+        let it = Move::new(profile, seed);
         let mut given = it.buffer.clone();
         assert_eq!(ask(&it.image, &mut given), it.answer, "seed {seed}");
         assert!(given == it.after, "seed {seed}: buffer");
@@ -49,7 +55,7 @@ fn the_library_agrees_with_the_model() {
     }
     println!("{tally:?}");
     if one_seed().is_none() {
-        tally.assert_varied(20);
+        tally.assert_varied(profile, 20);
     }
 }
 
@@ -58,29 +64,72 @@ fn answers_by_hand() {
     by_hand::check(&ask);
 }
 
+/// As large as can be moved.
+fn largest(variant: Variant) -> Sizes {
+    Sizes {
+        labels: 800,
+        users: 32,
+        ..Sizes::full(variant)
+    }
+}
+
+/// Header, 160 components, 80 blocks of labels and 16 of users.
+const LARGEST: usize = 111 * 512;
+
+const ROOMS: [usize; 7] = [
+    0,
+    512,
+    LARGEST - 512,
+    LARGEST - 1,
+    LARGEST,
+    LARGEST + 1,
+    65_536,
+];
+
 /// The largest that can be moved, with each form of parents, in buffers around the length that is needed;
 /// and the same with users who hold COMPACCESS, which can't.
 #[test]
 fn the_largest_move() {
     for tree in Tree::ALL {
-        let sizes = Sizes {
-            labels: 800,
-            users: 32,
-            ..Sizes::full(Edition::One)
-        };
-        let policy = random_with(tree, sizes, &mut Rng::new(4));
+        let policy = random_with(tree, largest(Edition::One.tree()), &mut Rng::new(4));
         assert!(!policy.holders().is_empty());
         let held = to_image(&policy);
         let image = to_image(&policy.held_by(&[]));
-        // Header, 160 components, 80 blocks of labels and 16 of users.
-        let needed = 111 * 512;
-        for room in [0, 512, needed - 512, needed - 1, needed, needed + 1, 65_536] {
+        for room in ROOMS {
             let answer = compare(&image, &vec![7; room], &format!("{tree:?}"));
-            assert_eq!(answer == Answer::Done(needed as u64), room >= needed);
+            assert_eq!(answer == Answer::Done(LARGEST as u64), room >= LARGEST);
             let answer = compare(&held, &vec![7; room], &format!("{tree:?}, held"));
             assert!(matches!(answer, Answer::Refused { number: 36, .. }));
         }
     }
+}
+
+/// The same in the release profile, where nobody holds it. The profile stays, and the moved image is the builder's.
+#[test]
+fn the_largest_move_of_a_release_image() {
+    let policy = random(largest(Edition::One.release()), &mut Rng::new(4));
+    let image = to_image(&policy);
+    let wanted = to_image(&policy.in_edition(Edition::Two));
+    for room in ROOMS {
+        let mut buffer = vec![7; room];
+        let answer = compare(&image, &buffer, "a release image");
+        assert_eq!(answer == Answer::Done(LARGEST as u64), room >= LARGEST);
+        ask(&image, &mut buffer);
+        assert_eq!(buffer.starts_with(&wanted), room >= LARGEST);
+    }
+}
+
+/// Byte 12 of the header tells the profile before and after.
+#[test]
+fn the_partners_are_moved() {
+    let image = to_image(&partners());
+    let wanted = to_image(&partners().in_edition(Edition::Two));
+    let mut moved = vec![0; wanted.len()];
+    assert_eq!(ask(&image, &mut moved), Answer::Done(wanted.len() as u64));
+    assert_eq!(moved, wanted);
+    assert_eq!([image[4], image[12]], [1, 1]);
+    assert_eq!([moved[4], moved[12]], [2, 1]);
+    assert_eq!(ffi::check(&moved), Answer::Done(0));
 }
 
 /// The verdicts on a tag under a session, if that is accepted.
@@ -91,11 +140,10 @@ fn verdicts(image: &[u8], session: &[u8; SESSION], tag: u32) -> [Answer; 2] {
 
 /// The moved image is accepted, its users open the same sessions, and these have the same verdicts on
 /// known tags. On unknown ones they are denied.
-#[test]
-fn verdicts_stay() {
+fn verdicts_stay(profile: Profile) {
     let mut unknown = 0;
     for seed in seeds(0..POLICIES) {
-        let policy = movable(&mut Rng::new(seed));
+        let policy = movable(profile, &mut Rng::new(seed));
         let image = to_image(&policy);
         let mut moved = vec![0; 65_536];
         let Answer::Done(length) = ask(&image, &mut moved) else {

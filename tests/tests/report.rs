@@ -5,42 +5,45 @@
 
 use brawnesk_tests::builder::layout::{seal, BLOCK};
 use brawnesk_tests::builder::{full, put, random, random_with, sample, to_image};
-use brawnesk_tests::builder::{Edition, Set, Sizes, Tree};
+use brawnesk_tests::builder::{Edition, Profile, Set, Sizes, Tree, Variant};
 use brawnesk_tests::cases::Case;
-use brawnesk_tests::compare::{seeds, OF_IMAGES};
-use brawnesk_tests::in_each_edition;
+use brawnesk_tests::compare::{of_images, seeds};
 use brawnesk_tests::model;
 use brawnesk_tests::program::report;
 use brawnesk_tests::rng::Rng;
+use brawnesk_tests::{in_each_edition, in_each_variant};
 use std::collections::BTreeMap;
 use std::fs::File;
 use std::process::Command;
 use std::time::{Duration, Instant};
 
-/// In each edition.
+/// In each edition and profile.
 const CASES: u64 = 800;
 
 /// More lines than these are not all asked of the model, which is slow.
 const MANY: usize = 20_000;
 
-in_each_edition! {
+in_each_variant! {
     the_program_agrees_with_the_model
-    the_samples_report_is_the_documents
     input_past_the_buffer_is_refused
-    refused_images_give_one_line
     the_largest_places
-    lines_of_every_length
     the_largest_report_is_quick
+}
+
+in_each_edition! {
+    the_samples_report_is_the_documents
+    refused_images_give_one_line
+    lines_of_every_length
 }
 
 /// Inputs by seed: well-formed images, images of all kinds, and some of these with more bytes after
 /// them: just as many as the buffer has, one more, and far more.
-fn input(edition: Edition, seed: u64) -> Vec<u8> {
+fn input(variant: Variant, seed: u64) -> Vec<u8> {
     let mut rng = Rng::new(!seed);
     if rng.once_in(4) {
-        return to_image(&random(Sizes::medium(edition, &mut rng), &mut rng));
+        return to_image(&random(Sizes::medium(variant, &mut rng), &mut rng));
     }
-    let mut image = Case::new(edition, seed).image;
+    let mut image = Case::new(variant, seed).image;
     if rng.once_in(12) {
         let length = [65_536, 65_537, 65_538, 66_048, 200_000][rng.index(5)];
         image.resize(length, rng.byte());
@@ -89,18 +92,19 @@ fn compared(input: &[u8], what: &str) -> String {
     text
 }
 
-fn the_program_agrees_with_the_model(edition: Edition) {
+fn the_program_agrees_with_the_model(variant: Variant) {
     let mut seen = Seen::default();
     let range = seeds(0..CASES);
     let is_whole = range.end - range.start == CASES;
     for seed in range {
-        seen.add(&compared(&input(edition, seed), &format!("seed {seed}")));
+        seen.add(&compared(&input(variant, seed), &format!("seed {seed}")));
     }
     println!("{seen:?}");
     if is_whole {
         assert!(seen.lines >= 100 && seen.empty >= 10, "{seen:?}");
-        let often = |number| seen.refused.get(number) >= Some(&30);
-        assert!(OF_IMAGES.into_iter().all(often), "{seen:?}");
+        let often = |number: &&str| seen.refused.get(*number) >= Some(&30);
+        let numbers = of_images(variant.profile);
+        assert!(numbers.iter().all(often), "{seen:?}");
     }
 }
 
@@ -122,14 +126,14 @@ fn the_programs_files_are_the_samples() {
     assert_eq!(read("stdout"), LINES.as_bytes());
 }
 
-fn input_past_the_buffer_is_refused(edition: Edition) {
+fn input_past_the_buffer_is_refused(variant: Variant) {
     for length in [0, 1, 511, 513, 65_535, 65_537, 66_048, 1_000_000] {
         assert_eq!(report(&vec![0; length]), b"refused 1\n", "{length} bytes");
     }
     assert_eq!(report(&[0; 65_536]), b"refused 2 at block 1\n");
     assert_eq!(report(&[0; 512]), b"refused 31\n");
     // An accepted image, and a byte more or as many zeros as the buffer takes.
-    let image = to_image(&full(edition));
+    let image = to_image(&full(variant));
     assert_eq!(report(&[&image[..], &[0]].concat()), b"refused 1\n");
     assert_eq!(
         report(&[&image[..], &[0; 512]].concat()),
@@ -172,8 +176,8 @@ fn refused_images_give_one_line(edition: Edition) {
 }
 
 /// Places of more than one digit, at the last record of the largest image's blocks.
-fn the_largest_places(edition: Edition) {
-    let policy = full(edition);
+fn the_largest_places(variant: Variant) {
+    let policy = full(variant);
     let [components, labels, users] = policy.runs();
     for (run, number) in [(components, 32), (labels, 33), (users, 34)] {
         let at = run.at(run.count - 1);
@@ -187,15 +191,18 @@ fn the_largest_places(edition: Edition) {
         );
         assert_eq!(compared(&image, &line), line);
     }
-    // A group without subgroups is its own parent, so it alone never ends.
+    // A group without subgroups is its own parent, so it alone never ends. In the release profile it is at fault.
     let has_none = |&group: &usize| policy.below(Set::of(group)) == Set::of(group);
     let groups = 10..policy.groups.len();
     let group = groups.rev().find(has_none).expect("there are leaves");
     let at = policy.group_at(group);
     let mut image = to_image(&policy);
-    put(&mut image[at.offset..][edition.parent()], group);
+    put(&mut image[at.offset..][variant.edition.parent()], group);
     seal(&mut image, at.block);
-    let line = format!("refused 35 at group {group}\n");
+    let line = match variant.profile {
+        Profile::Tree => format!("refused 35 at group {group}\n"),
+        Profile::Release => format!("refused 32 at block {} record {}\n", at.block, at.record),
+    };
     assert_eq!(compared(&image, &line), line);
 }
 
@@ -238,18 +245,18 @@ fn lines_of_every_length(edition: Edition) {
 
 /// All lines of the largest image, whatever its parents are, within the 2 seconds that are allowed, the
 /// start of the program and a debug build of this test included.
-fn the_largest_report_is_quick(edition: Edition) {
-    let sizes = Sizes::full(edition);
-    let lines = match edition {
+fn the_largest_report_is_quick(variant: Variant) {
+    let sizes = Sizes::full(variant);
+    let lines = match variant.edition {
         Edition::One => 161_280,
         Edition::Two => 25_600,
     };
     let with = |tree| random_with(tree, sizes, &mut Rng::new(1));
-    for policy in [
-        full(edition),
-        with(Tree::ParentLower),
-        with(Tree::ParentHigher),
-    ] {
+    let trees = match variant.profile {
+        Profile::Tree => [Tree::ParentLower, Tree::ParentHigher].map(with).to_vec(),
+        Profile::Release => Vec::new(),
+    };
+    for policy in [full(variant)].into_iter().chain(trees) {
         let image = to_image(&policy);
         let start = Instant::now();
         let text = report(&image);

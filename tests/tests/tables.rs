@@ -2,28 +2,31 @@
 //!
 //! A wrong answer names its seed; `BRAWNESK_SEED=<seed> cargo test --release` compares that seed alone.
 
-use brawnesk_tests::builder::{sample, to_image, Edition};
+use brawnesk_tests::builder::{sample, to_image, Edition, Profile, Variant};
 use brawnesk_tests::compare::{one_seed, seeds};
 use brawnesk_tests::ffi::{self, Answer, SESSION};
-use brawnesk_tests::in_each_edition;
 use brawnesk_tests::model;
 use brawnesk_tests::rng::Rng;
 use brawnesk_tests::row_calls::{Lent, RowCall};
 use brawnesk_tests::tables::numbers::bytes;
 use brawnesk_tests::tables::{by_hand, each_row_call, row, RowTally};
 use brawnesk_tests::walk::{policy, spoil_unused, Break};
+use brawnesk_tests::{in_each_edition, in_each_variant};
 use std::hint::black_box;
 
-/// In each edition.
+/// In each edition and profile.
 const POLICIES: u64 = 2_000;
 const CALLS_EACH: usize = 40;
 
-in_each_edition! {
+in_each_variant! {
     the_library_agrees_with_the_model
-    answers_by_hand
     broken_sessions_are_refused
     every_bit_of_a_session
     every_bit_of_a_tag
+}
+
+in_each_edition! {
+    answers_by_hand
     every_width
     alignment_does_not_matter
 }
@@ -48,10 +51,10 @@ fn compare(image: &[u8], call: &RowCall, lent: &Lent, case: &str) -> Answer {
     answer
 }
 
-fn the_library_agrees_with_the_model(edition: Edition) {
+fn the_library_agrees_with_the_model(variant: Variant) {
     let mut tally = RowTally::default();
     for seed in seeds(0..POLICIES) {
-        each_row_call(edition, seed, CALLS_EACH, |step| {
+        each_row_call(variant, seed, CALLS_EACH, |step| {
             let call = &step.call;
             let mut given = step.lent.clone();
             let answer = ask(step.image, call, &mut given);
@@ -63,7 +66,7 @@ fn the_library_agrees_with_the_model(edition: Edition) {
     }
     println!("{tally:?}");
     if one_seed().is_none() {
-        tally.assert_varied(edition, 50);
+        tally.assert_varied(variant, 50);
     }
 }
 
@@ -89,14 +92,14 @@ fn wrong_calls() -> [RowCall; 3] {
 }
 
 /// Whatever is broken, each call refuses the session before it looks at the table.
-fn broken_sessions_are_refused(edition: Edition) {
+fn broken_sessions_are_refused(variant: Variant) {
     let refused = Answer::Refused {
         number: 19,
         place: 0,
     };
     for seed in seeds(0..400) {
         let mut rng = Rng::new(seed);
-        let policy = policy(edition, &mut rng);
+        let policy = policy(variant, &mut rng);
         let image = to_image(&policy);
         for user in policy.users.iter().take(4) {
             let mut session = [0; SESSION];
@@ -122,9 +125,14 @@ fn broken_sessions_are_refused(edition: Edition) {
 
 /// MARA's session, rows of these tags, and a buffer that holds them all.
 fn maras(image: &[u8], tags: &[u32], width: usize) -> Lent {
+    users(image, b"MARA", tags, width)
+}
+
+/// The same of a user.
+fn users(image: &[u8], name: &[u8], tags: &[u32], width: usize) -> Lent {
     let mut rng = Rng::new(width as u64);
     let mut session = [0; SESSION];
-    let opened = ffi::open(image, b"MARA", &mut session);
+    let opened = ffi::open(image, name, &mut session);
     assert_eq!(opened, Answer::Done(0));
     let table: Vec<u8> = tags
         .iter()
@@ -156,10 +164,19 @@ fn calls(width: usize, payload: usize) -> Vec<RowCall> {
     (0..4).flat_map(row_calls).chain([read]).collect()
 }
 
-/// Every bit of MARA's session, turned, with every call.
-fn every_bit_of_a_session(edition: Edition) {
-    let image = to_image(&sample().in_edition(edition));
-    let lent = maras(&image, &[20, 10, 30], 9);
+/// A user of the sample of a profile, and the tag of 10, 20 and 30 that the user doesn't read.
+fn user_and_hidden(profile: Profile) -> (&'static [u8], u32) {
+    match profile {
+        Profile::Tree => (b"MARA", 20),
+        Profile::Release => (b"HUGO", 30),
+    }
+}
+
+/// Every bit of a user's session, turned, with every call.
+fn every_bit_of_a_session(variant: Variant) {
+    let image = to_image(&variant.sample());
+    let (name, _) = user_and_hidden(variant.profile);
+    let lent = users(&image, name, &[20, 10, 30], 9);
     for bit in 0..8 * SESSION {
         let mut lent = lent.clone();
         lent.session[bit / 8] ^= 1 << (bit % 8);
@@ -170,15 +187,16 @@ fn every_bit_of_a_session(edition: Edition) {
 }
 
 /// Every bit of a known tag, turned: the tag is then unknown.
-fn every_bit_of_a_tag(edition: Edition) {
-    let image = to_image(&sample().in_edition(edition));
+fn every_bit_of_a_tag(variant: Variant) {
+    let image = to_image(&variant.sample());
+    let (name, hidden) = user_and_hidden(variant.profile);
     for tag in [10, 20, 30] {
         let turned = (0..32).map(|bit| tag ^ 1 << bit);
         let tags: Vec<u32> = turned.chain([tag]).collect();
-        let lent = maras(&image, &tags, 5);
+        let lent = users(&image, name, &tags, 5);
         let answer = compare(&image, &RowCall::Read { width: 5 }, &lent, "every bit");
-        // 10 and 30 differ in two bits, and from 20 in more.
-        let readable = u64::from(tag != 20);
+        // The tags of a sample differ from each other in two bits or more.
+        let readable = u64::from(tag != hidden);
         assert_eq!(answer, Answer::Done(readable), "tag {tag}");
         for n in 0..2 {
             let update = RowCall::Update {

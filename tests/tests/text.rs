@@ -3,42 +3,45 @@
 //! A wrong answer names its seed; `BRAWNESK_SEED=<seed> cargo test --release` compares that seed
 //! alone.
 
-use brawnesk_tests::builder::{sample, to_image, Edition, Policy};
+use brawnesk_tests::builder::{sample, to_image, Edition, Policy, Variant};
 use brawnesk_tests::cases::Case;
-use brawnesk_tests::compare::{expected, one_seed, seeds, Tally};
+use brawnesk_tests::compare::{expected, of_images, one_seed, seeds, Tally};
 use brawnesk_tests::ffi::{self, Answer, LABEL};
-use brawnesk_tests::in_each_edition;
 use brawnesk_tests::model::{self, Label, Refusal};
 use brawnesk_tests::rng::Rng;
 use brawnesk_tests::texts;
 use brawnesk_tests::vectors::{self, Expected};
+use brawnesk_tests::{in_each_edition, in_each_variant};
 use std::ops::Range;
 
-/// In each edition.
+/// In each edition and profile.
 const POLICIES: u64 = 2_500;
 const TEXTS_EACH: usize = 20;
 
-in_each_edition! {
+in_each_variant! {
     texts_are_read_alike
     labels_are_printed_alike
     every_length_of_a_buffer
     parse_of_print
-    lengths_of_texts
     damaged_images
     vectors_of_label_text
+}
+
+in_each_edition! {
+    lengths_of_texts
     alignment_does_not_matter
     every_byte
 }
 
 /// Shows the policy of each seed with its image, what else is random, and the seed by name.
 fn each_policy(
-    edition: Edition,
+    variant: Variant,
     all: Range<u64>,
     mut see: impl FnMut(&Policy, &[u8], &mut Rng, &str),
 ) {
     for seed in seeds(all) {
         let mut rng = Rng::new(seed);
-        let policy = texts::policy(edition, &mut rng);
+        let policy = texts::policy(variant, &mut rng);
         let (image, case) = (to_image(&policy), format!("seed {seed}"));
         see(&policy, &image, &mut rng, &case);
     }
@@ -85,9 +88,9 @@ fn compare_print(image: &[u8], label: &[u8; LABEL], room: usize, case: &str) -> 
 
 /// Texts of over 4,096 bytes are counted by themselves: in edition 1 all of them are refused, and in edition
 /// 2 many are read.
-fn texts_are_read_alike(edition: Edition) {
+fn texts_are_read_alike(variant: Variant) {
     let [mut tally, mut long] = [Tally::default(), Tally::default()];
-    each_policy(edition, 0..POLICIES, |policy, image, rng, case| {
+    each_policy(variant, 0..POLICIES, |policy, image, rng, case| {
         for _ in 0..TEXTS_EACH {
             let text = texts::text(policy, rng);
             let answer = compare_parse(image, &text, rng.byte(), case);
@@ -97,7 +100,7 @@ fn texts_are_read_alike(edition: Edition) {
             }
         }
     });
-    match edition {
+    match variant.edition {
         Edition::One => assert_least(&long, &[(5, 1_500)]),
         Edition::Two => assert_least(&long, &[(0, 100), (5, 1_500), (6, 500), (7, 250)]),
     }
@@ -105,10 +108,10 @@ fn texts_are_read_alike(edition: Edition) {
 }
 
 /// Labels that the policy has and labels with a place that it lacks, in buffers of any length.
-fn labels_are_printed_alike(edition: Edition) {
-    let longest = edition.longest_text();
+fn labels_are_printed_alike(variant: Variant) {
+    let longest = variant.edition.longest_text();
     let mut tally = Tally::default();
-    each_policy(edition, 0..POLICIES, |policy, image, rng, case| {
+    each_policy(variant, 0..POLICIES, |policy, image, rng, case| {
         for _ in 0..6 {
             let past = rng.once_in(3);
             let label = match past {
@@ -128,9 +131,9 @@ fn labels_are_printed_alike(edition: Edition) {
 
 /// Every length of a buffer from none to two more than is needed. A lacking component comes before
 /// a lack of room.
-fn every_length_of_a_buffer(edition: Edition) {
+fn every_length_of_a_buffer(variant: Variant) {
     let mut tally = Tally::default();
-    each_policy(edition, 0..300, |policy, image, rng, case| {
+    each_policy(variant, 0..300, |policy, image, rng, case| {
         let label = texts::label(policy, rng);
         let needed = model::print(image, &Label::read(&label)).unwrap().len();
         if needed > 400 {
@@ -146,19 +149,19 @@ fn every_length_of_a_buffer(edition: Edition) {
 }
 
 /// What the library prints it reads as the same label.
-fn parse_of_print(edition: Edition) {
-    each_policy(edition, 0..POLICIES, |policy, image, rng, case| {
+fn parse_of_print(variant: Variant) {
+    each_policy(variant, 0..POLICIES, |policy, image, rng, case| {
         let label = texts::label(policy, rng);
         assert_reads_back(image, &Label::read(&label).to_bytes(), case);
     });
-    let (end, length) = match edition {
+    let (end, length) = match variant.edition {
         Edition::One => (24, 3_998),
         Edition::Two => (48, 9_950),
     };
     let mut whole = [255; LABEL];
     whole[..8].copy_from_slice(&[0, 0, 0, 0, 31, 0, 0, 0]);
     whole[end..].fill(0);
-    let image = to_image(&texts::longest_names(edition));
+    let image = to_image(&texts::longest_names(variant));
     assert_eq!(assert_reads_back(&image, &whole, "the longest"), length);
 }
 
@@ -202,13 +205,13 @@ fn assert_reads_back(image: &[u8], label: &[u8; LABEL], case: &str) -> usize {
 
 /// An image that is refused is refused by both calls as by `brawnesk_check`, whatever the text, the
 /// label and the buffer.
-fn damaged_images(edition: Edition) {
+fn damaged_images(variant: Variant) {
     let mut tally = Tally::default();
-    for seed in seeds(0..11_000) {
+    for seed in seeds(0..12_000) {
         let case = format!("seed {seed}");
-        let image = Case::new(edition, seed).image;
+        let image = Case::new(variant, seed).image;
         let mut rng = Rng::new(!seed);
-        let policy = texts::policy(edition, &mut rng);
+        let policy = texts::policy(variant, &mut rng);
         let text = texts::text(&policy, &mut rng);
         let parsed = compare_parse(&image, &text, rng.byte(), &case);
         let label = texts::label_past(&policy, &mut rng);
@@ -220,12 +223,13 @@ fn damaged_images(edition: Edition) {
         tally.add(parsed);
         tally.add(printed);
     }
-    let numbers = [1, 2, 31, 32, 33, 34, 35];
-    assert_least(&tally, &numbers.map(|number| (number, 500)));
+    let numbers = of_images(variant.profile).iter();
+    let numbers = numbers.map(|number| (number.parse().expect("a number"), 500));
+    assert_least(&tally, &numbers.collect::<Vec<_>>());
 }
 
-fn vectors_of_label_text(edition: Edition) {
-    for vector in vectors::label_text(edition) {
+fn vectors_of_label_text(variant: Variant) {
+    for vector in vectors::label_text(variant) {
         let image = to_image(&vector.policy);
         let mut label = [0; LABEL];
         let answer = ffi::parse(&image, vector.text.as_bytes(), &mut label);

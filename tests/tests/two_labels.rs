@@ -2,35 +2,38 @@
 //!
 //! A wrong answer names its seed; `BRAWNESK_SEED=<seed> cargo test --release` compares that seed alone.
 
-use brawnesk_tests::builder::{random, sample, to_image, Edition, Sizes};
+use brawnesk_tests::builder::{random, sample, to_image, Edition, Sizes, Variant};
 use brawnesk_tests::calls::{Pair, PairCall};
 use brawnesk_tests::compare::{one_seed, seeds, CallTally, Checked};
 use brawnesk_tests::ffi::{self, Answer, LABEL};
-use brawnesk_tests::in_each_edition;
 use brawnesk_tests::pairs::{by_hand, each_pair, each_record, merges, pair, triples};
 use brawnesk_tests::pairs::{Held, PairTally, Program, ReadingTally};
 use brawnesk_tests::rng::Rng;
 use brawnesk_tests::vectors;
+use brawnesk_tests::{in_each_edition, in_each_variant};
 use std::hint::black_box;
 
-/// Dominance, in each edition.
+/// Dominance, in each edition and profile.
 const POLICIES: u64 = 1_500;
 const PAIRS_EACH: usize = 40;
 
 /// Merging.
 const MERGED_PAIRS: u64 = 4_000;
 
-/// Dominance beside reading, in each edition.
+/// Dominance beside reading, in each edition and profile.
 const POLICIES_READ: u64 = 400;
 
-in_each_edition! {
+in_each_variant! {
     the_library_agrees_with_the_model
     a_session_without_privileges_reads_what_its_label_dominates
     privileges_read_what_is_not_dominated
-    answers_by_hand
     every_bit_of_two_labels
-    alignment_does_not_matter
     vectors_of_two_labels
+}
+
+in_each_edition! {
+    answers_by_hand
+    alignment_does_not_matter
 }
 
 /// Asks the library. The image, the labels and the letters have to stay as they are.
@@ -55,10 +58,10 @@ fn compare(call: &PairCall, lent: &Checked, pair: &Pair, fill: u8, case: &str) -
 }
 
 /// Dominance, strictly and not: pairs of labels under accepted and damaged images.
-fn the_library_agrees_with_the_model(edition: Edition) {
+fn the_library_agrees_with_the_model(variant: Variant) {
     let mut tally = PairTally::default();
     for seed in seeds(0..POLICIES) {
-        each_pair(edition, seed, PAIRS_EACH, |step| {
+        each_pair(variant, seed, PAIRS_EACH, |step| {
             let (call, pair) = (&step.call, &step.pair);
             let answer = ask(call, step.image, pair, &mut [0; LABEL]);
             assert_eq!(answer, step.answer, "seed {seed}: {call:?} of {pair:?}");
@@ -67,16 +70,16 @@ fn the_library_agrees_with_the_model(edition: Edition) {
     }
     println!("{tally:?}");
     if one_seed().is_none() {
-        tally.assert_varied(edition, 40_000, 50);
+        tally.assert_varied(variant, 40_000, 50);
     }
 }
 
 /// By request R-3: a session without READ, FULL and COMPACCESS reads a row with a known tag exactly
 /// if its label dominates the row's.
-fn a_session_without_privileges_reads_what_its_label_dominates(edition: Edition) {
+fn a_session_without_privileges_reads_what_its_label_dominates(variant: Variant) {
     let mut tally = ReadingTally::default();
     for seed in seeds(0..POLICIES_READ) {
-        let case = (edition, seed);
+        let case = (variant, seed);
         each_record(case, Held::Nothing, Program::Library, |it| {
             assert_eq!(it.reads, it.dominates, "seed {seed}: {it:?}");
             tally.add(it);
@@ -88,14 +91,14 @@ fn a_session_without_privileges_reads_what_its_label_dominates(edition: Edition)
     }
 }
 
-/// Privileges only add: what is dominated is read. And they do add: with COMPACCESS, which edition 2 has
-/// not, and with READ or FULL, rows are read that are not dominated, so that the request's "no privileges"
-/// is needed.
-fn privileges_read_what_is_not_dominated(edition: Edition) {
-    for &held in Held::of(edition) {
+/// Privileges only add: what is dominated is read. And they do add: with COMPACCESS, which edition 2 and the
+/// release profile have not, and with READ or FULL, rows are read that are not dominated, so that the request's
+/// "no privileges" is needed.
+fn privileges_read_what_is_not_dominated(variant: Variant) {
+    for &held in Held::of(variant) {
         let mut tally = ReadingTally::default();
         for seed in seeds(0..POLICIES_READ / 2) {
-            each_record((edition, seed), held, Program::Library, |it| {
+            each_record((variant, seed), held, Program::Library, |it| {
                 assert!(it.reads || !it.dominates, "seed {seed}: {held:?}, {it:?}");
                 tally.add(it);
             });
@@ -167,16 +170,13 @@ fn every_letter() {
 
 /// Every bit of two labels by itself: what is looked at, and what is not. In the sample few bits name
 /// something; the other policy has all levels, compartments and groups that there can be.
-fn every_bit_of_two_labels(edition: Edition) {
+fn every_bit_of_two_labels(variant: Variant) {
     let sizes = Sizes {
         users: 0,
         labels: 0,
-        ..Sizes::full(edition)
+        ..Sizes::full(variant)
     };
-    let policies = [
-        sample().in_edition(edition),
-        random(sizes, &mut Rng::new(5)),
-    ];
+    let policies = [variant.sample(), random(sizes, &mut Rng::new(5))];
     let images = policies.map(|policy| to_image(&policy));
     let images = images.each_ref().map(|image| Checked::new(image));
     let no_image = Checked::new(&[]);
@@ -220,8 +220,8 @@ fn alignment_does_not_matter(edition: Edition) {
     }
 }
 
-fn vectors_of_two_labels(edition: Edition) {
-    for case in vectors::two_labels(edition) {
+fn vectors_of_two_labels(variant: Variant) {
+    for case in vectors::two_labels(variant) {
         case.run(ask);
     }
 }

@@ -1,7 +1,7 @@
 //! The vectors as a list: no row of the worked examples of the guide and no case of document 01 is
 //! forgotten. The other tests run them.
 
-use brawnesk_tests::vectors::{cases_of_the_sample, requests, rows_of_the_guide};
+use brawnesk_tests::vectors::{cases_of_the_sample, requests, rows_in_release, rows_of_the_guide};
 use std::collections::BTreeSet;
 
 /// Asks that the numbers are those from 1 to the last, and names what is amiss.
@@ -17,6 +17,9 @@ const ROWS: u32 = 102;
 /// Relabelling, switching users and inverse groups, which document 01 has not.
 const FIRST_OF_REQUESTS: u32 = 85;
 
+/// Inverse groups, for which there is the release profile.
+const FIRST_OF_RELEASE: u32 = 91;
+
 /// Each row stands as a vector with the answer by document 01, and there are no others.
 #[test]
 fn every_row_of_the_guide_stands() {
@@ -29,13 +32,23 @@ fn every_row_of_the_guide_stands() {
 fn what_document_01_has_not_is_listed_with_its_request() {
     let waiting = requests();
     let rows: BTreeSet<u32> = waiting.iter().map(|it| it.row).collect();
-    for row in FIRST_OF_REQUESTS..=ROWS {
+    for row in FIRST_OF_REQUESTS..FIRST_OF_RELEASE {
         assert!(rows.contains(&row), "G{row} has no request");
     }
     for it in waiting {
         let is_there = (1..=ROWS).contains(&it.row) && (1..=14).contains(&it.request);
         assert!(is_there, "{it:?}");
     }
+}
+
+/// Each row on inverse groups also stands as a vector of the release profile, and none waits for it.
+#[test]
+fn every_row_on_inverse_groups_stands_in_the_release_profile() {
+    let rows = rows_in_release();
+    for row in FIRST_OF_RELEASE..=ROWS {
+        assert!(rows.contains(&row), "G{row} is not in the release profile");
+    }
+    assert!(requests().iter().all(|it| it.request != 10));
 }
 
 /// P1 to P16 stand in the sample's own file.

@@ -1,7 +1,7 @@
 //! The plain calls against the model.
 
 use super::*;
-use brawnesk_tests::builder::{to_image, Edition};
+use brawnesk_tests::builder::{to_image, Edition, Profile};
 use brawnesk_tests::calls::{Call, PairCall};
 use brawnesk_tests::cases::Case;
 use brawnesk_tests::compare::expected;
@@ -10,10 +10,12 @@ use brawnesk_tests::rng::Rng;
 use brawnesk_tests::row_calls::RowCall;
 use brawnesk_tests::{model, pairs, tables, texts, walk};
 
-/// Some damaged images of edition 1 bear the number of edition 2, which the plain version doesn't know:
-/// it refuses the header, and the model goes on to the records.
+/// Some damaged images of edition 1 bear the number of edition 2 or of the release profile, which the plain
+/// version doesn't know: it refuses the header, and the model goes on to the records.
 fn is_known(image: &[u8]) -> bool {
-    image.get(4) != Some(&Edition::Two.number())
+    let is_two = image.get(4) == Some(&Edition::Two.number());
+    let is_release = image.get(12) == Some(&Profile::Release.number());
+    !is_two && !is_release
 }
 
 #[test]

@@ -45,8 +45,8 @@ impl<'a> Image<'a> {
     /// records; 32 a component record, 33 a label record, 34 a user record; 35 the parents of a group
     /// never end. The lowest block decides among 31 to 34, in it 31 first and then the lowest record;
     /// of two records that clash the later is at fault. 35 comes after all these; the rules that a
-    /// user's groups lie below others come last, as 34. The calls that are lent an image give 1, 2 and
-    /// 31 to 35 first.
+    /// user's groups lie below others, or contain others in a release image, come last, as 34. The calls
+    /// that are lent an image give 1, 2 and 31 to 35 first.
     ///
     /// ```
     /// # use brawnesk::{Image, Refusal};
@@ -153,8 +153,8 @@ impl<'a> Image<'a> {
     }
 
     /// The users of an image of edition 1 who hold COMPACCESS: their places, one byte each, rising, at the
-    /// front of the buffer; later bytes stay. 96 bytes are always enough. Refusals: 1, 2, 31 an image of
-    /// edition 2, 31 to 35, 13 they are more than the buffer has bytes.
+    /// front of the buffer; later bytes stay. 96 bytes are always enough. In a release image nobody holds
+    /// it. Refusals: 1, 2, 31 an image of edition 2, 31 to 35, 13 they are more than the buffer has bytes.
     ///
     /// ```
     /// # use brawnesk::Image;
@@ -195,7 +195,7 @@ impl<'a> Image<'a> {
     }
 
     /// Lays an image of edition 1 out in the layouts of edition 2, at the front of the buffer, and gives
-    /// its length, at most 56,832; later bytes stay. The new image is accepted and has the same
+    /// its length, at most 56,832; later bytes stay. The new image is accepted and has the same profile,
     /// components, labels and users, each at the same place. Sessions and labels go on under it, and
     /// their verdicts on tags that labels carry are the same. Refusals: 1, 2, 31 an image of edition 2,
     /// 31 to 35, 37 over 800 labels or 32 users, 36 COMPACCESS is held (by how many users), 13 the new

@@ -19,7 +19,8 @@ pub struct Label(pub [u8; LABEL]);
 impl Label {
     /// Does this label dominate the other: is its level at least as high, has it all compartments of
     /// the other, and has the other no groups, or one that is among this label's or has an ancestor
-    /// there, at any distance? Refusals: 1, 2, 31 to 35, 18 the policy lacks what either label names.
+    /// there, at any distance? Under a release image, in place of that: are all groups of this label among
+    /// the other's? Refusals: 1, 2, 31 to 35, 18 the policy lacks what either label names.
     ///
     /// Where a session's user has none of READ, FULL and COMPACCESS, the session may read a row whose
     /// tag the image has exactly if the session label dominates the row's label.

@@ -28,6 +28,11 @@
 //! up to 64 groups, 1,680 labels and 96 users, one of edition 2 up to 256 groups, 800 labels and 32 users.
 //! Edition 2 does not have COMPACCESS: a user record that holds it is refused 34.
 //!
+//! **Profiles.** Byte 12 of an image tells its profile, in both editions: 0 groups with parents, 1 release
+//! groups; any other is refused 31. In a release image the groups of a row are those that it may go to:
+//! without READ and FULL a session may read or write a row only if all groups of the session label are
+//! among them. Groups have no parents there (32), and users do not hold COMPACCESS (34).
+//!
 //! **Lending.** What a call writes overlaps nothing else that is lent to it; parts that are only read may
 //! overlap each other. Nobody changes what is lent during the call. A slice's length is below 2^63. A
 //! pointer to an empty slice may not be null. A buffer that a call only writes (label out, session out,

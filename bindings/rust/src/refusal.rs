@@ -41,7 +41,8 @@ pub enum Refusal {
     CompartmentsNotAllowed,
     /// 10: the label's groups are not allowed.
     GroupsNotAllowed,
-    /// 11: the row label would stand outside the new write sets or above the new level.
+    /// 11: the row label would stand outside the new write sets or above the new level; in a release image it
+    /// would lack a group of the new label.
     RowLabelOutside,
     /// 12: the width is not 5 to 512, or the table's length is not a multiple of it.
     TableShape,
@@ -191,8 +192,8 @@ impl Refusal {
             Refusal::GroupsNotAllowed => (10, "the groups of the new label are not allowed"),
             Refusal::RowLabelOutside => (
                 11,
-                "the row label would be above the new level, or outside the new write \
-                 compartments or groups",
+                "the row label would be above the new level, outside the new write compartments or \
+                 groups, or in a release image lack a new group",
             ),
             Refusal::TableShape => (
                 12,

@@ -1,21 +1,21 @@
 -- What an accepted answer of the rules for new labels means, and that labels which keep the rules are accepted. Assumes nothing.
 use Prim.Native.Nat.{ℕ, _≤_, _<_}
 use mathlib.Core.Path.{_≡_, refl, sym, _∙_}
-use mathlib.Core.Bool.{Bool, true, false, not, true≢false}
+use mathlib.Core.Bool.{Bool, true, false, not, _&&_, true≢false}
 use mathlib.Core.List.{List}
 use borrow.Author.Tests.{leb-true, le-leb, ltb-true, lt-ltb, not-true, not-false}
+use lib.Dec.{leb}
 use Rattle.fields.proofs.Both.{parts}
 use Rattle.refusals.specs.declared.Refusal.{Refusal}
 use Rattle.refusals.specs.declared.Refusal.the-variants.{LevelNotAllowed, CompartmentsNotAllowed, GroupsNotAllowed, RowLabelOutside}
 use Rattle.sets.specs.Sets.{within}
-use Rattle.header.specs.Layout.{editionOf, users, userRecord}
-use Rattle.records.specs.Fields.{maximumLevel, minimumLevel, readCompartments, readGroups}
-use Rattle.hierarchy.specs.Below.{below}
+use Rattle.header.specs.Layout.{users, userRecord}
+use Rattle.records.specs.Fields.{maximumLevel, minimumLevel, readCompartments}
 use Rattle.refusals.specs.declared.answers.Checked.{Checked}
 use Rattle.refusals.specs.declared.answers.Checked.the-variants.{Accepted, Refused}
 use Rattle.labels.specs.Label.{Marks}
 use Rattle.access.specs.Rights.{Rights, rightsAt, between}
-use Rattle.access.specs.NewLabels.{sessionGroupsRule, rowInside, sessionLabelAnswer, rowLabelAnswer, sessionRule}
+use Rattle.access.specs.NewLabels.{sessionGroupsRule, rowGroupsRule, rowInside, sessionLabelAnswer, rowLabelAnswer, sessionRule}
 use Rattle.refusals.specs.Answers.{orRefuse, allowed}
 
 -- a demand that is accepted was met, and so was the rest
@@ -31,12 +31,12 @@ accepted-is (Refused r) e = absurd (true≢false (sym e))
 pub record Inside (rights : Rights) (row : Marks) : Type 0 where
   pub level : row .level ≤ rights .level
   pub compartments : within (row .compartments) (rights .writeCompartments) ≡ true
-  pub groups : within (row .groups) (rights .writeGroups) ≡ true
+  pub groups : rowGroupsRule rights (row .groups) ≡ true
 
 pub inside-means : (rights : Rights) (row : Marks) → rowInside rights row ≡ true → Inside rights row
 unfolding rowInside
 inside-means rights row e =
-    let q2 = parts _ _ e in
+    let q2 = parts (leb (row .level) (rights .level) && within (row .compartments) (rights .writeCompartments)) (rowGroupsRule rights (row .groups)) e in
     let q1 = parts _ _ (q2 .0) in
     record { level = leb-true _ _ (q1 .0); compartments = q1 .1; groups = q2 .1 }
 
@@ -49,11 +49,11 @@ pub record SessionLabelKept (im : List ℕ) (u : ℕ) (new row : Marks) : Type 0
   pub minimum : minimumLevel (userRecord im u) ≤ new .level
   pub maximum : new .level ≤ maximumLevel (userRecord im u)
   pub compartments : within (new .compartments) (readCompartments (userRecord im u)) ≡ true
-  pub groups : within (new .groups) (below im (readGroups (editionOf im) (userRecord im u))) ≡ true
+  pub groups : sessionGroupsRule im (userRecord im u) (new .groups) ≡ true
   pub inside : Inside (rightsAt im u new) row
 
 pub session-label-means : (im : List ℕ) (u : ℕ) (new row : Marks) → allowed (sessionLabelAnswer im u new row) ≡ true → SessionLabelKept im u new row
-unfolding sessionLabelAnswer sessionGroupsRule
+unfolding sessionLabelAnswer
 session-label-means im u new row e =
     let q1 = demand-met _ _ _ e in
     let q2 = demand-met _ _ _ (q1 .1) in
@@ -69,7 +69,7 @@ session-label-means im u new row e =
     }
 
 pub means-session-label : (im : List ℕ) (u : ℕ) (new row : Marks) → SessionLabelKept im u new row → sessionLabelAnswer im u new row ≡ Accepted
-unfolding sessionLabelAnswer sessionGroupsRule
+unfolding sessionLabelAnswer
 means-session-label im u new row k =
     rw (le-leb _ _ (k .minimum), le-leb _ _ (k .maximum), k .compartments, k .groups, means-inside (rightsAt im u new) row (k .inside))
 

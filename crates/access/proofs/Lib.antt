@@ -8,4 +8,5 @@ pub mod Tests
 pub mod Answers
 pub mod More
 pub mod Maximum
+pub mod Released
 pub mod Writable

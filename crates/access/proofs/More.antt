@@ -1,7 +1,7 @@
 -- More rights never hide a row: a level at least as high, more compartments, groups and write sets, and COMPACCESS where it was held,
 -- keep every row readable and writable that was so. Assumes nothing.
 use Prim.Native.Nat.{ℕ, _≤_}
-use mathlib.Core.Path.{_≡_}
+use mathlib.Core.Path.{_≡_, refl, sym, subst}
 use mathlib.Core.Bool.{Bool, true, false, cond, _&&_}
 use mathlib.Core.List.{List}
 use native.Mathlib.Omega.{arith}
@@ -12,19 +12,34 @@ use Rattle.sets.proofs.Has.{one-has}
 use Rattle.sets.proofs.Within.{within-union-right, within-refl, within-trans, within-union-left, within-has}
 use Rattle.sets.proofs.Meets.{meets-mono}
 use Rattle.image.specs.Lookup.{labelOfTag}
-use Rattle.header.specs.Layout.{editionOf}
+use Rattle.header.specs.declared.profile.Profile.{Profile}
+use Rattle.header.specs.declared.profile.Profile.the-variants.{Tree, Release}
+use Rattle.header.specs.Layout.{editionOf, byProfile}
 use Rattle.labels.specs.Label.{Marks, labelAt}
 use Rattle.labels.specs.GroupTest.{groupTest}
 use Rattle.access.specs.Rights.{Rights, withPrivileges}
 use Rattle.records.specs.Fields.{placeOfRead, placeOfFull, placeOfCompaccess}
-use Rattle.access.specs.Verdicts.{readsAll, writesAll, holdsCompaccess, readLevelRule, readGroupsRule, readCompartmentsRule, compaccessReads, readTests, writeLevelRule, writeGroupsRule, writeCompartmentsRule, writeSetsRule, compaccessWrites, writeTests, readsLabel, writesLabel, knownTag, mayRead, mayWrite}
+use Rattle.access.specs.Verdicts.{readsAll, writesAll, holdsCompaccess, readLevelRule, readGroupsRule, readCompartmentsRule, compaccessReads, readTests, writeLevelRule, writeGroupsRule, writeCompartmentsRule, treeSetsRule, releaseSetsRule, writeSetsRule, compaccessWrites, writeTests, readsLabel, writesLabel, knownTag, mayRead, mayWrite}
 use Rattle.access.proofs.Tests.{unknown-mono, and-mono, or-mono, cond-mono}
+
+-- the second's groups pass the group test wherever the first's do: they reach more; in the release profile they are fewer
+abbrev pub GroupsMore : Profile → ℕ → ℕ → Type 0
+GroupsMore Tree a b = within a b ≡ true
+GroupsMore Release a b = within b a ≡ true
+
+test-more : (p : Profile) (a b row : ℕ) → GroupsMore p a b → groupTest p a row ≡ true → groupTest p b row ≡ true
+unfolding groupTest
+test-more Tree a b row more =
+    or-mono (empty row) (meets row a) (empty row) (meets row b) (λ (e : empty row ≡ true). e)
+    (λ (e : meets row a ≡ true). meets-mono row a row b (within-refl row) more e)
+test-more Release a b row more = λ e. within-trans b a row more e
 
 -- the second has all that the first has, for reading
 pub record MoreReading (a b : Rights) : Type 0 where
   pub level : a .level ≤ b .level
   pub compartments : within (a .compartments) (b .compartments) ≡ true
-  pub groups : within (a .belowGroups) (b .belowGroups) ≡ true
+  pub profile : b .profile ≡ a .profile
+  pub groups : GroupsMore (a .profile) (a .reachedGroups) (b .reachedGroups)
   pub privileges : within (a .privileges) (b .privileges) ≡ true
 
 -- and for writing
@@ -47,11 +62,8 @@ module _ (a b : Rights) (more : MoreReading a b) (row : Marks) where
   compartment-more e = within-trans (row .compartments) (a .compartments) (b .compartments) e (more .compartments)
 
   group-more : readGroupsRule a row ≡ true → readGroupsRule b row ≡ true
-  unfolding readGroupsRule groupTest
-  group-more =
-      or-mono (empty (row .groups)) (meets (row .groups) (a .belowGroups)) (empty (row .groups)) (meets (row .groups) (b .belowGroups))
-      (λ (e : empty (row .groups) ≡ true). e)
-      (λ (e : meets (row .groups) (a .belowGroups) ≡ true). meets-mono (row .groups) (a .belowGroups) (row .groups) (b .belowGroups) (within-refl (row .groups)) (more .groups) e)
+  unfolding readGroupsRule
+  group-more e = rw (more .profile) (test-more (a .profile) (a .reachedGroups) (b .reachedGroups) (row .groups) (more .groups) e)
 
   pub reads-more : readTests a row ≡ true → readTests b row ≡ true
   unfolding readTests compaccessReads holdsCompaccess
@@ -75,14 +87,29 @@ module _ (a b : Rights) (more : MoreWriting a b) (row : Marks) where
   unfolding writeCompartmentsRule
   write-compartment-more e = within-trans (row .compartments) (a .writeCompartments) (b .writeCompartments) e (more .writeCompartments)
 
-  write-sets-more : writeSetsRule a row ≡ true → writeSetsRule b row ≡ true
-  unfolding writeSetsRule
-  write-sets-more = at (empty (row .groups))
+  tree-sets-more : treeSetsRule a row ≡ true → treeSetsRule b row ≡ true
+  unfolding treeSetsRule
+  tree-sets-more = at (empty (row .groups))
     where
       at : (t : Bool) → cond t (writeCompartmentsRule a row) (writeGroupsRule a row && readCompartmentsRule a row) ≡ true
           → cond t (writeCompartmentsRule b row) (writeGroupsRule b row && readCompartmentsRule b row) ≡ true
       at true e = write-compartment-more e
       at false e = and-mono _ _ _ _ write-group-more (compartment-more a b (more .reading) row) e
+
+  release-sets-more : releaseSetsRule a row ≡ true → releaseSetsRule b row ≡ true
+  unfolding releaseSetsRule
+  release-sets-more =
+      and-mono _ _ _ _ (and-mono _ _ _ _ (group-more a b (more .reading) row) (compartment-more a b (more .reading) row)) write-compartment-more
+
+  write-sets-more : writeSetsRule a row ≡ true → writeSetsRule b row ≡ true
+  unfolding writeSetsRule
+  write-sets-more e =
+      subst (λ (p : Profile). byProfile p (treeSetsRule b row) (releaseSetsRule b row) ≡ true) (sym (more .reading .profile)) (at (a .profile) e)
+    where
+      at : (p : Profile) → byProfile p (treeSetsRule a row) (releaseSetsRule a row) ≡ true
+          → byProfile p (treeSetsRule b row) (releaseSetsRule b row) ≡ true
+      at Tree e = tree-sets-more e
+      at Release e = release-sets-more e
 
   pub writes-more : writeTests a row ≡ true → writeTests b row ≡ true
   unfolding writeTests compaccessWrites holdsCompaccess
@@ -123,6 +150,10 @@ module _ (a b : Rights) where
 abbrev pub withCompaccess : Rights → Rights
 withCompaccess a = withPrivileges (union (a .privileges) (one placeOfCompaccess)) a
 
+same-groups : (p : Profile) (s : ℕ) → GroupsMore p s s
+same-groups Tree s = within-refl s
+same-groups Release s = within-refl s
+
 module _ (a : Rights) where
   compaccess-more : MoreWriting a (withCompaccess a)
   compaccess-more =
@@ -131,7 +162,8 @@ module _ (a : Rights) where
             record {
               level = omega arith;
               compartments = within-refl (a .compartments);
-              groups = within-refl (a .belowGroups);
+              profile = refl;
+              groups = same-groups (a .profile) (a .reachedGroups);
               privileges = within-union-left (a .privileges) (one placeOfCompaccess);
             };
         minimum = omega arith;

@@ -1,7 +1,7 @@
 -- A writable row is readable, with READ, FULL or COMPACCESS or without: the write compartments lie in the session's compartments, the
--- write groups in below(session groups), and FULL reads whatever it writes. Assumes nothing.
+-- write groups in below(session groups), the release profile asks the read test itself, and FULL reads whatever it writes. Assumes nothing.
 use Prim.Native.Nat.{ℕ}
-use mathlib.Core.Path.{_≡_, sym}
+use mathlib.Core.Path.{_≡_, refl, sym}
 use mathlib.Core.Bool.{Bool, true, false, cond, not, _&&_, _||_, true≢false}
 use mathlib.Core.List.{List}
 use lib.Dec.{leb}
@@ -9,21 +9,23 @@ use Rattle.fields.proofs.Both.{parts}
 use Rattle.sets.specs.Sets.{has, empty, within, meets}
 use Rattle.sets.proofs.Within.{within-refl, within-trans, intersection-within-left}
 use Rattle.sets.proofs.Meets.{meets-mono}
-use Rattle.header.specs.Layout.{editionOf, userRecord}
+use Rattle.header.specs.declared.profile.Profile.{Profile}
+use Rattle.header.specs.declared.profile.Profile.the-variants.{Tree, Release}
+use Rattle.header.specs.Layout.{editionOf, byProfile, userRecord}
 use Rattle.records.specs.Fields.{writeCompartments, writeGroups}
-use Rattle.hierarchy.specs.Below.{below}
+use Rattle.hierarchy.specs.Below.{reach}
 use Rattle.image.specs.Lookup.{labelOfTag}
 use Rattle.labels.specs.Label.{Marks, labelAt}
 use Rattle.labels.specs.GroupTest.{groupTest}
 use Rattle.access.specs.Rights.{Rights, rightsAt, writeCompartmentsOf, writeGroupsOf}
 use Rattle.records.specs.Fields.{placeOfRead, placeOfFull}
-use Rattle.access.specs.Verdicts.{readsAll, writesAll, holdsCompaccess, readLevelRule, readGroupsRule, readCompartmentsRule, compaccessReads, readTests, writeLevelRule, writeGroupsRule, writeCompartmentsRule, writeSetsRule, compaccessWrites, writeTests, readsLabel, writesLabel, knownTag, mayRead, mayWrite}
+use Rattle.access.specs.Verdicts.{readsAll, writesAll, holdsCompaccess, readLevelRule, readGroupsRule, readCompartmentsRule, compaccessReads, readTests, writeLevelRule, writeGroupsRule, writeCompartmentsRule, treeSetsRule, releaseSetsRule, writeSetsRule, compaccessWrites, writeTests, readsLabel, writesLabel, knownTag, mayRead, mayWrite}
 use Rattle.access.proofs.Tests.{unknown-mono, and-mono, or-mono, cond-mono}
 
 -- the write sets lie inside the sets of reading
 record WriteInRead (rights : Rights) : Type 0 where
   compartments : within (rights .writeCompartments) (rights .compartments) ≡ true
-  groups : within (rights .writeGroups) (rights .belowGroups) ≡ true
+  groups : rights .profile ≡ Tree → within (rights .writeGroups) (rights .reachedGroups) ≡ true
 
 -- FULL reads whatever it writes, tag 0 and unknown tags too
 all-writable-readable : (rights : Rights) → writesAll rights ≡ true → readsAll rights ≡ true
@@ -42,17 +44,30 @@ module _ (rights : Rights) (inside : WriteInRead rights) (row : Marks) where
   unfolding writeCompartmentsRule readCompartmentsRule
   compartments-readable e = within-trans (row .compartments) (rights .writeCompartments) (rights .compartments) e (inside .compartments)
 
-  sets-readable : writeSetsRule rights row ≡ true → (readGroupsRule rights row && readCompartmentsRule rights row) ≡ true
-  unfolding writeSetsRule readGroupsRule groupTest writeGroupsRule
-  sets-readable = at (empty (row .groups))
+  tree-readable : rights .profile ≡ Tree → treeSetsRule rights row ≡ true → (readGroupsRule rights row && readCompartmentsRule rights row) ≡ true
+  unfolding treeSetsRule readGroupsRule groupTest writeGroupsRule readCompartmentsRule
+  tree-readable tree e = rw tree (at (empty (row .groups)) e)
     where
       at : (t : Bool) → cond t (writeCompartmentsRule rights row) (meets (row .groups) (rights .writeGroups) && readCompartmentsRule rights row) ≡ true
-          → ((t || meets (row .groups) (rights .belowGroups)) && readCompartmentsRule rights row) ≡ true
+          → ((t || meets (row .groups) (rights .reachedGroups)) && readCompartmentsRule rights row) ≡ true
       at true e = compartments-readable e
       at false e =
           and-mono _ _ _ _
-          (meets-mono (row .groups) (rights .writeGroups) (row .groups) (rights .belowGroups) (within-refl (row .groups)) (inside .groups))
+          (meets-mono (row .groups) (rights .writeGroups) (row .groups) (rights .reachedGroups) (within-refl (row .groups)) (inside .groups tree))
           (λ e. e) e
+
+  release-readable : releaseSetsRule rights row ≡ true → (readGroupsRule rights row && readCompartmentsRule rights row) ≡ true
+  unfolding releaseSetsRule
+  release-readable e = parts _ _ e .0
+
+  sets-readable : writeSetsRule rights row ≡ true → (readGroupsRule rights row && readCompartmentsRule rights row) ≡ true
+  unfolding writeSetsRule
+  sets-readable = at (rights .profile) refl
+    where
+      at : (p : Profile) → rights .profile ≡ p → byProfile p (treeSetsRule rights row) (releaseSetsRule rights row) ≡ true
+          → (readGroupsRule rights row && readCompartmentsRule rights row) ≡ true
+      at Tree q e = tree-readable q e
+      at Release q e = release-readable e
 
   by-sets : (writeLevelRule rights row && writeSetsRule rights row) ≡ true
       → (readLevelRule rights row && readGroupsRule rights row && readCompartmentsRule rights row) ≡ true
@@ -82,7 +97,8 @@ module _ (im : List ℕ) (u : ℕ) (label : Marks) where
   write-in-read =
       record {
         compartments = intersection-within-left (label .compartments) (writeCompartments (userRecord im u));
-        groups = intersection-within-left (below im (label .groups)) (below im (writeGroups (editionOf im) (userRecord im u)));
+        groups = λ tree.
+            rw tree (intersection-within-left (reach im (label .groups)) (reach im (writeGroups (editionOf im) (userRecord im u))));
       }
 
   pub label-writable-readable : (row : Marks) → writesLabel (rightsAt im u label) row ≡ true → readsLabel (rightsAt im u label) row ≡ true

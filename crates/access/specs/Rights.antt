@@ -3,11 +3,12 @@ use Prim.Native.Nat.{ℕ}
 use mathlib.Core.Bool.{Bool, _&&_}
 use mathlib.Core.List.{List}
 use lib.Dec.{leb}
-use Rattle.sets.specs.Sets.{intersection}
+use Rattle.sets.specs.Sets.{intersection, allBelow}
 use Rattle.sets.specs.Groups.{placesOf}
-use Rattle.header.specs.Layout.{editionOf, userRecord}
+use Rattle.header.specs.declared.profile.Profile.{Profile}
+use Rattle.header.specs.Layout.{editionOf, profileOf, byProfile, groups, userRecord}
 use Rattle.records.specs.Fields.{privileges, maximumLevel, minimumLevel, readCompartments, writeCompartments, readGroups, writeGroups}
-use Rattle.hierarchy.specs.Below.{below}
+use Rattle.hierarchy.specs.Below.{reach}
 use Rattle.labels.specs.Label.{Marks, marks}
 use Rattle.access.specs.declared.rights.View.{View}
 
@@ -15,11 +16,13 @@ use Rattle.access.specs.declared.rights.View.{View}
 abbrev pub between : ℕ → ℕ → ℕ → Bool
 between lowest highest level = leb lowest level && leb level highest
 
--- the session's level and compartments, what lies below its groups, its write sets; the user's minimum and maximum level and privileges
+-- the image's profile; the session's level and compartments, what its groups reach, its write sets; the user's minimum and maximum level and
+-- privileges
 pub record Rights : Type 0 where
+  pub profile : Profile
   pub level : ℕ
   pub compartments : ℕ
-  pub belowGroups : ℕ
+  pub reachedGroups : ℕ
   pub writeCompartments : ℕ
   pub writeGroups : ℕ
   pub minimum : ℕ
@@ -30,18 +33,20 @@ pub record Rights : Type 0 where
 unfoldable pub writeCompartmentsOf : List ℕ → Marks → ℕ
 writeCompartmentsOf rec label = intersection (label .compartments) (writeCompartments rec)
 
--- its write groups are below(session groups) ∩ below(write groups)
+-- its write groups are below(session groups) ∩ below(write groups); in the release profile, where a row label may name any group, all that exist
 unfoldable pub writeGroupsOf : List ℕ → List ℕ → Marks → ℕ
-writeGroupsOf im rec label = intersection (below im (label .groups)) (below im (writeGroups (editionOf im) rec))
+writeGroupsOf im rec label =
+    byProfile (profileOf im) (intersection (reach im (label .groups)) (reach im (writeGroups (editionOf im) rec))) (allBelow (groups im))
 
 -- what the user at place u has with that session label
 unfoldable pub rightsAt : List ℕ → ℕ → Marks → Rights
 rightsAt im u label =
     let rec = userRecord im u in
     record {
+      profile = profileOf im;
       level = label .level;
       compartments = label .compartments;
-      belowGroups = below im (label .groups);
+      reachedGroups = reach im (label .groups);
       writeCompartments = writeCompartmentsOf rec label;
       writeGroups = writeGroupsOf im rec label;
       minimum = minimumLevel rec;
@@ -58,9 +63,10 @@ maximumReadLabel im u =
 abbrev pub rightsOf : View → Rights
 rightsOf v =
     record {
+      profile = v .profile;
       level = v .level;
       compartments = v .compartments;
-      belowGroups = placesOf (v .«below_groups»);
+      reachedGroups = placesOf (v .«reached_groups»);
       writeCompartments = v .«write_compartments»;
       writeGroups = placesOf (v .«write_groups»);
       minimum = v .minimum;
@@ -72,9 +78,10 @@ rightsOf v =
 abbrev pub withPrivileges : ℕ → Rights → Rights
 withPrivileges held rights =
     record {
+      profile = rights .profile;
       level = rights .level;
       compartments = rights .compartments;
-      belowGroups = rights .belowGroups;
+      reachedGroups = rights .reachedGroups;
       writeCompartments = rights .writeCompartments;
       writeGroups = rights .writeGroups;
       minimum = rights .minimum;

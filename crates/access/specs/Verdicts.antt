@@ -6,7 +6,7 @@ use lib.Dec.{leb, ltb}
 use Rattle.sets.specs.Sets.{has, empty, within, meets}
 use Rattle.header.specs.declared.edition.Edition.{Edition}
 use Rattle.header.specs.declared.edition.Edition.the-variants.{One, Two}
-use Rattle.header.specs.Layout.{editionOf, labels}
+use Rattle.header.specs.Layout.{editionOf, byProfile, labels}
 use Rattle.records.specs.Fields.{placeOfRead, placeOfFull, hasCompaccess}
 use Rattle.image.specs.Lookup.{labelOfTag}
 use Rattle.labels.specs.Label.{Marks, labelAt}
@@ -30,9 +30,9 @@ holdsCompaccess rights = hasCompaccess (rights .privileges)
 unfoldable pub readLevelRule : Rights → Marks → Bool
 readLevelRule rights row = leb (row .level) (rights .level)
 
--- row groups empty, or one of them in below(session groups)
+-- row groups empty, or one of them in below(session groups); in the release profile all session groups are among the row's
 unfoldable pub readGroupsRule : Rights → Marks → Bool
-readGroupsRule rights row = groupTest (rights .belowGroups) (row .groups)
+readGroupsRule rights row = groupTest (rights .profile) (rights .reachedGroups) (row .groups)
 
 -- row compartments all in the session's
 unfoldable pub readCompartmentsRule : Rights → Marks → Bool
@@ -67,9 +67,16 @@ writeCompartmentsRule rights row = within (row .compartments) (rights .writeComp
 
 -- the row has groups: one is in the write groups, and all its compartments are in the session's. No groups: all its compartments
 -- are in the write compartments
-unfoldable pub writeSetsRule : Rights → Marks → Bool
-writeSetsRule rights row =
+unfoldable pub treeSetsRule : Rights → Marks → Bool
+treeSetsRule rights row =
     cond (empty (row .groups)) (writeCompartmentsRule rights row) (writeGroupsRule rights row && readCompartmentsRule rights row)
+
+-- in the release profile: the read test on groups and compartments, and all its compartments are in the write compartments
+unfoldable pub releaseSetsRule : Rights → Marks → Bool
+releaseSetsRule rights row = readGroupsRule rights row && readCompartmentsRule rights row && writeCompartmentsRule rights row
+
+unfoldable pub writeSetsRule : Rights → Marks → Bool
+writeSetsRule rights row = byProfile (rights .profile) (treeSetsRule rights row) (releaseSetsRule rights row)
 
 -- COMPACCESS: with the level test of writing met, minimum included, a row with compartments is also writable if all are write
 -- compartments

@@ -13,6 +13,8 @@ ghost use Rattle.access.specs.NewLabels.{sessionGroupsRule, rowGroupsRul
 use crate::rights::View;
 use crate::rights::is_between;
 use header::layout;
+use header::profile::Profile;
+use header::profile::profile_of;
 use hierarchy::table;
 use hierarchy::table::Table;
 use labels::label::Label;
@@ -22,14 +24,20 @@ use refusals::answers::Checked;
 use sets::groups::Groups;
 use sets::word;
 
-// Do the row label's groups lie inside the session's write groups?
+// Do the row label's groups lie inside the session's write groups? In the release profile: do they exist and contain the session's groups?
 fn row_groups_ok(view: View, groups: Groups) -> bool
     ensures { λ r. ⌜ r ≡ rowGroupsRule (rightsOf view) (placesOf groups) ⌝ }
 {
-    groups.within(view.write_groups)
+    let profile = view.profile;
+    match profile {
+        Profile::Tree => groups.within(view.write_groups),
+        Profile::Release => {
+            groups.within(view.write_groups) & view.reached_groups.within(groups)
+        }
+    }
 }
 
-// Is the row label no higher than the session's level, with compartments and groups inside the session's write sets?
+// Is the row label no higher than the session's level, with compartments inside its write compartments and groups by the rule above?
 fn row_inside(view: View, row: Label) -> bool
     ensures { λ r. ⌜ r ≡ rowInside (rightsOf view) (marksOf row) ⌝ }
 {
@@ -56,14 +64,17 @@ fn compartments_ok(image: &[u8], u: usize, set: u64) -> bool
     word::within(set, compartments.read)
 }
 
-// Do all these groups lie below the user's read groups?
+// Do all these groups lie below the user's read groups? In the release profile: do they exist and contain the read groups?
 fn groups_ok(image: &[u8], table: &Table, u: usize, set: Groups) -> bool
     requires { ⌜ Counted (now image) × (Tabled (now image) (now table) × (u < users (now image))) ⌝ }
     ensures { λ r. ⌜ r ≡ sessionGroupsRule (now (image .entry)) (userRecord (now (image .entry)) u) (placesOf set) ⌝ }
 {
     let groups = users::group_sets(image, u);
     let all = Groups::all_below(layout::groups(image));
-    table::lies_below(image, table, all, set, groups.read)
+    match profile_of(image) {
+        Profile::Tree => table::lies_below(image, table, all, set, groups.read),
+        Profile::Release => set.within(all) & groups.read.within(set),
+    }
 }
 
 // May the user have the new session label beside that row label? The view is what the new label gives. Refusals: 8, 9, 10, 11.

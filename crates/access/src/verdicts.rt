@@ -7,7 +7,7 @@ ghost use Rattle.header.specs.Limits.{Counted};
 ghost use Rattle.image.specs.Check.{IsAccepted};
 ghost use Rattle.labels.specs.Label.{marksOf, labelAt};
 ghost use Rattle.access.specs.Rights.{rightsOf};
-ghost use Rattle.access.specs.Verdicts.{readsAll, writesAll, holdsCompaccess, readLevelRule, readGroupsRule, readTests, readsLabel, writeSetsRule, writeTests, writesLabel, unknownRule, mayRead, mayWrite};
+ghost use Rattle.access.specs.Verdicts.{readsAll, writesAll, holdsCompaccess, readLevelRule, readGroupsRule, readTests, readsLabel, treeSetsRule, releaseSetsRule, writeSetsRule, writeTests, writesLabel, unknownRule, mayRead, mayWrite};
 use crate::rights::View;
 use crate::rights::is_between;
 use fields::numbers::number8;
@@ -15,6 +15,7 @@ use header::edition::Edition;
 use header::edition::edition_of;
 use header::layout;
 use header::layout::Kind;
+use header::profile::Profile;
 use image::given::label_of_tag;
 use labels::group_test;
 use labels::label::Label;
@@ -49,11 +50,12 @@ fn read_level(view: View, row: Label) -> bool
     row.level <= view.level
 }
 
-// The row has no groups, or one of them lies below the session's.
+// The row has no groups, or one of them lies below the session's; in the release profile it has all the session's groups.
 fn read_groups(view: View, row: Label) -> bool
     ensures { λ r. ⌜ r ≡ readGroupsRule (rightsOf view) (marksOf row) ⌝ }
 {
-    group_test::passes(view.below_groups, row.groups)
+    let profile = view.profile;
+    group_test::passes(profile, view.reached_groups, row.groups)
 }
 
 // Is a row of that label readable by level, groups and compartments, or by COMPACCESS?
@@ -75,15 +77,35 @@ pub fn reads_label(view: View, row: Label) -> bool
     reads_all(view) | read_tests(view, row)
 }
 
-// Do the sets let the row be written? A row with groups asks for the session's compartments only.
-fn write_sets(view: View, row: Label) -> bool
-    ensures { λ r. ⌜ r ≡ writeSetsRule (rightsOf view) (marksOf row) ⌝ }
+// A row with groups asks for the session's compartments only.
+fn tree_sets(view: View, row: Label) -> bool
+    ensures { λ r. ⌜ r ≡ treeSetsRule (rightsOf view) (marksOf row) ⌝ }
 {
     let groups = row.groups;
     if groups.is_empty() {
         return word::within(row.compartments, view.write_compartments);
     }
     groups.meets(view.write_groups) & word::within(row.compartments, view.compartments)
+}
+
+// The read test on groups and compartments, and write access to all the row's compartments.
+fn release_sets(view: View, row: Label) -> bool
+    ensures { λ r. ⌜ r ≡ releaseSetsRule (rightsOf view) (marksOf row) ⌝ }
+{
+    read_groups(view, row)
+        & word::within(row.compartments, view.compartments)
+        & word::within(row.compartments, view.write_compartments)
+}
+
+// Do the sets let the row be written?
+fn write_sets(view: View, row: Label) -> bool
+    ensures { λ r. ⌜ r ≡ writeSetsRule (rightsOf view) (marksOf row) ⌝ }
+{
+    let profile = view.profile;
+    match profile {
+        Profile::Tree => tree_sets(view, row),
+        Profile::Release => release_sets(view, row),
+    }
 }
 
 // Is a row of that label writable by level and sets, or by COMPACCESS?

@@ -10,9 +10,11 @@ use lib.ListN.{length, getD}
 use Rattle.fields.specs.Bytes.{byteAt}
 use Rattle.buffers.specs.Pasting.{atFront}
 use Rattle.sets.specs.Sets.{has}
+use Rattle.sets.proofs.Within.{within-has, has-within}
 use Rattle.header.specs.declared.layout.Kind.{Kind}
 use Rattle.header.specs.declared.edition.Edition.the-variants.{One, Two}
-use Rattle.header.specs.Layout.{editionOf, groups, users, labels}
+use Rattle.header.specs.declared.profile.Profile.the-variants.{Release}
+use Rattle.header.specs.Layout.{editionOf, profileOf, groups, users, labels}
 use Rattle.hierarchy.specs.Below.{Above, below}
 use Rattle.hierarchy.proofs.Under.{below-true, below-above, above-below}
 use Rattle.refusals.specs.declared.answers.Checked.the-variants.{Accepted, Refused}
@@ -29,11 +31,13 @@ use Rattle.image.proofs.EveryRule as image
 use Rattle.image.proofs.EveryRule.{EveryRule}
 use Rattle.image.proofs.Policy.{parents-end}
 use Rattle.labels.specs.Label.{Marks, labelAt, labelExists}
+use Rattle.labels.specs.GroupTest.{groupTest}
 use Rattle.labels.specs.Parse.{read, ofText, parseOf}
 use Rattle.printing.specs.Print.{textOf}
 use Rattle.roundtrip.proofs.RoundTrip.{parse-of-print, record-reads-back}
-use Rattle.access.specs.Rights.{Rights}
-use Rattle.access.specs.Verdicts.{knownTag, mayRead, mayWrite, readableAtMaximum}
+use Rattle.access.specs.Rights.{Rights, rightsAt}
+use Rattle.access.specs.Verdicts.{knownTag, readsLabel, mayRead, mayWrite, readableAtMaximum}
+use Rattle.access.proofs.Released.{withGroup, released-further, shown-no-more}
 use Rattle.dominance.specs.TwoLabels.{dominatesOf}
 use Rattle.claims.specs.Reading.{NoPrivileges}
 use Rattle.claims.proofs.ReadsDominated.{reads-dominated}
@@ -191,6 +195,21 @@ pub compaccess-adds : (im : List ℕ) (rights : Rights) (tag : ℕ)
     × (mayWrite im rights tag ≡ true → mayWrite im (withCompaccess rights) tag ≡ true)
 compaccess-adds im rights tag = (compaccess-reads rights im tag, compaccess-writes rights im tag)
 
+-- ---- the release profile
+-- The group test there: every group of the session is among the row's. So a session without groups passes for every row.
+pub release-test : (asked row : ℕ) → (groupTest Release asked row ≡ true) ↔ ((g : ℕ) → has asked g ≡ true → has row g ≡ true)
+unfolding groupTest
+release-test asked row = (within-has asked row, has-within asked row)
+
+-- A group that is added to a row's label hides it from no session that read it, and one that is added to a session shows it no row more.
+pub release-adds : (rights : Rights) → rights .profile ≡ Release → (row : Marks) (g : ℕ) → readsLabel rights row ≡ true
+    → readsLabel rights (withGroup g row) ≡ true
+release-adds = released-further
+
+pub release-narrows : (im : List ℕ) → profileOf im ≡ Release → (u : ℕ) (label : Marks) (g tag : ℕ)
+    → mayRead im (rightsAt im u (withGroup g label)) tag ≡ true → mayRead im (rightsAt im u label) tag ≡ true
+release-narrows = shown-no-more
+
 -- ---- the move up
 -- Where the call is done, the front of the buffer is an image, of the length that is told, and later bytes stay as they were. The image is accepted,
 -- of edition 2, and holds the same components, labels and users, by the field readers of both editions; the same session opens for each name, the same
@@ -220,7 +239,7 @@ pub moved-once : (im buffer : List ℕ) → Framed im → editionOf im ≡ Two
 moved-once = moves.framed-once
 
 -- ---- COMPACCESS
--- Listed are just the users who hold it, each once, by rising places; in an accepted image of edition 2 there is none.
+-- Listed are just the users who hold it, each once, by rising places; in an accepted image of edition 2 or of the release profile there is none.
 pub holders-listed : (im : List ℕ) (u : ℕ)
     → ((j : ℕ) × ((j < length (holders im)) × (getD (holders im) j 0 ≡ u))) ↔ ((u < users im) × (isHolder im u ≡ true))
 holders-listed = moves.listed-exactly
@@ -230,6 +249,9 @@ holders-rise = moves.listed-rising
 
 pub two-nobody : (im : List ℕ) → IsAccepted im → editionOf im ≡ Two → holders im ≡ []
 two-nobody = moves.two-nobody
+
+pub release-nobody : (im : List ℕ) → IsAccepted im → profileOf im ≡ Release → holders im ≡ []
+release-nobody = moves.release-nobody
 
 pub list-done : (im buffer : List ℕ) → IsAccepted im → editionOf im ≡ One → length (holders im) ≤ length buffer
     → compaccessUsersOf im buffer ≡ (moved.Done (length (holders im)), atFront (holders im) buffer)

@@ -19,10 +19,13 @@ use Rattle.refusals.specs.declared.Refusal.the-variants.{ImageLayout, Compacces
 use Rattle.buffers.specs.Pasting.{atFront}
 use Rattle.sets.specs.Sets.{has}
 use Rattle.header.specs.declared.edition.Edition.the-variants.{One, Two}
+use Rattle.header.specs.declared.edition.Edition.{Edition}
+use Rattle.header.specs.declared.profile.Profile.the-variants.{Release}
 use Rattle.header.specs.declared.layout.Kind.the-variants.{Label, User}
-use Rattle.header.specs.Layout.{editionOf, users, labels, countsOf, blocksNeeded, labelRecord}
+use Rattle.header.specs.Layout.{editionOf, profileOf, users, labels, countsOf, blocksNeeded, labelRecord}
 use Rattle.header.proofs.Inside.{record-of}
 use Rattle.records.specs.Fields.{tagOf, privileges, hasCompaccess}
+use Rattle.records.specs.Rules.{bansCompaccess}
 use Rattle.records.proofs.MeaningLabels.{LabelKept}
 use Rattle.image.specs.Check.{IsAccepted}
 use Rattle.image.specs.Exactly.{Framed}
@@ -146,16 +149,27 @@ module _ (im : List ℕ) where
   unfolding holders
   listed-rising j h = rising (isHolder im) (users im) 0 j h
 
-  -- nobody in edition 2
-  pub two-nobody : IsAccepted im → editionOf im ≡ Two → holders im ≡ []
+  -- nobody where COMPACCESS is banned
+  pub nobody-where-banned : IsAccepted im → bansCompaccess (editionOf im) (profileOf im) ≡ true → holders im ≡ []
   unfolding holders
-  two-nobody acc two = nowhere (isHolder im) (users im) 0 none
+  nobody-where-banned acc banned = nowhere (isHolder im) (users im) 0 none
     where
       none : (u : ℕ) → 0 ≤ u → u < 0 + users im → isHolder im u ≡ false
       none u low high =
           let h : u < users im = omega arith in
           let kept = accepted-keeps im acc .users u h .kept .privilegesKept in
-          ap (λ (rec : List ℕ). hasCompaccess (privileges rec)) (sym (record-of im User u h)) ∙ kept .compaccessGone two
+          ap (λ (rec : List ℕ). hasCompaccess (privileges rec)) (sym (record-of im User u h)) ∙ kept .compaccessGone banned
+
+  pub two-nobody : IsAccepted im → editionOf im ≡ Two → holders im ≡ []
+  two-nobody acc two = nobody-where-banned acc (ap (λ (e : Edition). bansCompaccess e (profileOf im)) two)
+
+  pub release-nobody : IsAccepted im → profileOf im ≡ Release → holders im ≡ []
+  release-nobody acc release =
+      nobody-where-banned acc (ap (bansCompaccess (editionOf im)) release ∙ banned-in (editionOf im))
+    where
+      banned-in : (e : Edition) → bansCompaccess e Release ≡ true
+      banned-in One = refl
+      banned-in Two = refl
 
 -- ---- the sample, moved
 sample-counts : (editionOf cooperative ≡ One) × ((moveLimitsRule cooperative ≡ true) × (users cooperative ≡ 1))

@@ -6,9 +6,9 @@ use mathlib.Core.List.{List}
 use borrow.Author.Tests.{ltb-true}
 use lib.Dec.{leb}
 use Rattle.sets.specs.Sets.{within}
-use Rattle.hierarchy.specs.Below.{below}
+use Rattle.hierarchy.specs.Below.{below, reach}
 use Rattle.refusals.specs.declared.answers.Checked.the-variants.{Accepted}
-use Rattle.header.specs.Layout.{labels}
+use Rattle.header.specs.Layout.{labels, profileOf}
 use Rattle.image.specs.Lookup.{labelOfTag}
 use Rattle.labels.specs.Label.{Marks, labelAt}
 use Rattle.labels.specs.GroupTest.{groupTest}
@@ -40,7 +40,7 @@ pub label-dominated : (im : List ℕ) (u : ℕ) (label row : Marks) → NoPrivil
 unfolding readsLabel readsAll readTests compaccessReads holdsCompaccess readLevelRule readGroupsRule readCompartmentsRule rightsAt dominates dominatesLevel dominatesCompartments dominatesGroups
 label-dominated im u label row none =
     rw (none .read, none .full, none .compaccess, or-none)
-    (exchanged (leb (row .level) (label .level)) (groupTest (below im (label .groups)) (row .groups)) (within (row .compartments) (label .compartments)))
+    (exchanged (leb (row .level) (label .level)) (groupTest (profileOf im) (reach im (label .groups)) (row .groups)) (within (row .compartments) (label .compartments)))
 
 known-here : (im : List ℕ) (tag : ℕ) → knownTag im tag ≡ true → labelOfTag im tag < labels im
 unfolding knownTag

@@ -9,7 +9,10 @@ use Rattle.fields.proofs.Both.{parts}
 use Rattle.sets.specs.Sets.{empty, within, meets}
 use Rattle.sets.proofs.Within.{within-refl, within-trans}
 use Rattle.sets.proofs.Meets.{empty-place, place-meets, meets-mono}
-use Rattle.hierarchy.specs.Below.{below}
+use Rattle.header.specs.declared.profile.Profile.{Profile}
+use Rattle.header.specs.declared.profile.Profile.the-variants.{Tree, Release}
+use Rattle.header.specs.Layout.{profileOf, byProfile}
+use Rattle.hierarchy.specs.Below.{below, reach}
 use Rattle.hierarchy.proofs.Under.{below-self, below-mono}
 use Rattle.labels.specs.Label.{Marks, labelExists}
 use Rattle.labels.specs.GroupTest.{groupTest}
@@ -47,7 +50,7 @@ means-strictly im a b d n = at (sameLabel a b) refl
     at false e = rw d
 
 -- groups among others pass the group test against them
-groups-among : (s u : ℕ) → within s u ≡ true → groupTest u s ≡ true
+groups-among : (s u : ℕ) → within s u ≡ true → groupTest Tree u s ≡ true
 unfolding groupTest
 groups-among s u w = at (empty s) refl
   where
@@ -57,15 +60,28 @@ groups-among s u w = at (empty s) refl
         let p = empty-place s e in
         meets-mono s s s u (within-refl s) w (place-meets s s (p .0) (p .1) (p .1))
 
+-- a holds the groups of b; in the release profile b those of a
+abbrev pub GroupsHeld : Profile → Marks → Marks → Type 0
+GroupsHeld Tree a b = within (b .groups) (a .groups) ≡ true
+GroupsHeld Release a b = within (a .groups) (b .groups) ≡ true
+
 -- so groups that exist are passed by any that hold them
-pub held-groups : (im : List ℕ) (a b : Marks) → labelExists im b ≡ true → within (b .groups) (a .groups) ≡ true → dominatesGroups im a b ≡ true
-unfolding dominatesGroups
-held-groups im a b e w =
-    groups-among (b .groups) (below im (a .groups))
-    (within-trans (b .groups) (below im (b .groups)) (below im (a .groups)) (below-self im (b .groups) (exists-means im b e .groups))
-    (below-mono im (b .groups) (a .groups) w))
+pub held-groups : (im : List ℕ) (a b : Marks) → labelExists im b ≡ true → GroupsHeld (profileOf im) a b → dominatesGroups im a b ≡ true
+unfolding dominatesGroups reach groupTest
+held-groups im a b e = at (profileOf im)
+  where
+    at : (p : Profile) → GroupsHeld p a b → groupTest p (byProfile p (below im (a .groups)) (a .groups)) (b .groups) ≡ true
+    at Tree w =
+        groups-among (b .groups) (below im (a .groups))
+        (within-trans (b .groups) (below im (b .groups)) (below im (a .groups)) (below-self im (b .groups) (exists-means im b e .groups))
+        (below-mono im (b .groups) (a .groups) w))
+    at Release w = w
+
+same-held : (p : Profile) (a : Marks) → GroupsHeld p a a
+same-held Tree a = within-refl (a .groups)
+same-held Release a = within-refl (a .groups)
 
 pub dominates-itself : (im : List ℕ) (a : Marks) → labelExists im a ≡ true → dominates im a a ≡ true
 unfolding dominates dominatesLevel dominatesCompartments
 dominates-itself im a e =
-    rw (le-leb (a .level) (a .level) (le-refl (a .level)), within-refl (a .compartments)) (held-groups im a a e (within-refl (a .groups)))
+    rw (le-leb (a .level) (a .level) (le-refl (a .level)), within-refl (a .compartments)) (held-groups im a a e (same-held (profileOf im) a))

@@ -13,7 +13,8 @@ use Rattle.refusals.specs.declared.answers.Verdict.{Verdict}
 use Rattle.refusals.specs.declared.answers.Verdict.the-variants as verdict
 use Rattle.refusals.specs.Answers.{onChecked, orRefuse, verdictOf}
 use Rattle.sets.specs.Sets.{none, union, intersection, difference, within}
-use Rattle.hierarchy.specs.Below.{below}
+use Rattle.header.specs.Layout.{profileOf}
+use Rattle.hierarchy.specs.Below.{reach}
 use Rattle.image.specs.Check.{checkOf}
 use Rattle.labels.specs.Label.{Marks, marksOf, labelExists}
 use Rattle.labels.specs.GroupTest.{groupTest}
@@ -29,9 +30,10 @@ dominatesLevel a b = leb (b .level) (a .level)
 unfoldable pub dominatesCompartments : Marks → Marks → Bool
 dominatesCompartments a b = within (b .compartments) (a .compartments)
 
--- label 2 has no groups, or one of them lies in below(groups of label 1): the test by which a session reads
+-- label 2 has no groups, or one of them lies in below(groups of label 1); in the release profile all groups of label 1 are among label 2's: the
+-- test by which a session reads
 unfoldable pub dominatesGroups : List ℕ → Marks → Marks → Bool
-dominatesGroups im a b = groupTest (below im (a .groups)) (b .groups)
+dominatesGroups im a b = groupTest (profileOf im) (reach im (a .groups)) (b .groups)
 
 -- label 1 dominates label 2
 unfoldable pub dominates : List ℕ → Marks → Marks → Bool

@@ -3,6 +3,8 @@ ghost use mathlib.Core.Path.{_≡_};
 ghost use Rattle.image.specs.Check.{IsAccepted};
 ghost use Rattle.labels.specs.Label.{marksOf};
 ghost use Rattle.dominance.specs.TwoLabels.{dominatesGroups, dominates, sameLabel, strictlyDominates, comparedAnswer};
+use header::profile::profile_of;
+use hierarchy::group_rules::reach;
 use hierarchy::table;
 use labels::group_test;
 use labels::label::Label;
@@ -26,15 +28,15 @@ pub fn compared(image: &[u8], label1: Label, label2: Label) -> Checked
     }
 }
 
-// Has label 2 no groups, or does one of them lie below label 1's?
+// Has label 2 no groups, or does one of them lie below label 1's? In the release profile: are all of label 1's among label 2's?
 fn groups_reached(image: &[u8], label1: Label, label2: Label) -> bool
     requires { ⌜ IsAccepted (now image) ⌝ }
     ensures { λ r. ⌜ r ≡ dominatesGroups (now (image .entry)) (marksOf label1) (marksOf label2) ⌝ }
 {
     let mut parents = table::EMPTY;
     table::fill(image, &mut parents);
-    let reached = table::below(image, &parents, label1.groups);
-    group_test::passes(reached, label2.groups)
+    let reached = reach(image, &parents, label1.groups);
+    group_test::passes(profile_of(image), reached, label2.groups)
 }
 
 // Does label 1 dominate label 2?

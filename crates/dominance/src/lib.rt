@@ -13,7 +13,7 @@ use refusals::answers::Verdict;
 use refusals::answers::verdict_of;
 
 // Does label 1 dominate label 2? Its level is at least as high, it has all compartments of label 2, and label 2 has no
-// groups, or one of them lies below label 1's. Refusals: 1, 2, 31 to 35, 18.
+// groups, or one of them lies below label 1's; in the release profile label 2 has all groups of label 1. Refusals: 1, 2, 31 to 35, 18.
 pub fn dominates(image: &[u8], label1: Label, label2: Label) -> Verdict
     ensures { λ r. ⌜ r ≡ dominatesOf (now (image .entry)) (marksOf label1) (marksOf label2) ⌝ }
 {

@@ -9,6 +9,8 @@ use Rattle.fields.specs.Bytes.{byteAt, part, number2}
 use Rattle.fields.specs.Scan.{listFrom}
 use Rattle.header.specs.declared.edition.Edition.{Edition}
 use Rattle.header.specs.declared.edition.Edition.the-variants.{One, Two}
+use Rattle.header.specs.declared.profile.Profile.{Profile}
+use Rattle.header.specs.declared.profile.Profile.the-variants.{Tree, Release}
 use Rattle.header.specs.declared.layout.Kind.{Kind}
 use Rattle.header.specs.declared.layout.Kind.the-variants.{Component, Label, User}
 use Rattle.header.specs.declared.layout.Shape.{Shape}
@@ -19,6 +21,16 @@ use Rattle.header.specs.declared.walk.RecordAt.{RecordAt}
 -- A header whose edition is neither 1 nor 2 is at fault (`headerRule`); its counts are read as those of edition 1.
 unfoldable pub editionOf : List ℕ → Edition
 editionOf im = cond (eqb (byteAt im 4) 2) Two One
+
+-- ---- block 0: the profile, byte 12
+-- A header whose profile is neither 0 nor 1 is at fault (`headerRule`); it is read as 0.
+unfoldable pub profileOf : List ℕ → Profile
+profileOf im = cond (eqb (byteAt im 12) 1) Release Tree
+
+-- what differs between the profiles
+abbrev pub byProfile : {A : Type 0} → Profile → A → A → A
+byProfile Tree tree release = tree
+byProfile Release tree release = release
 
 -- a number that differs between the editions
 abbrev pub byEdition : Edition → ℕ → ℕ → ℕ
@@ -45,15 +57,16 @@ labels im = number2 im 10
 unfoldable pub components : List ℕ → ℕ
 components im = levels im + compartments im + groups im
 
--- ---- what the rules of records ask of the header: the edition, and how many components there are of each class
+-- ---- what the rules of records ask of the header: the edition, the profile, and how many components there are of each class
 pub record Counts : Type 0 where
   pub edition : Edition
+  pub profile : Profile
   pub levels : ℕ
   pub compartments : ℕ
   pub groups : ℕ
 
 abbrev pub countsOf : List ℕ → Counts
-countsOf im = record { edition = editionOf im; levels = levels im; compartments = compartments im; groups = groups im }
+countsOf im = record { edition = editionOf im; profile = profileOf im; levels = levels im; compartments = compartments im; groups = groups im }
 
 -- ---- classes: 1 level, 2 compartment, 3 group. Levels come first, then compartments, then groups
 -- how many components a class has

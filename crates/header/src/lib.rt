@@ -3,5 +3,6 @@ pub mod contents;
 pub mod edition;
 pub mod layout;
 pub mod limits;
+pub mod profile;
 pub mod rules;
 pub mod walk;

@@ -29,8 +29,8 @@ fn unused_ok(image: &[u8], edition: Edition) -> bool
     ensures { λ r. ⌜ r ≡ unusedRule edition (now (image .entry)) ⌝ }
 {
     match edition {
-        Edition::One => all_zero(&image[12..510]),
-        Edition::Two => { (image[7] == 0) & all_zero(&image[12..14]) & all_zero(&image[16..510]) }
+        Edition::One => all_zero(&image[13..510]),
+        Edition::Two => { (image[7] == 0) & all_zero(&image[13..14]) & all_zero(&image[16..510]) }
     }
 }
 
@@ -41,6 +41,7 @@ pub fn header_ok(image: &[u8]) -> bool
     (image[0] == 80)
         & (image[1] == 0)
         & ((image[4] == 1) | (image[4] == 2))
+        & (image[12] <= 1)
         & counts_ok(image)
         & unused_ok(image, edition_of(image))
 }

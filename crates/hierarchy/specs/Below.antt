@@ -4,11 +4,11 @@ use Prim.Native.Nat.{ℕ, zero, suc, _+_, _<_}
 use mathlib.Core.Path.{_≡_}
 use mathlib.Core.Bool.{Bool, true, false, cond, not, _||_, _&&_}
 use mathlib.Core.List.{List}
-use lib.Dec.{ltb}
+use lib.Dec.{eqb, ltb}
 use lib.ListN.{getD}
 use Rattle.fields.specs.Scan.{firstBad}
 use Rattle.sets.specs.Sets.{none, one, union, meets, within, collect}
-use Rattle.header.specs.Layout.{editionOf, groups, users, countsOf, classFirst, componentRecord, userRecord}
+use Rattle.header.specs.Layout.{editionOf, profileOf, byProfile, groups, users, countsOf, classFirst, componentRecord, userRecord}
 use Rattle.records.specs.Fields.{parentOf, readGroups, writeGroups, defaultGroups, rowGroups}
 
 -- the parent's place of group g, and whether it has one
@@ -49,7 +49,12 @@ lineage im g = lineageWithin im (groups im) g
 unfoldable pub below : List ℕ → ℕ → ℕ
 below im s = collect (λ g. meets (lineage im g) s) (groups im)
 
--- a user's write and default groups lie in below(read), the row groups in below(default) and in below(write)
+-- what groups reach: below(s); in the release profile, where no group has a parent, s itself
+unfoldable pub reach : List ℕ → ℕ → ℕ
+reach im s = byProfile (profileOf im) (below im s) s
+
+-- ---- a user's sets of groups among each other
+-- write and default groups lie in below(read), the row groups in below(default) and in below(write)
 unfoldable pub belowRule : List ℕ → ℕ → Bool
 belowRule im u =
     let rec = userRecord im u in
@@ -59,9 +64,23 @@ belowRule im u =
     let row = rowGroups (editionOf im) rec in
     within write (below im read) && within default (below im read) && within row (below im default) && within row (below im write)
 
+-- in the release profile default groups contain the read groups and row groups the default groups, and write groups are the read groups
+unfoldable pub releaseRule : List ℕ → ℕ → Bool
+releaseRule im u =
+    let rec = userRecord im u in
+    let read = readGroups (editionOf im) rec in
+    let write = writeGroups (editionOf im) rec in
+    let default = defaultGroups (editionOf im) rec in
+    let row = rowGroups (editionOf im) rec in
+    within read default && within default row && eqb write read
+
+-- by the profile
+unfoldable pub groupSetsRule : List ℕ → ℕ → Bool
+groupSetsRule im u = byProfile (profileOf im) (belowRule im u) (releaseRule im u)
+
 -- the lowest user whose groups break that rule; the number of users where there is none
 unfoldable pub firstBadBelow : List ℕ → ℕ
-firstBadBelow im = firstBad (belowRule im) (users im) 0
+firstBadBelow im = firstBad (groupSetsRule im) (users im) 0
 
 -- the parents of every group end
 abbrev pub AllEnd : List ℕ → Type 0

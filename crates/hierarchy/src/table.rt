@@ -6,15 +6,14 @@ ghost use lib.ListN.{length, getD};
 ghost use Rattle.sets.specs.Groups.{placesOf};
 ghost use Rattle.sets.specs.Words.{wordOf};
 ghost use Rattle.sets.specs.Sets.{union, within, allBelow};
-ghost use Rattle.header.specs.Layout.{groups, users};
+ghost use Rattle.header.specs.Layout.{groups};
 ghost use Rattle.header.specs.Limits.{Counted};
 ghost use Rattle.hierarchy.specs.Below as hierarchy;
-ghost use Rattle.hierarchy.specs.Below.{firstRing, belowRule, firstBadBelow, Parents, Tabled};
+ghost use Rattle.hierarchy.specs.Below.{firstRing, Parents, Tabled};
 ghost use Rattle.hierarchy.specs.Paths as paths;
 ghost use Rattle.hierarchy.specs.Paths.{tableRoom, climbed, passed, reaching, Fits, Unmet};
 use crate::parents::parent;
 use header::layout;
-use records::users::group_sets;
 use sets::groups::Groups;
 use sets::word;
 
@@ -242,43 +241,4 @@ pub fn lies_below(image: &[u8], table: &Table, all: Groups, set: Groups, other: 
         return true;
     }
     all_reach(image, table, reached, rest)
-}
-
-// Do the user's write and default groups lie below the read ones, and the row groups below the default and the write ones?
-fn below_ok(image: &[u8], table: &Table, all: Groups, u: usize) -> bool
-    requires { ⌜ Counted (now image) × (Tabled (now image) (now table) × ((placesOf all ≡ allBelow (groups (now image))) × (u < users (now image)))) ⌝ }
-    ensures { λ r. ⌜ r ≡ belowRule (now (image .entry)) u ⌝ }
-{
-    let sets = group_sets(image, u);
-    let read = sets.read;
-    let write = sets.write;
-    let default = sets.default;
-    let row = sets.row;
-    if !lies_below(image, table, all, write, read) {
-        return false;
-    }
-    if !lies_below(image, table, all, default, read) {
-        return false;
-    }
-    if !lies_below(image, table, all, row, default) {
-        return false;
-    }
-    lies_below(image, table, all, row, write)
-}
-
-// The lowest user whose groups break that rule; the number of users where there is none.
-pub fn first_bad_below(image: &[u8], table: &Table) -> usize
-    requires { ⌜ Counted (now image) × Tabled (now image) (now table) ⌝ }
-    ensures { λ r. ⌜ r ≡ firstBadBelow (now (image .entry)) ⌝ }
-{
-    let all = Groups::all_below(layout::groups(image));
-    let count = layout::users(image);
-    let mut u = 0;
-    while u < count {
-        if !below_ok(image, table, all, u) {
-            return u;
-        }
-        u += 1;
-    }
-    u
 }

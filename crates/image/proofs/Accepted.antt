@@ -17,7 +17,7 @@ use Rattle.records.specs.Rules.{contentRule}
 use Rattle.header.specs.Limits.{Counted}
 use Rattle.records.proofs.MeaningHeader.{counted}
 use Rattle.refusals.specs.declared.Refusal.{Refusal}
-use Rattle.hierarchy.specs.Below.{endsRule, belowRule, firstRing, firstBadBelow, AllEnd}
+use Rattle.hierarchy.specs.Below.{endsRule, groupSetsRule, firstRing, firstBadBelow, AllEnd}
 use Rattle.image.specs.declared.faults.Fault.{Fault}
 use Rattle.image.specs.declared.faults.Fault.the-variants.{Sound, Length, Block, Layout, Component, Label, User, Ring, Below}
 use Rattle.refusals.specs.declared.answers.Checked.{Checked}
@@ -70,7 +70,7 @@ pub record Keeps (im : List ℕ) : Type 0 where
   pub fit : fitRule im ≡ true
   pub contents : (b : ℕ) → 1 ≤ b → b < blocksNeeded im → contentRule im b ≡ true
   pub ends : (g : ℕ) → g < groups im → endsRule im g ≡ true
-  pub below : (u : ℕ) → u < users im → belowRule im u ≡ true
+  pub below : (u : ℕ) → u < users im → groupSetsRule im u ≡ true
 
 module _ (im : List ℕ) (acc : IsAccepted im) where
   sound : foundFault im ≡ Sound
@@ -119,7 +119,7 @@ module _ (im : List ℕ) (acc : IsAccepted im) where
         fit = both-right (headerRule im) (fitRule im) (headed .0);
         contents = λ b l h. passed (contentRule im) 1 (blocksNeeded im) _ refl (filled .0) b l h;
         ends = λ g h. passed (endsRule im) 0 (groups im) _ (rw sub-zero) (ringless .0) g zero-le h;
-        below = λ u h. passed (belowRule im) 0 (users im) _ (rw sub-zero) lowered u zero-le h;
+        below = λ u h. passed (groupSetsRule im) 0 (users im) _ (rw sub-zero) lowered u zero-le h;
       }
 
 -- and an image that keeps every rule is accepted
@@ -149,8 +149,8 @@ module _ (im : List ℕ) (k : Keeps im) where
 
   no-below : ltb (firstBadBelow im) (users im) ≡ false
   unfolding firstBadBelow
-  no-below = subst (λ (n : ℕ). ltb (firstBad (belowRule im) n 0) (users im) ≡ false) (sub-zero (users im))
-      (nothing-bad (belowRule im) 0 (users im) zero-le (λ i a b. k .below i b))
+  no-below = subst (λ (n : ℕ). ltb (firstBad (groupSetsRule im) n 0) (users im) ≡ false) (sub-zero (users im))
+      (nothing-bad (groupSetsRule im) 0 (users im) zero-le (λ i a b. k .below i b))
 
   pub kept-accepted : IsAccepted im
   unfolding checkOf faultOf foundFault countedFault

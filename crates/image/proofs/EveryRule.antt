@@ -12,7 +12,7 @@ use Rattle.blocks.proofs.Meaning.{LengthKept, length-means, length-holds, Block
 use Rattle.header.specs.declared.layout.Kind.{Kind}
 use Rattle.header.specs.declared.layout.Kind.the-variants.{Component, Label, User}
 use Rattle.header.specs.Layout as layout
-use Rattle.header.specs.Layout.{editionOf, groups, blocksNeeded, Fitted, countsOf, countOf, recordsOf, userRecord}
+use Rattle.header.specs.Layout.{profileOf, editionOf, groups, blocksNeeded, Fitted, countsOf, countOf, recordsOf, userRecord}
 use Rattle.header.proofs.Inside.{record-of}
 use Rattle.records.specs.Fields.{readGroups, writeGroups, defaultGroups, rowGroups}
 use Rattle.records.specs.Rules.{ruleOf, recordRule}
@@ -25,9 +25,11 @@ use Rattle.hierarchy.specs.Below.{hasParent, Above, below, endsRule}
 use Rattle.hierarchy.proofs.Lineage.{ends-top}
 use Rattle.hierarchy.proofs.Walks.{top-ends}
 use Rattle.hierarchy.proofs.Under.{below-above, above-below}
+use Rattle.header.specs.declared.profile.Profile.{Profile}
+use Rattle.header.specs.declared.profile.Profile.the-variants.{Tree, Release}
 use Rattle.image.specs.Check.{IsAccepted}
 use Rattle.image.proofs.Accepted.{keeps, kept-accepted}
-use Rattle.image.proofs.Policy.{BelowKept, below-holds, component-among, label-among, user-among, user-below}
+use Rattle.image.proofs.Policy.{BelowKept, ReleaseKept, SetsKept, sets-holds, component-among, label-among, user-among, user-sets}
 
 -- every group of a is in b or has an ancestor in b, at any distance. (`Above im g p`: p is g or an ancestor of g.)
 abbrev pub Under : List ℕ → ℕ → ℕ → Type 0
@@ -40,12 +42,23 @@ pub record GroupsUnder (im rec : List ℕ) : Type 0 where
   pub rowUnderDefault : Under im (rowGroups (editionOf im) rec) (defaultGroups (editionOf im) rec)
   pub rowUnderWrite : Under im (rowGroups (editionOf im) rec) (writeGroups (editionOf im) rec)
 
+-- in the release profile default groups contain the read groups and row groups the default groups, and write groups are the read groups
+pub record GroupsReleased (im rec : List ℕ) : Type 0 where
+  pub readInDefault : (g : ℕ) → has (readGroups (editionOf im) rec) g ≡ true → has (defaultGroups (editionOf im) rec) g ≡ true
+  pub defaultInRow : (g : ℕ) → has (defaultGroups (editionOf im) rec) g ≡ true → has (rowGroups (editionOf im) rec) g ≡ true
+  pub writeIsRead : writeGroups (editionOf im) rec ≡ readGroups (editionOf im) rec
+
+-- by the profile
+abbrev pub SetsUnder : Profile → List ℕ → List ℕ → Type 0
+SetsUnder Tree = GroupsUnder
+SetsUnder Release = GroupsReleased
+
 pub record EveryRule (im : List ℕ) : Type 0 where
   -- the length is not 0, a multiple of 512 and at most 65,536
   pub length : LengthKept im
   -- each block's check is that of its bytes, and its place is its own
   pub blocks : (b : ℕ) → b < blockCount im → BlockKept im b
-  -- kind, edition, counts within their limits, the rest unused; as many blocks as the counts need
+  -- kind, edition, profile, counts within their limits, the rest unused; as many blocks as the counts need
   pub header : HeaderKept im
   pub fitted : Fitted im
   -- each block after the header: the kind and the number of records that the counts ask for, and unused bytes after them
@@ -56,8 +69,8 @@ pub record EveryRule (im : List ℕ) : Type 0 where
   pub users : (u : ℕ) → u < layout.users im → UserAmong (countsOf im) (recordsOf im User) u
   -- following parents from any group reaches one that has none
   pub parentsEnd : (g : ℕ) → g < groups im → (p : ℕ) × (Above im g p × (hasParent im p ≡ false))
-  -- each user's groups lie below one another
-  pub groupsUnder : (u : ℕ) → u < layout.users im → GroupsUnder im (userRecord im u)
+  -- each user's sets of groups among each other: they lie below one another, or contain one another
+  pub groupSets : (u : ℕ) → u < layout.users im → SetsUnder (profileOf im) im (userRecord im u)
 
 module _ (im : List ℕ) where
   under-means : (a b : ℕ) → within a (below im b) ≡ true → Under im a b
@@ -80,17 +93,40 @@ module _ (im : List ℕ) where
       let p = e .parentsEnd g (exist g h) in
       above-below im b g (q .0) (exist g h) (top-ends im g (p .0) (exist g h) (p .1 .0) (p .1 .1)) (q .1 .0) (q .1 .1))
 
-  kept-under : EveryRule im → (u : ℕ) → u < layout.users im → BelowKept im (userRecord im u)
-  kept-under e u h =
+  released-kept : {rec : List ℕ} → ReleaseKept im rec → GroupsReleased im rec
+  released-kept {rec} k =
+      record {
+        readInDefault = within-has (readGroups (editionOf im) rec) (defaultGroups (editionOf im) rec) (k .readInDefault);
+        defaultInRow = within-has (defaultGroups (editionOf im) rec) (rowGroups (editionOf im) rec) (k .defaultInRow);
+        writeIsRead = k .writeIsRead;
+      }
+
+  kept-released : {rec : List ℕ} → GroupsReleased im rec → ReleaseKept im rec
+  kept-released {rec} k =
+      record {
+        readInDefault = has-within (readGroups (editionOf im) rec) (defaultGroups (editionOf im) rec) (k .readInDefault);
+        defaultInRow = has-within (defaultGroups (editionOf im) rec) (rowGroups (editionOf im) rec) (k .defaultInRow);
+        writeIsRead = k .writeIsRead;
+      }
+
+  sets-kept : (rec : List ℕ) (p : Profile) → SetsKept p im rec → SetsUnder p im rec
+  sets-kept rec Tree k = under-kept k
+  sets-kept rec Release k = released-kept k
+
+  kept-under : EveryRule im → (u : ℕ) → u < layout.users im → GroupsUnder im (userRecord im u) → BelowKept im (userRecord im u)
+  kept-under e u h g =
       let rec : List ℕ = userRecord im u in
       let k = subst (UserKept (countsOf im)) (record-of im User u h) (e .users u h .kept) .groupsKept in
-      let g = e .groupsUnder u h in
       record {
         writeBelowRead = under-holds e (writeGroups (editionOf im) rec) (readGroups (editionOf im) rec) (k .writeExist) (g .writeUnderRead);
         defaultBelowRead = under-holds e (defaultGroups (editionOf im) rec) (readGroups (editionOf im) rec) (k .defaultExist) (g .defaultUnderRead);
         rowBelowDefault = under-holds e (rowGroups (editionOf im) rec) (defaultGroups (editionOf im) rec) (k .rowExist) (g .rowUnderDefault);
         rowBelowWrite = under-holds e (rowGroups (editionOf im) rec) (writeGroups (editionOf im) rec) (k .rowExist) (g .rowUnderWrite);
       }
+
+  kept-sets : EveryRule im → (u : ℕ) → u < layout.users im → (p : Profile) → SetsUnder p im (userRecord im u) → SetsKept p im (userRecord im u)
+  kept-sets e u h Tree g = kept-under e u h g
+  kept-sets e u h Release g = kept-released g
 
   pub accepted-keeps : IsAccepted im → EveryRule im
   unfolding endsRule
@@ -106,7 +142,7 @@ module _ (im : List ℕ) where
         labels = label-among im acc;
         users = user-among im acc;
         parentsEnd = λ g h. ends-top im (groups im) g (k .ends g h);
-        groupsUnder = λ u h. under-kept (user-below im acc u h);
+        groupSets = λ u h. sets-kept (userRecord im u) (profileOf im) (user-sets im acc u h);
       }
 
   record-holds : EveryRule im → (kind : Kind) (i : ℕ) → i < countOf im kind → recordRule im kind i ≡ true
@@ -125,7 +161,7 @@ module _ (im : List ℕ) where
         fit = fit-holds im (e .fitted);
         contents = λ b low high. contents-kept im (record-holds e) b low high (e .layouts b low high);
         ends = λ g h. let p = e .parentsEnd g h in top-ends im g (p .0) h (p .1 .0) (p .1 .1);
-        below = λ u h. below-holds im u (kept-under e u h);
+        below = λ u h. sets-holds im u (kept-sets e u h (profileOf im) (e .groupSets u h));
       })
 
   pub accepted-exactly : IsAccepted im ↔ EveryRule im

@@ -18,7 +18,7 @@ use Rattle.header.specs.Layout.{groups, users, blocksNeeded, shapeOf, recordBlo
 use Rattle.header.specs.Header.{headerRule, fitRule}
 use Rattle.header.proofs.Inside.{held-is}
 use Rattle.records.specs.Rules.{layoutRule, recordRule, firstBadRecord, contentRule}
-use Rattle.hierarchy.specs.Below.{endsRule, belowRule, firstRing, firstBadBelow}
+use Rattle.hierarchy.specs.Below.{endsRule, groupSetsRule, firstRing, firstBadBelow}
 use Rattle.refusals.specs.declared.Refusal.the-variants.{ImageLayout, ParentRing}
 use Rattle.refusals.specs.declared.answers.Checked.the-variants.{Refused}
 use Rattle.image.specs.declared.faults.Fault.{Fault}
@@ -100,7 +100,7 @@ module _ (im : List ℕ) (sound : (headerRule im && fitRule im) ≡ true) where
   unfolding countedFault firstBadContent firstRing firstBadBelow
   counted-meant =
       at (ltb (firstBad (contentRule im) (blocksNeeded im - 1) 1) (blocksNeeded im)) refl
-      (ltb (firstBad (endsRule im) (groups im) 0) (groups im)) refl (ltb (firstBad (belowRule im) (users im) 0) (users im)) refl
+      (ltb (firstBad (endsRule im) (groups im) 0) (groups im)) refl (ltb (firstBad (groupSetsRule im) (users im) 0) (users im)) refl
     where
       b : ℕ
       b = firstBad (contentRule im) (blocksNeeded im - 1) 1
@@ -109,7 +109,7 @@ module _ (im : List ℕ) (sound : (headerRule im && fitRule im) ≡ true) where
       g = firstBad (endsRule im) (groups im) 0
 
       u : ℕ
-      u = firstBad (belowRule im) (users im) 0
+      u = firstBad (groupSetsRule im) (users im) 0
 
       contents : ltb b (blocksNeeded im) ≡ false → SoundBefore im (blocksNeeded im)
       contents e =
@@ -140,8 +140,8 @@ module _ (im : List ℕ) (sound : (headerRule im && fitRule im) ≡ true) where
             blocks = contents e;
             rings = λ h l. good-before (endsRule im) (groups im) 0 h zero-le (omega (arith, ltb-false g (groups im) d, l));
             among = ltb-true u (users im) f;
-            earlier = λ w l. good-before (belowRule im) (users im) 0 w zero-le l;
-            fault = bad-at (belowRule im) (users im) 0 (omega (arith, ltb-true u (users im) f));
+            earlier = λ w l. good-before (groupSetsRule im) (users im) 0 w zero-le l;
+            fault = bad-at (groupSetsRule im) (users im) 0 (omega (arith, ltb-true u (users im) f));
           })
       at false e false d false f = nothing refl
 
@@ -195,8 +195,8 @@ module _ (im : List ℕ) (framed : Framed im) where
   below-told : (u : ℕ) → BelowAtFault im u → faultOf im ≡ belowFault im u
   unfolding countedFault firstRing firstBadBelow
   below-told u k =
-      let e : firstBad (belowRule im) (users im) 0 ≡ u =
-      bad-is (belowRule im) (users im) 0 u zero-le (omega (arith, k .among)) (λ j low high. k .earlier j high) (k .fault) in
+      let e : firstBad (groupSetsRule im) (users im) 0 ≡ u =
+      bad-is (groupSetsRule im) (users im) 0 u zero-le (omega (arith, k .among)) (λ j low high. k .earlier j high) (k .fault) in
       let d : firstBad (endsRule im) (groups im) 0 ≡ 0 + groups im = all-good (endsRule im) (groups im) 0 (λ i a b. k .rings i (omega (arith, b))) in
       framed-fault im framed
       ∙ rw (

@@ -13,15 +13,17 @@ use Rattle.fields.proofs.Meaning.{same-means, same-refl, found-at, found-first,
 use Rattle.sets.specs.Sets.{within}
 use Rattle.header.specs.declared.layout.Kind.{Kind}
 use Rattle.header.specs.declared.layout.Kind.the-variants.{Component, Label, User}
-use Rattle.header.specs.Layout.{editionOf, components, labels, users, groups, countsOf, classAt, countOf, componentRecord, labelRecord, userRecord, recordsOf}
+use Rattle.header.specs.Layout.{profileOf, byProfile, editionOf, components, labels, users, groups, countsOf, classAt, countOf, componentRecord, labelRecord, userRecord, recordsOf}
 use Rattle.header.proofs.Inside.{records-count, record-of}
 use Rattle.records.specs.Fields.{componentName, numericForm, tagOf, userName, readGroups, writeGroups, defaultGroups, rowGroups}
-use Rattle.records.specs.Rules.{ruleOf, recordRule}
+use Rattle.records.specs.Rules.{parentCount, ruleOf, recordRule}
 use Rattle.records.proofs.MeaningBlocks.{records-kept}
 use Rattle.records.proofs.MeaningComponents.{ComponentKept, ComponentAmong, component-means, numeric-rise, component-unique}
 use Rattle.records.proofs.MeaningLabels.{LabelKept, LabelAmong, label-means, tags-rise, tag-unique}
 use Rattle.records.proofs.MeaningUsers.{UserKept, UserAmong, user-means, names-rise, user-unique}
-use Rattle.hierarchy.specs.Below.{endsRule, below, belowRule}
+use Rattle.hierarchy.specs.Below.{endsRule, below, belowRule, releaseRule, groupSetsRule}
+use Rattle.header.specs.declared.profile.Profile.{Profile}
+use Rattle.header.specs.declared.profile.Profile.the-variants.{Tree, Release}
 use Rattle.hierarchy.proofs.Under.{below-closed}
 use Rattle.image.specs.Check.{IsAccepted}
 use Rattle.image.specs.Lookup.{labelOfTag, userOfName}
@@ -34,7 +36,7 @@ pub record BelowKept (im rec : List ℕ) : Type 0 where
   pub rowBelowDefault : within (rowGroups (editionOf im) rec) (below im (defaultGroups (editionOf im) rec)) ≡ true
   pub rowBelowWrite : within (rowGroups (editionOf im) rec) (below im (writeGroups (editionOf im) rec)) ≡ true
 
-pub below-means : (im : List ℕ) (u : ℕ) → belowRule im u ≡ true → BelowKept im (userRecord im u)
+below-means : (im : List ℕ) (u : ℕ) → belowRule im u ≡ true → BelowKept im (userRecord im u)
 unfolding belowRule
 below-means im u e =
     let q3 = parts _ _ e in
@@ -42,9 +44,47 @@ below-means im u e =
     let q1 = parts _ _ (q2 .0) in
     record { writeBelowRead = q1 .0; defaultBelowRead = q1 .1; rowBelowDefault = q2 .1; rowBelowWrite = q3 .1 }
 
-pub below-holds : (im : List ℕ) (u : ℕ) → BelowKept im (userRecord im u) → belowRule im u ≡ true
+below-holds : (im : List ℕ) (u : ℕ) → BelowKept im (userRecord im u) → belowRule im u ≡ true
 unfolding belowRule
 below-holds im u k = rw (k .writeBelowRead, k .defaultBelowRead, k .rowBelowDefault, k .rowBelowWrite)
+
+-- in the release profile default groups contain the read groups and row groups the default groups, and write groups are the read groups
+pub record ReleaseKept (im rec : List ℕ) : Type 0 where
+  pub readInDefault : within (readGroups (editionOf im) rec) (defaultGroups (editionOf im) rec) ≡ true
+  pub defaultInRow : within (defaultGroups (editionOf im) rec) (rowGroups (editionOf im) rec) ≡ true
+  pub writeIsRead : writeGroups (editionOf im) rec ≡ readGroups (editionOf im) rec
+
+release-means : (im : List ℕ) (u : ℕ) → releaseRule im u ≡ true → ReleaseKept im (userRecord im u)
+unfolding releaseRule
+release-means im u e =
+    let q2 = parts _ _ e in
+    let q1 = parts _ _ (q2 .0) in
+    record { readInDefault = q1 .0; defaultInRow = q1 .1; writeIsRead = eqb-true _ _ (q2 .1) }
+
+release-holds : (im : List ℕ) (u : ℕ) → ReleaseKept im (userRecord im u) → releaseRule im u ≡ true
+unfolding releaseRule
+release-holds im u k = rw (k .readInDefault, k .defaultInRow, eq-eqb _ _ (k .writeIsRead))
+
+-- by the profile
+abbrev pub SetsKept : Profile → List ℕ → List ℕ → Type 0
+SetsKept Tree = BelowKept
+SetsKept Release = ReleaseKept
+
+pub sets-means : (im : List ℕ) (u : ℕ) → groupSetsRule im u ≡ true → SetsKept (profileOf im) im (userRecord im u)
+unfolding groupSetsRule
+sets-means im u = at (profileOf im)
+  where
+    at : (p : Profile) → byProfile p (belowRule im u) (releaseRule im u) ≡ true → SetsKept p im (userRecord im u)
+    at Tree e = below-means im u e
+    at Release e = release-means im u e
+
+pub sets-holds : (im : List ℕ) (u : ℕ) → SetsKept (profileOf im) im (userRecord im u) → groupSetsRule im u ≡ true
+unfolding groupSetsRule
+sets-holds im u = at (profileOf im)
+  where
+    at : (p : Profile) → SetsKept p im (userRecord im u) → byProfile p (belowRule im u) (releaseRule im u) ≡ true
+    at Tree k = below-holds im u k
+    at Release k = release-holds im u k
 
 module _ (im : List ℕ) (acc : IsAccepted im) where
   -- every record keeps its kind's rule, among the records of its kind
@@ -64,9 +104,9 @@ module _ (im : List ℕ) (acc : IsAccepted im) where
   user-among u h = user-means (countsOf im) (recordsOf im User) u (record-kept User u h)
 
   -- so each is what a record of its kind must be
-  pub component-kept : (i : ℕ) → i < components im → ComponentKept (editionOf im) (classAt (countsOf im) i) (groups im) (componentRecord im i)
+  pub component-kept : (i : ℕ) → i < components im → ComponentKept (editionOf im) (classAt (countsOf im) i) (parentCount (countsOf im)) (componentRecord im i)
   component-kept i h =
-      subst (ComponentKept (editionOf im) (classAt (countsOf im) i) (groups im)) (record-of im Component i h) (component-among i h .kept)
+      subst (ComponentKept (editionOf im) (classAt (countsOf im) i) (parentCount (countsOf im))) (record-of im Component i h) (component-among i h .kept)
 
   pub label-kept : (k : ℕ) → k < labels im → LabelKept (countsOf im) (labelRecord im k)
   label-kept k h = subst (LabelKept (countsOf im)) (record-of im Label k h) (label-among k h .kept)
@@ -74,8 +114,8 @@ module _ (im : List ℕ) (acc : IsAccepted im) where
   pub user-kept : (u : ℕ) → u < users im → UserKept (countsOf im) (userRecord im u)
   user-kept u h = subst (UserKept (countsOf im)) (record-of im User u h) (user-among u h .kept)
 
-  pub user-below : (u : ℕ) → u < users im → BelowKept im (userRecord im u)
-  user-below u h = below-means im u (keeps im acc .below u h)
+  pub user-sets : (u : ℕ) → u < users im → SetsKept (profileOf im) im (userRecord im u)
+  user-sets u h = sets-means im u (keeps im acc .below u h)
 
   -- tags, user names, and numeric forms inside a class rise strictly; class and name tell components apart
   listed : (kind : Kind) (i : ℕ) → i < countOf im kind → i < length (recordsOf im kind)

@@ -16,7 +16,7 @@ use Rattle.header.specs.Layout.{editionOf, groups, users, blocksNeeded, capacit
 use Rattle.header.specs.declared.layout.Shape.{Shape}
 use Rattle.header.proofs.Inside.{shape-roomy}
 use Rattle.header.specs.Header.{headerRule, fitRule}
-use Rattle.hierarchy.specs.Below.{endsRule, belowRule, firstRing, firstBadBelow}
+use Rattle.hierarchy.specs.Below.{endsRule, groupSetsRule, firstRing, firstBadBelow}
 use Rattle.image.specs.declared.faults.Fault.{Fault}
 use Rattle.image.specs.declared.faults.Fault.the-variants.{Sound, Length, Block, Layout, Ring}
 use Rattle.image.specs.Faults.{keyOf, keyBefore, lowest, faultUnless, faultsAt, contentFaults, belowFault, faultsOf}
@@ -59,7 +59,7 @@ module _ (im : List ℕ) where
   rings = faultsAt (endsRule im) Ring (groups im) 0
 
   abbrev belows : List Fault
-  belows = faultsAt (belowRule im) (belowFault im) (users im) 0
+  belows = faultsAt (groupSetsRule im) (belowFault im) (users im) 0
 
   checks-lowest : lowest checks ≡ cond (ltb (firstBadBlock im) (blockCount im)) (Block (firstBadBlock im)) Sound
   unfolding firstBadBlock nameBefore
@@ -81,12 +81,12 @@ module _ (im : List ℕ) where
 
   belows-lowest : lowest belows ≡ cond (ltb (firstBadBelow im) (users im)) (belowFault im (firstBadBelow im)) Sound
   unfolding firstBadBelow nameBefore
-  belows-lowest = lowest-at (belowRule im) (belowFault im) (below-rise im) (λ i. refl) (users im) 0 ∙ rw zero-add
+  belows-lowest = lowest-at (groupSetsRule im) (belowFault im) (below-rise im) (λ i. refl) (users im) 0 ∙ rw zero-add
 
   -- what comes after each run has later keys
   from-belows : All (From (5 ∷ [])) (flatten (belows ∷ []))
   unfolding flatten nameBefore
-  from-belows = all-append (all-at (belowRule im) (belowFault im) (users im) 0 (λ u h. refl)) none
+  from-belows = all-append (all-at (groupSetsRule im) (belowFault im) (users im) 0 (λ u h. refl)) none
 
   from-rings : All (From (4 ∷ [])) (flatten (rings ∷ belows ∷ []))
   unfolding flatten nameBefore
@@ -123,7 +123,7 @@ module _ (im : List ℕ) where
       (lowest-unless (headerRule im && fitRule im) (Layout 0) refl)
       (lowest-then (4 ∷ []) refl (blocks-upto im (blocksNeeded im - 1) 1) from-rings contents-lowest
       (lowest-then (5 ∷ []) refl (all-at (endsRule im) Ring (groups im) 0 (λ g h. refl)) from-belows rings-lowest
-      (lowest-then (6 ∷ []) refl (all-at (belowRule im) (belowFault im) (users im) 0 (λ u h. refl)) none belows-lowest refl)))))
+      (lowest-then (6 ∷ []) refl (all-at (groupSetsRule im) (belowFault im) (users im) 0 (λ u h. refl)) none belows-lowest refl)))))
 
   -- which is what the code finds
   pub found-lowest : lowest (faultsOf im) ≡ foundFault im

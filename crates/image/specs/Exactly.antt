@@ -11,7 +11,7 @@ use Rattle.header.specs.Header.{headerRule, fitRule}
 use Rattle.header.specs.declared.layout.Kind.{Kind}
 use Rattle.header.specs.declared.layout.Kind.the-variants.{Component, Label, User}
 use Rattle.records.specs.Rules.{layoutRule, recordRule, contentRule}
-use Rattle.hierarchy.specs.Below.{endsRule, belowRule}
+use Rattle.hierarchy.specs.Below.{endsRule, groupSetsRule}
 use Rattle.refusals.specs.declared.Refusal.{Refusal}
 use Rattle.refusals.specs.declared.Refusal.the-variants.{ComponentRecord, LabelRecord, UserRecord}
 
@@ -59,8 +59,8 @@ pub record BelowAtFault (im : List ℕ) (u : ℕ) : Type 0 where
   pub blocks : SoundBefore im (blocksNeeded im)
   pub rings : (g : ℕ) → g < groups im → endsRule im g ≡ true
   pub among : u < users im
-  pub earlier : (v : ℕ) → v < u → belowRule im v ≡ true
-  pub fault : belowRule im u ≡ false
+  pub earlier : (v : ℕ) → v < u → groupSetsRule im v ≡ true
+  pub fault : groupSetsRule im u ≡ false
 
 -- the record of that user is the r-th of block b
 pub record UserAt (im : List ℕ) (u b r : ℕ) : Type 0 where

@@ -11,7 +11,7 @@ use Rattle.header.specs.Header.{headerRule, fitRule}
 use Rattle.header.specs.declared.layout.Kind.{Kind}
 use Rattle.header.specs.declared.layout.Kind.the-variants as kind
 use Rattle.records.specs.Rules.{layoutRule, recordRule}
-use Rattle.hierarchy.specs.Below.{endsRule, belowRule}
+use Rattle.hierarchy.specs.Below.{endsRule, groupSetsRule}
 use Rattle.refusals.specs.declared.Refusal.the-variants.{ImageLength, BlockCheck, ImageLayout, ComponentRecord, LabelRecord, UserRecord, ParentRing}
 use Rattle.refusals.specs.declared.answers.Checked.{Checked}
 use Rattle.refusals.specs.declared.answers.Checked.the-variants.{Accepted, Refused}
@@ -102,5 +102,5 @@ faultsOf im =
     ∷ faultUnless (headerRule im && fitRule im) (Layout 0)
     ∷ flatten (listFrom (contentFaults im) (blocksNeeded im - 1) 1)
     ∷ faultsAt (endsRule im) Ring (groups im) 0
-    ∷ faultsAt (belowRule im) (belowFault im) (users im) 0
+    ∷ faultsAt (groupSetsRule im) (belowFault im) (users im) 0
     ∷ [])

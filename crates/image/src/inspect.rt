@@ -15,6 +15,7 @@ use header::layout;
 use header::layout::Kind;
 use header::rules::fit_ok;
 use header::rules::header_ok;
+use hierarchy::group_rules;
 use hierarchy::table;
 use records::blocks::content_ok;
 use records::blocks::first_bad_record;
@@ -79,7 +80,7 @@ fn counted_fault(image: &[u8]) -> Fault
     if g < layout::groups(image) {
         return Fault::Ring(g);
     }
-    let u = table::first_bad_below(image, &parents);
+    let u = group_rules::first_bad_below(image, &parents);
     if u < layout::users(image) {
         return below_fault(image, u);
     }

@@ -2,11 +2,15 @@
 ghost use mathlib.Core.Path.{_≡_};
 ghost use Rattle.sets.specs.Groups.{placesOf};
 ghost use Rattle.labels.specs.GroupTest.{groupTest};
+use header::profile::Profile;
 use sets::groups::Groups;
 
-// Are there no groups, or is one of them among those that are reached?
-pub fn passes(reached: Groups, groups: Groups) -> bool
-    ensures { λ r. ⌜ r ≡ groupTest (placesOf reached) (placesOf groups) ⌝ }
+// Are there no groups, or is one of them among those that are reached? In the release profile: are all that are reached among them?
+pub fn passes(profile: Profile, reached: Groups, groups: Groups) -> bool
+    ensures { λ r. ⌜ r ≡ groupTest profile (placesOf reached) (placesOf groups) ⌝ }
 {
-    groups.is_empty() | groups.meets(reached)
+    match profile {
+        Profile::Tree => groups.is_empty() | groups.meets(reached),
+        Profile::Release => reached.within(groups),
+    }
 }

@@ -13,16 +13,15 @@ use lib.ListN.{length, List·getD-eq-default}
 use lib.Seq.{ext-getD}
 use Rattle.fields.specs.Bytes.{byteAt}
 use Rattle.fields.proofs.PlacesWhere.{none-where}
-use Rattle.sets.specs.Sets.{has, one, difference}
-use Rattle.sets.proofs.Has.{has-ext, one-has, difference-has}
 use Rattle.header.specs.declared.edition.Edition.{Edition}
 use Rattle.header.specs.declared.edition.Edition.the-variants.{One, Two}
 use Rattle.header.specs.declared.layout.Kind.{Kind}
 use Rattle.header.specs.declared.layout.Kind.the-variants.{Component, Label, User}
 use Rattle.header.specs.declared.layout.Shape.{Shape}
-use Rattle.header.specs.Layout.{editionOf, levels, compartments, groups, users, labels, countsOf, recordSize, capacityOf, countOf, blocksNeeded, shapeOf, recordBlock, recordOffset, recordAt, userRecord, kindAt, contentsOf}
+use Rattle.header.specs.declared.profile.Profile.{Profile}
+use Rattle.header.specs.Layout.{editionOf, profileOf, levels, compartments, groups, users, labels, countsOf, recordSize, capacityOf, countOf, blocksNeeded, shapeOf, recordBlock, recordOffset, recordAt, userRecord, kindAt, contentsOf}
 use Rattle.header.proofs.Inside.{shape-roomy, slot-inside, blocks-after, held-is}
-use Rattle.records.specs.Fields.{privileges, placeOfCompaccess, hasCompaccess}
+use Rattle.records.specs.Fields.{privileges}
 use Rattle.image.specs.Check.{IsAccepted}
 use Rattle.image.proofs.EveryRule.{EveryRule, accepted-keeps}
 use Rattle.image.proofs.Accepted.{accepted-counted}
@@ -33,28 +32,11 @@ use Rattle.moves.specs.declared.target.Move.the-variants.{Clear}
 use Rattle.moves.specs.Moved.{withoutCompaccess, clearUser, newRecords, newCounts, newImage}
 use Rattle.moves.specs.Holders.{isHolder, holders}
 use Rattle.moves.proofs.ClearedAlike.{cleared-byte, cleared-held}
+use Rattle.moves.proofs.CompaccessBits.{none-gone}
 use Rattle.moves.proofs.NewImage.{new-count, new-fits, old-length, moved-counts, moved-count, moved-record}
 use Rattle.moves.proofs.MovedAccepted.{moved-accepted}
-use Rattle.moves.proofs.SameBytes.{record-byte, needed-same, shape-same, body-same, block-same, header-same}
-
--- ---- privileges without COMPACCESS: that place is gone, and every other one stays
-pub bit-gone : (held : ℕ) → hasCompaccess (withoutCompaccess held) ≡ false
-unfolding withoutCompaccess
-bit-gone held = difference-has held (one placeOfCompaccess) 2 ∙ rw (one-has 2 2) (and-false (has held 2))
-
-pub bit-stays : (held p : ℕ) → (p ≡ placeOfCompaccess → ⊥) → has (withoutCompaccess held) p ≡ has held p
-unfolding withoutCompaccess
-bit-stays held p other =
-    difference-has held (one placeOfCompaccess) p
-    ∙ rw (one-has 2 p, ne-eqb 2 p (λ e. other (sym e))) (and-true (has held p))
-
--- who does not hold it keeps all
-pub none-gone : (held : ℕ) → hasCompaccess held ≡ false → withoutCompaccess held ≡ held
-none-gone held e = has-ext (withoutCompaccess held) held (λ p. at p (eqb p 2) refl)
-  where
-    at : (p : ℕ) (t : Bool) → eqb p 2 ≡ t → has (withoutCompaccess held) p ≡ has held p
-    at p true q = rw (eqb-true p 2 q) (bit-gone held ∙ sym e)
-    at p false q = bit-stays held p (eqb-false p 2 q)
+use Rattle.moves.proofs.SameBytes.{record-byte, needed-same, shape-same, body-same, block-same}
+use Rattle.moves.proofs.SameHeader.{header-same}
 
 -- ---- the bytes that change
 -- where the privileges of the user at place u stand
@@ -77,13 +59,13 @@ pub record ClearedOnly (im new : List ℕ) : Type 0 where
   pub held : (u : ℕ) → u < users im → byteAt new (privilegeByte im u) ≡ withoutCompaccess (byteAt im (privilegeByte im u))
 
 -- the numbers of users and labels stand in four bytes of the header
-number-bytes : (l c g users labels : ℕ) → users < 65536 → labels < 65536 → (j : ℕ) → j < 4
-    → byteAt (headerUsed (countsFrom One l c g) users labels) (8 + j) < 256
-number-bytes l c g users labels u b zero h = omega arith
-number-bytes l c g users labels u b (suc zero) h = omega arith
-number-bytes l c g users labels u b (suc (suc zero)) h = omega arith
-number-bytes l c g users labels u b (suc (suc (suc zero))) h = omega arith
-number-bytes l c g users labels u b (suc (suc (suc (suc j)))) h = absurd (omega arith)
+number-bytes : (p : Profile) (l c g users labels : ℕ) → users < 65536 → labels < 65536 → (j : ℕ) → j < 4
+    → byteAt (headerUsed (countsFrom One p l c g) users labels) (8 + j) < 256
+number-bytes p l c g users labels u b zero h = omega arith
+number-bytes p l c g users labels u b (suc zero) h = omega arith
+number-bytes p l c g users labels u b (suc (suc zero)) h = omega arith
+number-bytes p l c g users labels u b (suc (suc (suc zero))) h = omega arith
+number-bytes p l c g users labels u b (suc (suc (suc (suc j)))) h = absurd (omega arith)
 
 -- privileges stand inside their record, which stands inside its block
 user-size : (edition : Edition) → 32 ≤ recordSize edition User
@@ -110,7 +92,7 @@ module _ (im : List ℕ) (acc : IsAccepted im) (old-edition : editionOf im ≡ O
   counts : countsOf new ≡ countsOf im
   counts =
       moved-counts Clear im (old .fitted) old-edition
-      ∙ sym (ap (λ (e : Edition). countsFrom e (levels im) (compartments im) (groups im)) old-edition)
+      ∙ sym (ap (λ (e : Edition). countsFrom e (profileOf im) (levels im) (compartments im) (groups im)) old-edition)
 
   users-same : users new ≡ users im
   users-same = moved-count Clear im (old .fitted) old-edition User
@@ -130,7 +112,7 @@ module _ (im : List ℕ) (acc : IsAccepted im) (old-edition : editionOf im ≡ O
       let few-labels : length (newRecords Clear im Label) < 65536 = omega (arith, counted-labels im (accepted-counted im acc)) in
       subst (λ (k : ℕ). byteAt (newImage Clear im) k < 256) there
       (rw (header-byte (newCounts Clear im) (newRecords Clear im) fits (8 + (i - 8)) (omega arith))
-      (number-bytes (levels im) (compartments im) (groups im) (length (newRecords Clear im User)) (length (newRecords Clear im Label))
+      (number-bytes (profileOf im) (levels im) (compartments im) (groups im) (length (newRecords Clear im User)) (length (newRecords Clear im Label))
       few-users few-labels (i - 8) (omega arith)))
 
   -- ---- records

@@ -9,7 +9,7 @@ use lib.Dec.{eqb, ltb}
 use Rattle.header.specs.declared.edition.Edition.{Edition}
 use Rattle.header.specs.declared.edition.Edition.the-variants.{One}
 use Rattle.header.specs.declared.layout.Kind.the-variants.{Component, Label, User}
-use Rattle.header.specs.Layout.{editionOf, levels, compartments, groups, users, labels, components, Counts, classFirst}
+use Rattle.header.specs.Layout.{editionOf, profileOf, levels, compartments, groups, users, labels, components, Counts, classFirst}
 use Rattle.header.specs.Layout.{componentRecord, labelRecord, userRecord}
 use Rattle.header.specs.Limits.{Counted}
 use Rattle.records.specs.Fields.{parentOf, noParent}
@@ -23,7 +23,8 @@ use Rattle.moves.proofs.NewImage.{old-groups, old-length, moved-edition
 
 -- two images, each of its own edition, have the same components, labels and users at the same places; `change` says what became of privileges
 pub record HoldsTheSame (change : ℕ → ℕ) (im new : List ℕ) : Type 0 where
-  -- as many of each
+  -- the profile, and as many of each
+  pub sameProfile : profileOf new ≡ profileOf im
   pub sameLevels : levels new ≡ levels im
   pub sameCompartments : compartments new ≡ compartments im
   pub sameGroups : groups new ≡ groups im
@@ -102,6 +103,7 @@ module _ (which : Move) (im : List ℕ) (k : Counted im) (old : editionOf im ≡
   pub moved-holds : HoldsTheSame (heldAfter which) im new
   moved-holds =
       record {
+        sameProfile = ap (λ (n : Counts). n .profile) (moved-counts which im (k .fitted) old);
         sameLevels = ap (λ (n : Counts). n .levels) (moved-counts which im (k .fitted) old);
         sameCompartments = ap (λ (n : Counts). n .compartments) (moved-counts which im (k .fitted) old);
         sameGroups = groups-same;

@@ -42,7 +42,8 @@ use Rattle.moves.proofs.MovedAccepted.{accepted-holds, moved-accepted}
 use Rattle.moves.proofs.SameVerdicts.{rights-after, known-alike, reads-same, writes-same, lent-alike, ask-alike}
 use Rattle.moves.proofs.SameOpening.{open-alike}
 use Rattle.moves.proofs.OldAccepted.{old-accepted, accepted-old}
-use Rattle.moves.proofs.ClearedBytes.{ClearedOnly, cleared-only, bit-gone, none-gone}
+use Rattle.moves.proofs.CompaccessBits.{bit-gone, none-gone}
+use Rattle.moves.proofs.ClearedBytes.{ClearedOnly, cleared-only}
 use Rattle.moves.proofs.LessPrivileges.{cleared, addsReading, addsWriting, less-reads, less-writes}
 use Rattle.moves.proofs.FrontWritten.{FrontDone, checked-done}
 

@@ -11,10 +11,10 @@ use Rattle.image.specs.Lookup.{labelOfTag}
 use Rattle.labels.specs.Label.{Marks, labelAt}
 use Rattle.access.specs.Rights.{Rights, withPrivileges}
 use Rattle.access.specs.Verdicts.{readsAll, writesAll, holdsCompaccess, readLevelRule, readGroupsRule, readCompartmentsRule, compaccessReads, readTests, readsLabel}
-use Rattle.access.specs.Verdicts.{writeLevelRule, writeGroupsRule, writeCompartmentsRule, writeSetsRule, compaccessWrites, writeTests, writesLabel}
+use Rattle.access.specs.Verdicts.{writeLevelRule, writeGroupsRule, writeCompartmentsRule, writeSetsRule, compaccessWrites, writeTests, writesLabel, treeSetsRule, releaseSetsRule}
 use Rattle.access.specs.Verdicts.{knownTag, unknownRule, mayRead, mayWrite}
 use Rattle.moves.specs.Moved.{withoutCompaccess}
-use Rattle.moves.proofs.ClearedBytes.{bit-gone, bit-stays}
+use Rattle.moves.proofs.CompaccessBits.{bit-gone, bit-stays}
 
 -- the same rights without COMPACCESS
 abbrev pub cleared : Rights → Rights
@@ -52,7 +52,7 @@ module _ (rights : Rights) where
       (apart (readsAll rights) (readLevelRule rights row && readGroupsRule rights row && readCompartmentsRule rights row) (compaccessReads rights row))
 
   pub less-written : (row : Marks) → writesLabel rights row ≡ (writesLabel (cleared rights) row || compaccessWrites rights row)
-  unfolding writesLabel writeTests compaccessWrites writeLevelRule writeSetsRule writeGroupsRule writeCompartmentsRule readCompartmentsRule
+  unfolding writesLabel writeTests compaccessWrites writeLevelRule writeSetsRule treeSetsRule releaseSetsRule writeGroupsRule writeCompartmentsRule readCompartmentsRule readGroupsRule
   less-written row =
       rw (all-written, none-held)
       (apart (writesAll rights) (writeLevelRule rights row && writeSetsRule rights row) (compaccessWrites rights row))

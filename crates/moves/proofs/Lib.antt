@@ -3,6 +3,7 @@ pub mod Fronts
 pub mod RecordsAlike
 pub mod ClearedAlike
 pub mod Alike
+pub mod CompaccessBits
 pub mod NewImage
 pub mod HoldsSame
 pub mod SameGroups
@@ -15,6 +16,7 @@ pub mod KeptByMove
 pub mod Steps
 pub mod FrontWritten
 pub mod SameBytes
+pub mod SameHeader
 pub mod ClearedBytes
 pub mod LessPrivileges
 pub mod KeptByClearing

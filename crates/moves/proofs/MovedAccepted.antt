@@ -1,7 +1,7 @@
 -- What a move writes of an accepted image of edition 1 is accepted. Assumes nothing.
 use Prim.Native.Nat.{ℕ, _≤_, _<_, zero-le}
 use mathlib.Core.Path.{_≡_, sym, ap, _∙_, subst}
-use mathlib.Core.Bool.{true, false}
+use mathlib.Core.Bool.{true}
 use mathlib.Core.List.{List}
 use native.Mathlib.Omega.{arith}
 use borrow.Author.Tests.{eqb-true}
@@ -11,13 +11,13 @@ use Rattle.header.specs.declared.edition.Edition.{Edition}
 use Rattle.fields.proofs.Both.{parts}
 use Rattle.fields.proofs.PlacesWhere.{none-where}
 use Rattle.sets.specs.Sets.{difference}
-use Rattle.header.specs.declared.edition.Edition.the-variants.{One, Two}
+use Rattle.header.specs.declared.edition.Edition.the-variants.{One}
 use Rattle.header.specs.declared.layout.Kind.{Kind}
 use Rattle.header.specs.declared.layout.Kind.the-variants.{Component, Label, User}
-use Rattle.header.specs.Layout.{editionOf, levels, compartments, groups, users, Counts, countsOf, recordSize, countOf, recordsOf, userRecord}
+use Rattle.header.specs.Layout.{editionOf, profileOf, levels, compartments, groups, users, Counts, countsOf, recordSize, countOf, recordsOf, userRecord}
 use Rattle.header.specs.Limits.{Counted}
 use Rattle.header.proofs.Inside.{records-count, record-of}
-use Rattle.records.specs.Fields.{privileges, hasCompaccess}
+use Rattle.records.specs.Fields.{privileges}
 use Rattle.records.specs.Rules.{ruleOf, recordRule}
 use Rattle.records.proofs.MeaningHeader.{header-means}
 use Rattle.records.proofs.MeaningBlocks.{layout-means, contents-kept}
@@ -36,23 +36,21 @@ use Rattle.moves.specs.Moved.{editionAfter, newRecords, newCounts, newIm
 use Rattle.moves.specs.Holders.{isHolder, holders}
 use Rattle.moves.specs.Moving.{moveLimitsRule}
 use Rattle.moves.proofs.RecordsAlike.{heldAfter}
+use Rattle.moves.proofs.CompaccessBits.{bit-gone}
 use Rattle.moves.proofs.NewImage.{takenRule, new-fits, new-limited, old-groups, old-length, moved-counts, moved-count, moved-records}
 use Rattle.moves.proofs.RecordsKept.{component-among-up, label-among-up, user-among-up}
 use Rattle.moves.proofs.HoldsSame.{HoldsTheSame, moved-holds}
-use Rattle.moves.proofs.SameGroups.{ends-alike, below-rule-alike}
+use Rattle.moves.proofs.SameGroups.{ends-alike, sets-rule-alike}
 
 -- COMPACCESS is gone where the new edition does not have it
 module _ (im : List ℕ) where
-  held-kept : (which : Move) → takenRule which im ≡ true → (u : ℕ) → u < users im → PrivilegesKept One (privileges (userRecord im u))
-      → PrivilegesKept (editionAfter which) (heldAfter which (privileges (userRecord im u)))
+  held-kept : (which : Move) → takenRule which im ≡ true → (u : ℕ) → u < users im → PrivilegesKept One (profileOf im) (privileges (userRecord im u))
+      → PrivilegesKept (editionAfter which) (profileOf im) (heldAfter which (privileges (userRecord im u)))
   unfolding holders withoutCompaccess difference
   held-kept Up taken u h k =
       let none = eqb-true _ _ (parts (moveLimitsRule im) (eqb (length (holders im)) 0) taken .1) in
       record { limit = k .limit; compaccessGone = λ two. none-where (isHolder im) (users im) 0 none u zero-le (omega arith) }
-  held-kept Clear taken u h k = record { limit = omega (arith, k .limit); compaccessGone = one-gone }
-    where
-      one-gone : One ≡ Two → hasCompaccess (withoutCompaccess (privileges (userRecord im u))) ≡ false
-      one-gone e = let z : _≡_ {A = ℕ} 0 1 = cc in absurd (omega arith)
+  held-kept Clear taken u h k = record { limit = omega (arith, k .limit); compaccessGone = λ banned. bit-gone (privileges (userRecord im u)) }
 
 module _ (which : Move) (im : List ℕ) (acc : IsAccepted im) (old : editionOf im ≡ One) where
   abbrev new : List ℕ
@@ -66,8 +64,8 @@ module _ (which : Move) (im : List ℕ) (acc : IsAccepted im) (old : editionOf i
   accepted-holds = moved-holds which im known old
 
   -- ---- its records keep their rules
-  old-counts : countsOf im ≡ countsFrom One (levels im) (compartments im) (groups im)
-  old-counts = ap (λ (e : Edition). countsFrom e (levels im) (compartments im) (groups im)) old
+  old-counts : countsOf im ≡ countsFrom One (profileOf im) (levels im) (compartments im) (groups im)
+  old-counts = ap (λ (e : Edition). countsFrom e (profileOf im) (levels im) (compartments im) (groups im)) old
 
   sized : (kind : Kind) → Sized (recordSize One kind) (recordsOf im kind)
   sized kind i h =
@@ -83,20 +81,20 @@ module _ (which : Move) (im : List ℕ) (acc : IsAccepted im) (old : editionOf i
     record-up Component i h =
         let few : groups im ≤ 255 = omega (arith, old-groups im old (known .groupsLimit)) in
         component-holds (newCounts which im) (newRecords which im Component) i
-        (component-among-up which (levels im) (compartments im) (groups im) (recordsOf im Component) i (listed Component i h) few
+        (component-among-up which (profileOf im) (levels im) (compartments im) (groups im) (recordsOf im Component) i (listed Component i h) few
         (sized Component) (subst (λ (n : Counts). ComponentAmong n (recordsOf im Component) i) old-counts (component-among im acc i h)))
     record-up Label i h =
         label-holds (newCounts which im) (newRecords which im Label) i
-        (label-among-up which (levels im) (compartments im) (groups im) (recordsOf im Label) i (listed Label i h)
+        (label-among-up which (profileOf im) (levels im) (compartments im) (groups im) (recordsOf im Label) i (listed Label i h)
         (sized Label) (subst (λ (n : Counts). LabelAmong n (recordsOf im Label) i) old-counts (label-among im acc i h)))
     record-up User i h =
         let among = subst (λ (n : Counts). UserAmong n (recordsOf im User) i) old-counts (user-among im acc i h) in
         let here = record-of im User i h in
-        let before = subst (λ (rec : List ℕ). PrivilegesKept One (privileges rec)) here (among .kept .privilegesKept) in
+        let before = subst (λ (rec : List ℕ). PrivilegesKept One (profileOf im) (privileges rec)) here (among .kept .privilegesKept) in
         let after =
-        subst (λ (rec : List ℕ). PrivilegesKept (editionAfter which) (heldAfter which (privileges rec))) (sym here) (held-kept im which taken i h before) in
+        subst (λ (rec : List ℕ). PrivilegesKept (editionAfter which) (profileOf im) (heldAfter which (privileges rec))) (sym here) (held-kept im which taken i h before) in
         user-holds (newCounts which im) (newRecords which im User) i
-        (user-among-up which (levels im) (compartments im) (groups im) (recordsOf im User) i (listed User i h) (sized User) after among)
+        (user-among-up which (profileOf im) (levels im) (compartments im) (groups im) (recordsOf im User) i (listed User i h) (sized User) after among)
 
     record-kept : (kind : Kind) (i : ℕ) → i < countOf new kind → recordRule new kind i ≡ true
     record-kept kind i h =
@@ -125,5 +123,5 @@ module _ (which : Move) (im : List ℕ) (acc : IsAccepted im) (old : editionOf i
             ends-alike im new same g here ∙ keeps im acc .ends g here;
         below = λ u h.
             let here : u < users im = omega (arith, same .sameUsers) in
-            below-rule-alike im new same u here ∙ keeps im acc .below u here;
+            sets-rule-alike im new same u here ∙ keeps im acc .below u here;
       })

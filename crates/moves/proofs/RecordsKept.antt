@@ -14,9 +14,11 @@ use Rattle.fields.proofs.Meaning.{NameKept}
 use Rattle.header.specs.declared.edition.Edition.the-variants.{One}
 use Rattle.header.specs.declared.layout.Kind.{Kind}
 use Rattle.header.specs.declared.layout.Kind.the-variants.{Component, Label, User}
-use Rattle.header.specs.Layout.{Counts, recordSize, classFirst, classAt}
+use Rattle.header.specs.declared.profile.Profile.{Profile}
+use Rattle.header.specs.declared.profile.Profile.the-variants.{Tree, Release}
+use Rattle.header.specs.Layout.{byProfile, Counts, recordSize, classFirst, classAt}
 use Rattle.records.specs.Fields.{parentOf, noParent, numericForm, componentName, tagOf, userName, privileges}
-use Rattle.records.specs.Rules.{recordIn}
+use Rattle.records.specs.Rules.{recordIn, parentCount}
 use Rattle.records.proofs.MeaningComponents.{ParentKept, ComponentKept, ComponentAmong}
 use Rattle.records.proofs.MeaningLabels.{LabelKept, LabelAmong}
 use Rattle.records.proofs.MeaningUsers.{PrivilegesKept, UserKept, UserAmong}
@@ -47,9 +49,9 @@ component-up which class count few rec long k =
       unused = component-unused which rec long (k .unused);
     }
 
-module _ (which : Move) (levels compartments groups : ℕ) where
+module _ (which : Move) (profile : Profile) (levels compartments groups : ℕ) where
   label-up : (rec : List ℕ) → length rec ≡ recordSize One Label
-      → LabelKept (countsFrom One levels compartments groups) rec → LabelKept (countsFrom (editionAfter which) levels compartments groups) (newRecord which Label rec)
+      → LabelKept (countsFrom One profile levels compartments groups) rec → LabelKept (countsFrom (editionAfter which) profile levels compartments groups) (newRecord which Label rec)
   label-up rec long k =
       let a = label-alike which rec long in
       record {
@@ -62,8 +64,8 @@ module _ (which : Move) (levels compartments groups : ℕ) where
       }
 
   user-up : (rec : List ℕ) → length rec ≡ recordSize One User
-      → PrivilegesKept (editionAfter which) (heldAfter which (privileges rec)) → UserKept (countsFrom One levels compartments groups) rec
-      → UserKept (countsFrom (editionAfter which) levels compartments groups) (newRecord which User rec)
+      → PrivilegesKept (editionAfter which) profile (heldAfter which (privileges rec)) → UserKept (countsFrom One profile levels compartments groups) rec
+      → UserKept (countsFrom (editionAfter which) profile levels compartments groups) (newRecord which User rec)
   user-up rec long held k =
       let a = user-alike which rec long in
       let l = k .levelsKept in
@@ -71,7 +73,7 @@ module _ (which : Move) (levels compartments groups : ℕ) where
       let g = k .groupsKept in
       record {
         named = subst NameKept (sym (a .name)) (k .named);
-        privilegesKept = subst (PrivilegesKept (editionAfter which)) (sym (a .held)) held;
+        privilegesKept = subst (PrivilegesKept (editionAfter which) profile) (sym (a .held)) held;
         unusedLevels = λ i low high. user-byte which rec long i (omega arith) (omega arith) ∙ k .unusedLevels i low high;
         unusedEnd = user-unused which rec long (k .unusedEnd);
         levelsKept =
@@ -105,12 +107,16 @@ read-up : {A : Type 0} (f : List ℕ → A) (which : Move) (kind : Kind) (record
     → (i : ℕ) → i < length records → f (recordIn (map (newRecord which kind) records) i) ≡ f (recordIn records i)
 read-up f which kind records sized same i h = ap f (map-at (newRecord which kind) records i h) ∙ same (recordIn records i) (sized i h)
 
-module _ (which : Move) (levels compartments groups : ℕ) (records : List (List ℕ)) (i : ℕ) (here : i < length records) where
+module _ (which : Move) (profile : Profile) (levels compartments groups : ℕ) (records : List (List ℕ)) (i : ℕ) (here : i < length records) where
   abbrev one : Counts
-  one = countsFrom One levels compartments groups
+  one = countsFrom One profile levels compartments groups
 
   abbrev after : Counts
-  after = countsFrom (editionAfter which) levels compartments groups
+  after = countsFrom (editionAfter which) profile levels compartments groups
+
+  parents-few : (p : Profile) → groups ≤ 255 → byProfile p groups 0 ≤ 255
+  parents-few Tree h = h
+  parents-few Release h = omega arith
 
   pub component-among-up : groups ≤ 255 → Sized (recordSize One Component) records → ComponentAmong one records i
       → ComponentAmong after (map (newRecord which Component) records) i
@@ -120,8 +126,8 @@ module _ (which : Move) (levels compartments groups : ℕ) (records : List (List
       let name = read-up componentName which Component records sized (λ rec long. ap nameIn (component-alike which rec long .name)) in
       record {
         kept =
-            subst (ComponentKept (editionAfter which) (classAt after i) groups) (sym (map-at (newRecord which Component) records i here))
-            (component-up which (classAt after i) groups few (recordIn records i) (sized i here) (a .kept));
+            subst (ComponentKept (editionAfter which) (classAt after i) (parentCount after)) (sym (map-at (newRecord which Component) records i here))
+            (component-up which (classAt after i) (parentCount after) (parents-few profile few) (recordIn records i) (sized i here) (a .kept));
         rises = ⊎-elim (λ e. inl e) (λ l. inr (rw (numeric (i - 1) (omega arith), numeric i here) l)) (a .rises);
         nameNew = λ j low high e. a .nameNew j low high (sym (name j (omega arith)) ∙ e ∙ name i here);
       }
@@ -132,17 +138,17 @@ module _ (which : Move) (levels compartments groups : ℕ) (records : List (List
       record {
         kept =
             subst (LabelKept after) (sym (map-at (newRecord which Label) records i here))
-            (label-up which levels compartments groups (recordIn records i) (sized i here) (a .kept));
+            (label-up which profile levels compartments groups (recordIn records i) (sized i here) (a .kept));
         rises = ⊎-elim (λ e. inl e) (λ l. inr (rw (tag (i - 1) (omega arith), tag i here) l)) (a .rises);
       }
 
-  pub user-among-up : Sized (recordSize One User) records → PrivilegesKept (editionAfter which) (heldAfter which (privileges (recordIn records i)))
+  pub user-among-up : Sized (recordSize One User) records → PrivilegesKept (editionAfter which) profile (heldAfter which (privileges (recordIn records i)))
       → UserAmong one records i → UserAmong after (map (newRecord which User) records) i
   user-among-up sized held a =
       let name = read-up userName which User records sized (λ rec long. ap nameIn (user-alike which rec long .name)) in
       record {
         kept =
             subst (UserKept after) (sym (map-at (newRecord which User) records i here))
-            (user-up which levels compartments groups (recordIn records i) (sized i here) held (a .kept));
+            (user-up which profile levels compartments groups (recordIn records i) (sized i here) held (a .kept));
         rises = ⊎-elim (λ e. inl e) (λ l. inr (ap₂ nameBefore (name (i - 1) (omega arith)) (name i here) ∙ l)) (a .rises);
       }

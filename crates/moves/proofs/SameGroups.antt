@@ -1,13 +1,14 @@
 -- Two images that hold the same have the same ancestors of each group, and the same groups below a set. Assumes nothing.
 use Prim.Native.Nat.{ℕ, zero, suc, _<_}
-use mathlib.Core.Path.{_≡_, refl, ap, _∙_}
+use mathlib.Core.Path.{_≡_, refl, ap, ap₂, _∙_}
 use mathlib.Core.Bool.{Bool, true, false, cond, not, _||_}
 use mathlib.Core.List.{List}
 use native.Mathlib.Omega.{arith}
 use Rattle.sets.specs.Sets.{none, one, union, meets, collect}
-use Rattle.header.specs.Layout.{editionOf, groups, users, userRecord}
+use Rattle.header.specs.declared.profile.Profile.{Profile}
+use Rattle.header.specs.Layout.{editionOf, byProfile, groups, users, userRecord}
 use Rattle.records.specs.Fields.{readGroups, writeGroups, defaultGroups}
-use Rattle.hierarchy.specs.Below.{parent, hasParent, endsWithin, endsRule, lineageWithin, lineage, below, belowRule}
+use Rattle.hierarchy.specs.Below.{parent, hasParent, endsWithin, endsRule, lineageWithin, lineage, below, reach, belowRule, releaseRule, groupSetsRule}
 use Rattle.hierarchy.proofs.Lineage.{parent-below}
 use Rattle.moves.proofs.HoldsSame.{HoldsTheSame}
 
@@ -55,8 +56,17 @@ module _ {change : ℕ → ℕ} (im new : List ℕ) (same : HoldsTheSame change 
       ∙ collect-same (λ g. meets (lineage new g) s) (λ g. meets (lineage im g) s) (groups im)
       (λ g h. ap (λ (l : ℕ). meets l s) (lineage-alike g h))
 
-  -- so a user's groups lie below one another as they did
-  pub below-rule-alike : (u : ℕ) → u < users im → belowRule new u ≡ belowRule im u
+  -- what groups reach
+  pub reach-alike : (s : ℕ) → reach new s ≡ reach im s
+  unfolding reach
+  reach-alike s = ap₂ (λ (p : Profile) (t : ℕ). byProfile p t s) (same .sameProfile) (below-alike s)
+
+  -- so a user's groups stand among each other as they did
+  release-alike : (u : ℕ) → u < users im → releaseRule new u ≡ releaseRule im u
+  unfolding releaseRule
+  release-alike u h = let k = same .user u h in rw (k .groupsRead, k .groupsWrite, k .groupsDefault, k .groupsRow)
+
+  below-rule-alike : (u : ℕ) → u < users im → belowRule new u ≡ belowRule im u
   unfolding belowRule
   below-rule-alike u h =
       let k = same .user u h in
@@ -70,3 +80,7 @@ module _ {change : ℕ → ℕ} (im new : List ℕ) (same : HoldsTheSame change 
         below-alike (defaultGroups (editionOf im) rec),
         below-alike (writeGroups (editionOf im) rec),
       )
+
+  pub sets-rule-alike : (u : ℕ) → u < users im → groupSetsRule new u ≡ groupSetsRule im u
+  unfolding groupSetsRule
+  sets-rule-alike u h = rw (same .sameProfile, below-rule-alike u h, release-alike u h)

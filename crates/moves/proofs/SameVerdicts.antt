@@ -26,7 +26,7 @@ use Rattle.access.specs.Verdicts.{knownTag, mayRead, mayWrite}
 use Rattle.sessions.specs.Session.{SessionMarks, lentAnswer, sessionRights}
 use Rattle.sessions.specs.Asking.{mayReadOf, mayWriteOf}
 use Rattle.moves.proofs.HoldsSame.{HoldsTheSame}
-use Rattle.moves.proofs.SameGroups.{below-alike}
+use Rattle.moves.proofs.SameGroups.{below-alike, reach-alike}
 
 module _ {change : ℕ → ℕ} (im new : List ℕ) (same : HoldsTheSame change im new) where
   -- ---- what a session label gives a user
@@ -37,9 +37,11 @@ module _ {change : ℕ → ℕ} (im new : List ℕ) (same : HoldsTheSame change 
   rights-after u h label =
       let k = same .user u h in
       rw (
+        same .sameProfile,
+        same .sameGroups,
         k .groupsWrite,
-        below-alike im new same (label .groups),
-        below-alike im new same (writeGroups (editionOf im) (userRecord im u)),
+        reach-alike im new same (label .groups),
+        reach-alike im new same (writeGroups (editionOf im) (userRecord im u)),
         k .compartmentsWrite,
         k .levelMinimum,
         k .levelMaximum,
@@ -52,6 +54,8 @@ module _ {change : ℕ → ℕ} (im new : List ℕ) (same : HoldsTheSame change 
       let k = same .user u h in
       rw (
         rights-after u h label,
+        same .sameProfile,
+        same .sameGroups,
         k .groupsRead,
         below-alike im new same (readGroups (editionOf im) (userRecord im u)),
         k .compartmentsRead,

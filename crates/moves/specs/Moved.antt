@@ -1,5 +1,5 @@
--- What the two moves make of an accepted image of edition 1. The move up: the image in the layouts of edition 2; tags, names, numeric forms, places and
--- privileges stay. The clearing move: the image in edition 1, without COMPACCESS; all else stays.
+-- What the two moves make of an accepted image of edition 1. The move up: the image in the layouts of edition 2; tags, names, numeric forms, places,
+-- profile and privileges stay. The clearing move: the image in edition 1, without COMPACCESS; all else stays.
 use Prim.Native.Nat.{ℕ}
 use mathlib.Core.Bool.{cond}
 use mathlib.Core.List.{List, _∷_, _++_, map}
@@ -11,7 +11,7 @@ use Rattle.header.specs.declared.edition.Edition.{Edition}
 use Rattle.header.specs.declared.edition.Edition.the-variants.{One, Two}
 use Rattle.header.specs.declared.layout.Kind.{Kind}
 use Rattle.header.specs.declared.layout.Kind.the-variants.{Component, Label, User}
-use Rattle.header.specs.Layout.{levels, compartments, groups, Counts, recordsOf}
+use Rattle.header.specs.Layout.{profileOf, levels, compartments, groups, Counts, recordsOf}
 use Rattle.records.specs.Fields.{parentOf, noParent, privileges, placeOfCompaccess}
 use Rattle.writing.specs.Laid.{bytes2, zeros, countsFrom, imageOf}
 use Rattle.moves.specs.declared.target.Move.{Move}
@@ -70,9 +70,9 @@ newRecord Clear = clearRecord
 abbrev pub newRecords : Move → List ℕ → Kind → List (List ℕ)
 newRecords move im kind = map (newRecord move kind) (recordsOf im kind)
 
--- as many levels, compartments and groups as there were
+-- the profile, and as many levels, compartments and groups as there were
 abbrev pub newCounts : Move → List ℕ → Counts
-newCounts move im = countsFrom (editionAfter move) (levels im) (compartments im) (groups im)
+newCounts move im = countsFrom (editionAfter move) (profileOf im) (levels im) (compartments im) (groups im)
 
 unfoldable pub newImage : Move → List ℕ → List ℕ
 newImage move im = imageOf (newCounts move im) (newRecords move im)

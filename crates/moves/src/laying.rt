@@ -16,6 +16,7 @@ use crate::target::Move;
 use crate::target::edition_after;
 use header::layout;
 use header::layout::Kind;
+use header::profile::profile_of;
 use refusals::Refusal;
 use writing::block::put_header;
 
@@ -30,7 +31,7 @@ pub(crate) fn new_length(which: Move, image: &[u8]) -> usize
     512 * (1 + components + labels + users)
 }
 
-// Writes the header: the counts as they were, under the new edition.
+// Writes the header: the profile and the counts as they were, under the new edition.
 fn put_counts(which: Move, image: &[u8], buffer: &mut [u8]) -> usize
     requires { ⌜ (512 ≤ length (now image)) × ((groups (now image) ≤ 64) × (512 ≤ length (now buffer))) ⌝ }
     ensures { λ r. ⌜ Written (now (buffer .entry)) 0 (newHeader which (now (image .entry))) (now (buffer .exit)) r ⌝ }
@@ -42,6 +43,7 @@ fn put_counts(which: Move, image: &[u8], buffer: &mut [u8]) -> usize
     let labels = layout::labels(image);
     put_header(
         edition_after(which),
+        profile_of(image),
         levels,
         compartments,
         groups,

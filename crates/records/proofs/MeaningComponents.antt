@@ -17,7 +17,7 @@ use Rattle.fields.proofs.Scan.{everywhere-at, all-good}
 use Rattle.header.specs.declared.edition.Edition.{Edition}
 use Rattle.header.specs.Layout.{Counts, classFirst, classAt}
 use Rattle.records.specs.Fields.{classOf, componentNameField, componentName, numericForm, parentOf, noParent, componentEnd}
-use Rattle.records.specs.Rules.{recordIn, classStart, parentRule, componentShape, numericRule, otherName, newNameRule, componentRule}
+use Rattle.records.specs.Rules.{recordIn, classStart, parentCount, parentRule, componentShape, numericRule, otherName, newNameRule, componentRule}
 use Rattle.records.proofs.Rising.{rise, apart}
 
 -- ---- the class at a place: levels, then compartments, then groups
@@ -168,7 +168,7 @@ module _ (n : Counts) (records : List (List ℕ)) (i : ℕ) where
           at false e = refl
 
   pub record ComponentAmong : Type 0 where
-    pub kept : ComponentKept (n .edition) (classAt n i) (n .groups) (recordIn records i)
+    pub kept : ComponentKept (n .edition) (classAt n i) (parentCount n) (recordIn records i)
     pub rises : NumericRises
     pub nameNew : NameNew
 
@@ -178,7 +178,7 @@ module _ (n : Counts) (records : List (List ℕ)) (i : ℕ) where
       let q2 = parts _ _ e in
       let q1 = parts _ _ (q2 .0) in
       record {
-        kept = component-shape-means (n .edition) (classAt n i) (n .groups) (recordIn records i) (q1 .0);
+        kept = component-shape-means (n .edition) (classAt n i) (parentCount n) (recordIn records i) (q1 .0);
         rises = numeric-means (q1 .1);
         nameNew = new-name-means (q2 .1);
       }
@@ -186,7 +186,7 @@ module _ (n : Counts) (records : List (List ℕ)) (i : ℕ) where
   pub component-holds : ComponentAmong → componentRule n records i ≡ true
   unfolding componentRule
   component-holds a =
-      rw (component-shape-holds (n .edition) (classAt n i) (n .groups) (recordIn records i) (a .kept), numeric-holds (a .rises), new-name-holds (a .nameNew))
+      rw (component-shape-holds (n .edition) (classAt n i) (parentCount n) (recordIn records i) (a .kept), numeric-holds (a .rises), new-name-holds (a .nameNew))
 
 -- ---- all of them
 module _ (n : Counts) (records : List (List ℕ)) where

@@ -1,13 +1,13 @@
 -- What the rules of user records mean, but for those of below, both ways: a rule holds exactly if what it says holds. Assumes nothing.
 use Prim.Native.Nat.{ℕ, _-_, _≤_, _<_}
 use mathlib.Core.Path.{_≡_, refl, sym, ap, _∙_}
-use mathlib.Core.Bool.{true, false, not}
+use mathlib.Core.Bool.{Bool, true, false, not, _&&_, true≢false}
 use mathlib.Core.List.{List}
 use mathlib.Core.Logic.{_⊎_, inl, inr, ⊎-elim}
 use native.Mathlib.Nat.{le-refl}
 use native.Mathlib.Omega.{arith}
 use borrow.Author.Tests.{leb-true, eqb-true, ltb-true, le-leb, eq-eqb, lt-ltb, not-true}
-use lib.Dec.{eqb}
+use lib.Dec.{eqb, ltb}
 use lib.ListN.{length}
 use Rattle.fields.specs.Bytes.{byteAt}
 use Rattle.fields.specs.Names.{nameBefore}
@@ -17,10 +17,10 @@ use Rattle.sets.specs.Sets.{has}
 use Rattle.sets.proofs.Bounds.{below-lacks}
 use Rattle.sets.proofs.Within.{within-has, has-within}
 use Rattle.header.specs.declared.edition.Edition.{Edition}
-use Rattle.header.specs.declared.edition.Edition.the-variants.{One, Two}
+use Rattle.header.specs.declared.profile.Profile.{Profile}
 use Rattle.header.specs.Layout.{Counts}
 use Rattle.records.specs.Fields.{userNameField, userName, privileges, hasCompaccess, maximumLevel, minimumLevel, defaultLevel, rowLevel, readCompartments, writeCompartments, defaultCompartments, rowCompartments, readGroups, writeGroups, defaultGroups, rowGroups, userEnd}
-use Rattle.records.specs.Rules.{recordIn, userLevelsRule, userCompartmentsRule, userGroupsRule, privilegesRule, userShape, userNameRule, userRule}
+use Rattle.records.specs.Rules.{recordIn, userLevelsRule, userCompartmentsRule, userGroupsRule, bansCompaccess, privilegesRule, userShape, userNameRule, userRule}
 use Rattle.records.proofs.MeaningLabels.{exist-means, exist-holds}
 use Rattle.records.proofs.Rising.{rise, apart}
 
@@ -113,32 +113,35 @@ user-groups-holds edition count rec k =
       exist-holds (rowGroups edition rec) count (k .rowExist),
     )
 
--- ---- privileges: every one is a bit below 128, and in edition 2 none is COMPACCESS
-pub record PrivilegesKept (edition : Edition) (held : ℕ) : Type 0 where
+-- ---- privileges: every one is a bit below 128, and where COMPACCESS is banned none is that
+pub record PrivilegesKept (edition : Edition) (profile : Profile) (held : ℕ) : Type 0 where
   pub limit : held < 128
-  pub compaccessGone : edition ≡ Two → hasCompaccess held ≡ false
+  pub compaccessGone : bansCompaccess edition profile ≡ true → hasCompaccess held ≡ false
 
-pub privileges-means : (edition : Edition) (held : ℕ) → privilegesRule edition held ≡ true → PrivilegesKept edition held
-unfolding privilegesRule
-privileges-means One held e =
-    record { limit = ltb-true _ _ e; compaccessGone = λ q. let z : _≡_ {A = ℕ} 0 1 = cc in absurd (omega arith) }
-privileges-means Two held e =
-    let q = parts _ _ e in
-    record { limit = ltb-true _ _ (q .0); compaccessGone = λ two. not-held (q .1) }
-  where
-    not-held : not (hasCompaccess held) ≡ true → hasCompaccess held ≡ false
-    not-held = not-true _
+module _ (edition : Edition) (profile : Profile) (held : ℕ) where
+  pub privileges-means : privilegesRule edition profile held ≡ true → PrivilegesKept edition profile held
+  unfolding privilegesRule
+  privileges-means e =
+      let q = parts (ltb held 128) (not (bansCompaccess edition profile && hasCompaccess held)) e in
+      record { limit = ltb-true _ _ (q .0); compaccessGone = at (bansCompaccess edition profile) (q .1) }
+    where
+      at : (t : Bool) → not (t && hasCompaccess held) ≡ true → t ≡ true → hasCompaccess held ≡ false
+      at true e q = not-true _ e
+      at false e q = absurd (true≢false (sym q))
 
-pub privileges-holds : (edition : Edition) (held : ℕ) → PrivilegesKept edition held → privilegesRule edition held ≡ true
-unfolding privilegesRule
-privileges-holds One held k = lt-ltb _ _ (k .limit)
-privileges-holds Two held k = rw (lt-ltb _ _ (k .limit), k .compaccessGone refl)
+  pub privileges-holds : PrivilegesKept edition profile held → privilegesRule edition profile held ≡ true
+  unfolding privilegesRule
+  privileges-holds k = rw (lt-ltb _ _ (k .limit)) (at (bansCompaccess edition profile) (k .compaccessGone))
+    where
+      at : (t : Bool) → (t ≡ true → hasCompaccess held ≡ false) → not (t && hasCompaccess held) ≡ true
+      at true gone = rw (gone refl)
+      at false gone = refl
 
 -- ---- a record by itself
 -- bytes 36..39 and those after the sets are unused
 pub record UserKept (n : Counts) (rec : List ℕ) : Type 0 where
   pub named : NameKept (userNameField rec)
-  pub privilegesKept : PrivilegesKept (n .edition) (privileges rec)
+  pub privilegesKept : PrivilegesKept (n .edition) (n .profile) (privileges rec)
   pub unusedLevels : (i : ℕ) → 36 ≤ i → i < 40 → byteAt rec i ≡ 0
   pub unusedEnd : (i : ℕ) → userEnd (n .edition) ≤ i → byteAt rec i ≡ 0
   pub levelsKept : LevelsKept (n .levels) rec
@@ -157,7 +160,7 @@ module _ (n : Counts) (rec : List ℕ) where
       let q1 = parts _ _ (q2 .0) in
       record {
         named = name-means _ (q1 .0);
-        privilegesKept = privileges-means (n .edition) (privileges rec) (q1 .1);
+        privilegesKept = privileges-means (n .edition) (n .profile) (privileges rec) (q1 .1);
         unusedLevels = zero-part rec 36 4 (q2 .1);
         unusedEnd = zero-rest rec (userEnd (n .edition)) (q3 .1);
         levelsKept = user-levels-means (n .levels) rec (q4 .1);
@@ -170,7 +173,7 @@ module _ (n : Counts) (rec : List ℕ) where
   user-shape-holds k =
       rw (
         name-holds _ (k .named),
-        privileges-holds (n .edition) (privileges rec) (k .privilegesKept),
+        privileges-holds (n .edition) (n .profile) (privileges rec) (k .privilegesKept),
         part-zero rec 36 4 (k .unusedLevels),
         rest-zero rec (userEnd (n .edition)) (k .unusedEnd),
         user-levels-holds (n .levels) rec (k .levelsKept),

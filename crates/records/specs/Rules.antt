@@ -1,7 +1,7 @@
 -- The rules of an image's records: of a record by itself, and of a record among those before it in the list of its kind; and of a block:
 -- its layout and its records. Each is a Boolean; proofs/Meaning*.antt say what each means for places and bytes.
 use Prim.Native.Nat.{ℕ, _+_, _-_, _*_}
-use mathlib.Core.Bool.{Bool, cond, not, _&&_, _||_}
+use mathlib.Core.Bool.{Bool, true, false, cond, not, _&&_, _||_}
 use mathlib.Core.List.{List, []}
 use lib.Dec.{eqb, leb, ltb}
 use lib.ListN.{drop, getD}
@@ -11,9 +11,10 @@ use Rattle.fields.specs.Scan.{firstBad, everywhere}
 use Rattle.sets.specs.Sets.{within, allBelow}
 use Rattle.header.specs.declared.edition.Edition.{Edition}
 use Rattle.header.specs.declared.edition.Edition.the-variants.{One, Two}
+use Rattle.header.specs.declared.profile.Profile.{Profile}
 use Rattle.header.specs.declared.layout.Kind.{Kind}
 use Rattle.header.specs.declared.layout.Kind.the-variants.{Component, Label, User}
-use Rattle.header.specs.Layout.{Counts, countsOf, classFirst, classAt, kindByte, recordAt, recordsOf, contentsOf}
+use Rattle.header.specs.Layout.{byProfile, Counts, countsOf, classFirst, classAt, kindByte, recordAt, recordsOf, contentsOf}
 use Rattle.records.specs.Fields.{classOf, componentNameField, componentName, numericForm, parentOf, noParent, componentEnd, tagOf, labelLevel, labelCompartments, labelGroups, userNameField, userName, privileges, hasCompaccess, maximumLevel, minimumLevel, defaultLevel, rowLevel, readCompartments, writeCompartments, defaultCompartments, rowCompartments, readGroups, writeGroups, defaultGroups, rowGroups, userEnd}
 
 -- ---- lists of records
@@ -26,12 +27,12 @@ recordIn records i = getD records i []
 abbrev pub classStart : Counts → ℕ → ℕ
 classStart n i = classFirst n (classAt n i)
 
--- a parent is none, or, of a group, a group that exists
+-- a parent is none, or, of a group, one of the first `count` groups
 unfoldable pub parentRule : Edition → ℕ → ℕ → ℕ → Bool
 parentRule edition class count parent = eqb parent (noParent edition) || eqb class 3 && ltb parent count
 
 -- what a component record must be, whatever the others are; class is the one that the counts put at its place, so that a record of another
--- class is at fault itself; count is the number of groups
+-- class is at fault itself; count is the number of groups that may be a parent
 unfoldable pub componentShape : Edition → ℕ → ℕ → List ℕ → Bool
 componentShape edition class count rec =
     eqb (classOf rec) class && nameRule (componentNameField rec) && leb (numericForm rec) 9999
@@ -57,10 +58,14 @@ unfoldable pub newNameRule : Counts → List (List ℕ) → ℕ → Bool
 newNameRule n records i =
     everywhere (λ j. otherName (componentName (recordIn records i)) (recordIn records j)) (i - classStart n i) (classStart n i)
 
+-- how many groups may be a parent: in the release profile none
+abbrev pub parentCount : Counts → ℕ
+parentCount n = byProfile (n .profile) (n .groups) 0
+
 -- the component at place i, among all
 unfoldable pub componentRule : Counts → List (List ℕ) → ℕ → Bool
 componentRule n records i =
-    componentShape (n .edition) (classAt n i) (n .groups) (recordIn records i) && numericRule n records i && newNameRule n records i
+    componentShape (n .edition) (classAt n i) (parentCount n) (recordIn records i) && numericRule n records i && newNameRule n records i
 
 -- ---- labels
 -- what a label record must be, whatever the others are: tag 1 to 99,999,999, level and sets that exist, the rest unused
@@ -97,15 +102,19 @@ userGroupsRule edition count rec =
     within (readGroups edition rec) (allBelow count) && within (writeGroups edition rec) (allBelow count)
     && within (defaultGroups edition rec) (allBelow count) && within (rowGroups edition rec) (allBelow count)
 
--- privilege bit 128 is zero; edition 2 doesn't have COMPACCESS
-unfoldable pub privilegesRule : Edition → ℕ → Bool
-privilegesRule One held = ltb held 128
-privilegesRule Two held = ltb held 128 && not (hasCompaccess held)
+-- edition 2 doesn't have COMPACCESS, and the release profile doesn't
+abbrev pub bansCompaccess : Edition → Profile → Bool
+bansCompaccess One profile = byProfile profile false true
+bansCompaccess Two profile = true
+
+-- privilege bit 128 is zero, and COMPACCESS is absent where it is banned
+unfoldable pub privilegesRule : Edition → Profile → ℕ → Bool
+privilegesRule edition profile held = ltb held 128 && not (bansCompaccess edition profile && hasCompaccess held)
 
 -- what a user record must be, whatever the others are
 unfoldable pub userShape : Counts → List ℕ → Bool
 userShape n rec =
-    nameRule (userNameField rec) && privilegesRule (n .edition) (privileges rec) && allZero (part rec 36 4)
+    nameRule (userNameField rec) && privilegesRule (n .edition) (n .profile) (privileges rec) && allZero (part rec 36 4)
     && allZero (drop (userEnd (n .edition)) rec)
     && userLevelsRule (n .levels) rec && userCompartmentsRule (n .compartments) rec && userGroupsRule (n .edition) (n .groups) rec
 

@@ -7,7 +7,7 @@ ghost use Rattle.fields.specs.Scan.{firstBad};
 ghost use Rattle.header.specs.declared.layout.Kind.the-variants.{Component};
 ghost use Rattle.header.specs.Layout.{editionOf, countsOf, countOf, recordSize, Fitted, recordAt, recordsOf, OneBlock};
 ghost use Rattle.records.specs.Fields.{componentNameLength, componentName, numericForm, parentOf};
-ghost use Rattle.records.specs.Rules.{classStart, parentRule, componentShape, numericRule, othersNamed, newNameRule, recordRule};
+ghost use Rattle.records.specs.Rules.{classStart, parentRule, parentCount, componentShape, numericRule, othersNamed, newNameRule, recordRule};
 use fields::names;
 use fields::numbers::all_zero;
 use fields::numbers::number2;
@@ -17,6 +17,8 @@ use header::edition::by_edition;
 use header::edition::edition_of;
 use header::layout;
 use header::layout::Kind;
+use header::profile::Profile;
+use header::profile::profile_of;
 use header::walk;
 
 // A level or a compartment has no parent; a group has none, or a group that exists.
@@ -162,13 +164,24 @@ fn new_name_ok(image: &[u8], i: usize) -> bool
     first_named(image, start, i, component_name(image, i)) == i
 }
 
+// The groups that may be a parent: in the release profile there is none.
+fn parent_count(image: &[u8]) -> usize
+    requires { ⌜ 512 ≤ length (now image) ⌝ }
+    ensures { λ r. ⌜ r ≡ parentCount (countsOf (now (image .entry))) ⌝ }
+{
+    match profile_of(image) {
+        Profile::Tree => layout::groups(image),
+        Profile::Release => 0,
+    }
+}
+
 pub fn component_ok(image: &[u8], i: usize) -> bool
     requires { ⌜ Fitted (now image) × (i < countOf (now image) Component) ⌝ }
     ensures { λ r. ⌜ r ≡ recordRule (now (image .entry)) Component i ⌝ }
 {
     let rec = layout::record_part(image, Kind::Component, i);
     let class = layout::class_at(image, i);
-    shape_ok(edition_of(image), rec, class, layout::groups(image))
+    shape_ok(edition_of(image), rec, class, parent_count(image))
         & numeric_ok(image, i)
         & new_name_ok(image, i)
 }

@@ -8,7 +8,7 @@ ghost use Rattle.header.specs.Layout.{editionOf, users, countsOf, recordSize, u
 ghost use Rattle.records.specs.Fields as fields;
 ghost use Rattle.records.specs.Fields.{userName};
 ghost use Rattle.records.specs.Users.{levelsOf, compartmentsOf, GroupsAre};
-ghost use Rattle.records.specs.Rules.{userLevelsRule, userCompartmentsRule, userGroupsRule, privilegesRule, userShape, userNameRule, recordRule};
+ghost use Rattle.records.specs.Rules.{userLevelsRule, userCompartmentsRule, userGroupsRule, bansCompaccess, privilegesRule, userShape, userNameRule, recordRule};
 ghost use Rattle.header.specs.Limits.{Counted};
 use crate::group_sets::group_set;
 use fields::names;
@@ -19,6 +19,8 @@ use header::edition::by_edition;
 use header::edition::edition_of;
 use header::layout;
 use header::layout::Kind;
+use header::profile::Profile;
+use header::profile::profile_of;
 use sets::groups::Groups;
 use sets::word;
 
@@ -142,14 +144,24 @@ fn groups_ok(edition: Edition, rec: &[u8], count: usize) -> bool
     sets.read.within(all) & sets.write.within(all) & sets.default.within(all) & sets.row.within(all)
 }
 
-// Bit 128 is zero, and edition 2 doesn't have COMPACCESS.
-fn privileges_ok(edition: Edition, held: u8) -> bool
-    ensures { λ r. ⌜ r ≡ privilegesRule edition held ⌝ }
+// Edition 2 doesn't have COMPACCESS, and the release profile doesn't.
+fn bans_compaccess(edition: Edition, profile: Profile) -> bool
+    ensures { λ r. ⌜ r ≡ bansCompaccess edition profile ⌝ }
 {
     match edition {
-        Edition::One => held < 128,
-        Edition::Two => (held < 128) & !word::has(held as u64, 2),
+        Edition::One => match profile {
+            Profile::Tree => false,
+            Profile::Release => true,
+        },
+        Edition::Two => true,
     }
+}
+
+// Bit 128 is zero, and COMPACCESS is absent where it is banned.
+fn privileges_ok(edition: Edition, profile: Profile, held: u8) -> bool
+    ensures { λ r. ⌜ r ≡ privilegesRule edition profile held ⌝ }
+{
+    (held < 128) & !(bans_compaccess(edition, profile) & word::has(held as u64, 2))
 }
 
 // What a record must be whatever the others are.
@@ -160,7 +172,7 @@ fn shape_ok(image: &[u8], rec: &[u8]) -> bool
     let edition = edition_of(image);
     let end = by_edition(edition, 104, 200);
     names::name_ok(&rec[0..31])
-        & privileges_ok(edition, rec[31])
+        & privileges_ok(edition, profile_of(image), rec[31])
         & all_zero(&rec[36..40])
         & all_zero(&rec[end..])
         & levels_ok(rec, layout::levels(image))

@@ -8,8 +8,8 @@ use Rattle.fields.specs.Bytes.{number2, number4, number8, all}
 use Rattle.fields.specs.Names.{nameByte, nameIn, sameName}
 use Rattle.fields.specs.Scan.{firstBad}
 use Rattle.sets.specs.Sets.{has, difference, empty, allBelow, within, meets, collect}
-use Rattle.header.specs.Layout.{levels, compartments, groups, labels, components, firstBlock, blocksFor, recordOffset, recordAt, classFirst, editionOf}
-use Rattle.hierarchy.specs.Below.{parent, hasParent, lineageWithin, lineage, below}
+use Rattle.header.specs.Layout.{levels, compartments, groups, labels, components, firstBlock, blocksFor, recordOffset, recordAt, classFirst, editionOf, profileOf}
+use Rattle.hierarchy.specs.Below.{parent, hasParent, lineageWithin, lineage, below, reach}
 use Rattle.refusals.specs.declared.answers.Checked.the-variants.{Accepted}
 use Rattle.image.specs.Check.{checkOf}
 use Rattle.image.specs.Lookup.{componentIndex, labelOfTag}
@@ -21,7 +21,7 @@ use Rattle.dominance.specs.TwoLabels.{mergeLevels, mergeSets, lettersRule, merg
 use Rattle.labels.specs.GroupTest.{groupTest}
 use Rattle.access.specs.Rights.{writeCompartmentsOf, writeGroupsOf, rightsAt}
 use Rattle.access.specs.NewLabels.{sessionGroupsRule, rowInside, sessionLabelAnswer}
-use Rattle.access.specs.Verdicts.{readsAll, writesAll, holdsCompaccess, readLevelRule, readGroupsRule, readCompartmentsRule, compaccessReads, readTests, readsLabel, writeLevelRule, writeGroupsRule, writeCompartmentsRule, writeSetsRule, compaccessWrites, writeTests, writesLabel, knownTag, mayRead, mayWrite}
+use Rattle.access.specs.Verdicts.{readsAll, writesAll, holdsCompaccess, readLevelRule, readGroupsRule, readCompartmentsRule, compaccessReads, readTests, readsLabel, writeLevelRule, writeGroupsRule, writeCompartmentsRule, writeSetsRule, compaccessWrites, writeTests, writesLabel, knownTag, mayRead, mayWrite, treeSetsRule}
 use Rattle.sessions.specs.Session.{lentAnswer, sessionRights}
 use Rattle.sessions.specs.Opening.{session, openOf}
 use Rattle.sessions.specs.Changes.{labelChange, setLabelOf}
@@ -66,7 +66,7 @@ cases-shortly (c ∷ cases) = rw (answer-shortly casesImage cases-known (c .ques
 
 -- ---- the proof
 computed : map (λ (c : Case). shortly casesImage (c .question)) proved ≡ map (λ (c : Case). c .expected) proved
-unfolding proved mayRead mayWrite knownTag labelAt readsLabel readTests readLevelRule readGroupsRule groupTest readCompartmentsRule compaccessReads holdsCompaccess readsAll writesAll writesLabel writeTests writeLevelRule writeSetsRule writeGroupsRule writeCompartmentsRule compaccessWrites rightsAt writeCompartmentsOf writeGroupsOf casesImage number2 number4 number8 has difference empty within meets collect firstBad levels compartments groups labels components firstBlock blocksFor recordOffset recordAt parent classFirst hasParent lineageWithin lineage below labelOfTag labelChange sessionLabelAnswer rowInside sessionGroupsRule all textByte nameByte nameIn sameName componentIndex split isName isList shapeRule matches placeOfName readNames allBelow entryAt listed listText section textOf labelExists acceptedAnswer mergeLevels mergeSets lettersRule mergedLabel mergeOf editionOf groupsAt joined
+unfolding proved mayRead mayWrite knownTag labelAt readsLabel readTests readLevelRule readGroupsRule groupTest readCompartmentsRule compaccessReads holdsCompaccess readsAll writesAll writesLabel writeTests writeLevelRule writeSetsRule writeGroupsRule writeCompartmentsRule compaccessWrites rightsAt writeCompartmentsOf writeGroupsOf casesImage number2 number4 number8 has difference empty within meets collect firstBad levels compartments groups labels components firstBlock blocksFor recordOffset recordAt parent classFirst hasParent lineageWithin lineage below labelOfTag labelChange sessionLabelAnswer rowInside sessionGroupsRule all textByte nameByte nameIn sameName componentIndex split isName isList shapeRule matches placeOfName readNames allBelow entryAt listed listText section textOf labelExists acceptedAnswer mergeLevels mergeSets lettersRule mergedLabel mergeOf editionOf groupsAt joined treeSetsRule profileOf reach
 computed = refl
 
 pub all-cases : map asked proved ≡ map (λ (c : Case). c .expected) proved

@@ -7,11 +7,11 @@ use Rattle.fields.specs.Bytes.{number2, number4, number8}
 use Rattle.fields.specs.Names.{nameIn}
 use Rattle.fields.specs.Scan.{firstBad}
 use Rattle.sets.specs.Sets.{has, empty, within, meets, collect}
-use Rattle.header.specs.Layout.{levels, compartments, groups, users, labels, components, firstBlock, blocksFor, recordOffset, recordAt, classFirst, editionOf}
-use Rattle.hierarchy.specs.Below.{parent, hasParent, lineageWithin, lineage, below}
+use Rattle.header.specs.Layout.{levels, compartments, groups, users, labels, components, firstBlock, blocksFor, recordOffset, recordAt, classFirst, editionOf, profileOf}
+use Rattle.hierarchy.specs.Below.{parent, hasParent, lineageWithin, lineage, below, reach}
 use Rattle.labels.specs.GroupTest.{groupTest}
 use Rattle.access.specs.Rights.{writeCompartmentsOf, writeGroupsOf, rightsAt}
-use Rattle.access.specs.Verdicts.{readsAll, writesAll, holdsCompaccess, readLevelRule, readGroupsRule, readCompartmentsRule, compaccessReads, readTests, readsLabel, writeLevelRule, writeGroupsRule, writeCompartmentsRule, writeSetsRule, compaccessWrites, writeTests, writesLabel}
+use Rattle.access.specs.Verdicts.{readsAll, writesAll, holdsCompaccess, readLevelRule, readGroupsRule, readCompartmentsRule, compaccessReads, readTests, readsLabel, writeLevelRule, writeGroupsRule, writeCompartmentsRule, writeSetsRule, compaccessWrites, writeTests, writesLabel, treeSetsRule}
 use Rattle.labels.specs.Label.{labelAt}
 use Rattle.sessions.specs.Opening.{defaultLabel, defaultRowLabel, defaultSession}
 use Rattle.lines.specs.Lines.{digitCount, decimal, ending, lineAt, linesFrom, usersFrom, reportOf, outputOf}
@@ -23,5 +23,5 @@ pub sample-output : outputOf cooperative
     ≡ 77 ∷ 65 ∷ 82 ∷ 65 ∷ 32 ∷ 49 ∷ 48 ∷ 32 ∷ 114 ∷ 119 ∷ 10
     ∷ 77 ∷ 65 ∷ 82 ∷ 65 ∷ 32 ∷ 50 ∷ 48 ∷ 32 ∷ 45 ∷ 45 ∷ 10
     ∷ 77 ∷ 65 ∷ 82 ∷ 65 ∷ 32 ∷ 51 ∷ 48 ∷ 32 ∷ 114 ∷ 45 ∷ 10 ∷ []
-unfolding outputOf reportOf usersFrom linesFrom lineAt ending decimal digitCount defaultSession defaultLabel defaultRowLabel labelAt readsLabel readTests readLevelRule readGroupsRule groupTest readCompartmentsRule compaccessReads holdsCompaccess readsAll writesAll writesLabel writeTests writeLevelRule writeSetsRule writeGroupsRule writeCompartmentsRule compaccessWrites rightsAt writeCompartmentsOf writeGroupsOf cooperative number2 number4 number8 nameIn has empty within meets collect firstBad levels compartments groups users labels components firstBlock blocksFor recordOffset recordAt parent classFirst hasParent lineageWithin lineage below editionOf groupsAt joined
+unfolding outputOf reportOf usersFrom linesFrom lineAt ending decimal digitCount defaultSession defaultLabel defaultRowLabel labelAt readsLabel readTests readLevelRule readGroupsRule groupTest readCompartmentsRule compaccessReads holdsCompaccess readsAll writesAll writesLabel writeTests writeLevelRule writeSetsRule writeGroupsRule writeCompartmentsRule compaccessWrites rightsAt writeCompartmentsOf writeGroupsOf cooperative number2 number4 number8 nameIn has empty within meets collect firstBad levels compartments groups users labels components firstBlock blocksFor recordOffset recordAt parent classFirst hasParent lineageWithin lineage below editionOf groupsAt joined treeSetsRule profileOf reach
 sample-output = rw sample-accepted

@@ -1,23 +1,27 @@
 -- Both labels of an accepted session name only components that the policy has. Assumes nothing.
 use Prim.Native.Nat.{ℕ, _^_, _<_}
 use mathlib.Core.Path.{_≡_}
-use mathlib.Core.Bool.{true}
+use mathlib.Core.Bool.{true, _&&_}
 use mathlib.Core.List.{List}
 use native.Mathlib.Omega.{arith}
 use borrow.Author.Tests.{lt-ltb}
-use Rattle.sets.specs.Sets.{intersection}
+use Rattle.fields.proofs.Both.{parts}
+use Rattle.sets.specs.Sets.{intersection, within, allBelow}
 use Rattle.sets.proofs.Bounds.{within-below, part-below, intersection-below}
-use Rattle.header.specs.Layout.{editionOf, levels, compartments, groups, userRecord, countsOf}
+use Rattle.header.specs.declared.profile.Profile.{Profile}
+use Rattle.header.specs.declared.profile.Profile.the-variants.{Tree, Release}
+use Rattle.header.specs.Layout.{editionOf, profileOf, byProfile, levels, compartments, groups, userRecord, countsOf}
 use Rattle.records.specs.Fields.{readCompartments, writeCompartments, readGroups, writeGroups}
 use Rattle.records.proofs.MeaningLabels.{exist-holds}
 use Rattle.records.proofs.MeaningUsers.{UserKept}
 use Rattle.labels.proofs.Existing.{means-exists}
-use Rattle.hierarchy.specs.Below.{below}
+use Rattle.hierarchy.specs.Below.{below, reach}
 use Rattle.hierarchy.proofs.Under.{below-limit}
 use Rattle.refusals.specs.declared.answers.Checked.the-variants.{Accepted}
 use Rattle.image.proofs.Policy.{user-kept}
 use Rattle.labels.specs.Label.{Marks, labelExists}
 use Rattle.access.specs.Rights.{rightsAt, writeCompartmentsOf, writeGroupsOf}
+use Rattle.access.specs.NewLabels.{sessionGroupsRule}
 use Rattle.access.proofs.Answers.{SessionLabelKept}
 use Rattle.sessions.specs.Session.{SessionMarks, lentAnswer}
 use Rattle.sessions.proofs.Accepting.{lent-accepted, lent-means, lent-user}
@@ -30,7 +34,7 @@ module _ (im : List ℕ) (s : SessionMarks) (lent : lentAnswer im s ≡ Accepted
   kept : SessionLabelKept im (s .user) (s .label) (s .row)
   kept = lent-means im s lent .sessionLabel
 
-  -- the level is at most the user's maximum; compartments lie in those that the user reads, groups below the read groups
+  -- the level is at most the user's maximum; compartments lie in those that the user reads, groups lie below the read groups or, in the release profile, exist
   level-exists : s .label .level < levels im
   level-exists = omega (arith, kept .maximum, user .levelsKept .maximumExists)
 
@@ -41,11 +45,20 @@ module _ (im : List ℕ) (s : SessionMarks) (lent : lentAnswer im s ≡ Accepted
       (within-below read (compartments im) (exist-holds read (compartments im) (user .compartmentsKept .readExist)))
 
   groups-exist : s .label .groups < 2 ^ groups im
-  groups-exist =
-      let read = below im (readGroups (editionOf im) (userRecord im (s .user))) in
-      part-below (s .label .groups) read (groups im) (kept .groups) (below-limit im (readGroups (editionOf im) (userRecord im (s .user))))
+  unfolding sessionGroupsRule
+  groups-exist = at (profileOf im) (kept .groups)
+    where
+      set : ℕ
+      set = s .label .groups
 
-  -- the row label's lie in the session's
+      read : ℕ
+      read = readGroups (editionOf im) (userRecord im (s .user))
+
+      at : (p : Profile) → byProfile p (within set (below im read)) (within set (allBelow (groups im)) && within read set) ≡ true → set < 2 ^ groups im
+      at Tree e = part-below set (below im read) (groups im) e (below-limit im read)
+      at Release e = within-below set (groups im) (parts (within set (allBelow (groups im))) (within read set) e .0)
+
+  -- the row label's level and compartments lie in the session's, its groups in the write groups or, in the release profile, among all
   row-level-exists : s .row .level < levels im
   unfolding rightsAt
   row-level-exists = omega (arith, kept .inside .level, level-exists)
@@ -58,12 +71,25 @@ module _ (im : List ℕ) (s : SessionMarks) (lent : lentAnswer im s ≡ Accepted
       (intersection-below (s .label .compartments) written (compartments im) compartments-exist)
 
   row-groups-exist : s .row .groups < 2 ^ groups im
-  unfolding rightsAt writeGroupsOf
-  row-groups-exist =
-      let held = below im (s .label .groups) in
-      let written = below im (writeGroups (editionOf im) (userRecord im (s .user))) in
-      part-below (s .row .groups) (intersection held written) (groups im) (kept .inside .groups)
-      (intersection-below held written (groups im) (below-limit im (s .label .groups)))
+  unfolding rightsAt writeGroupsOf reach
+  row-groups-exist = at (profileOf im) (kept .inside .groups)
+    where
+      set : ℕ
+      set = s .row .groups
+
+      label : ℕ
+      label = s .label .groups
+
+      write : ℕ
+      write = writeGroups (editionOf im) (userRecord im (s .user))
+
+      at : (p : Profile) → (within set (byProfile p (intersection (byProfile p (below im label) label) (byProfile p (below im write) write)) (allBelow (groups im)))
+          && byProfile p true (within (byProfile p (below im label) label) set)) ≡ true → set < 2 ^ groups im
+      at Tree e =
+          part-below set (intersection (below im label) (below im write)) (groups im)
+          (parts (within set (intersection (below im label) (below im write))) true e .0)
+          (intersection-below (below im label) (below im write) (groups im) (below-limit im label))
+      at Release e = within-below set (groups im) (parts (within set (allBelow (groups im))) (within label set) e .0)
 
   pub session-labels-exist : (labelExists im (s .label) ≡ true) × (labelExists im (s .row) ≡ true)
   session-labels-exist = (

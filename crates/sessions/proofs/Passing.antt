@@ -1,15 +1,20 @@
 -- An opened session and a changed session always pass 19. Assumes nothing.
 use Prim.Native.Nat.{ℕ, _<_}
 use mathlib.Core.Path.{_≡_, refl, sym, ap, subst}
-use mathlib.Core.Bool.{Bool, true, false, cond, true≢false}
+use mathlib.Core.Bool.{Bool, true, false, cond, _&&_, true≢false}
 use mathlib.Core.List.{List}
 use native.Mathlib.Omega.{arith}
 use borrow.Author.Tests.{ltb-true}
 use lib.Dec.{ltb}
+use Rattle.sets.specs.Sets.{intersection, within, allBelow}
 use Rattle.sets.proofs.Within.{has-within, within-intersection}
-use Rattle.header.specs.Layout.{editionOf, users, userRecord}
-use Rattle.records.specs.Fields.{readCompartments, writeCompartments, defaultCompartments, rowCompartments, writeGroups, defaultGroups, rowGroups}
-use Rattle.hierarchy.specs.Below.{below}
+use Rattle.header.specs.declared.profile.Profile.{Profile}
+use Rattle.header.specs.declared.profile.Profile.the-variants.{Tree, Release}
+use Rattle.header.specs.Layout.{editionOf, profileOf, byProfile, groups, users, userRecord}
+use Rattle.records.specs.Fields.{readCompartments, writeCompartments, defaultCompartments, rowCompartments, readGroups, writeGroups, defaultGroups, rowGroups}
+use Rattle.records.proofs.MeaningLabels.{exist-holds}
+use Rattle.records.proofs.MeaningUsers.{GroupsKept}
+use Rattle.hierarchy.specs.Below.{below, reach}
 use Rattle.refusals.specs.declared.answers.Checked.{Checked}
 use Rattle.refusals.specs.declared.answers.Checked.the-variants.{Accepted, Refused}
 use Rattle.image.specs.Check.{checkOf, IsAccepted}
@@ -18,25 +23,46 @@ use Rattle.image.proofs.Accepted.{refused-not}
 use Rattle.refusals.specs.declared.Refusal.{Refusal}
 use Rattle.refusals.specs.declared.Refusal.the-variants.{NoUser}
 use Rattle.image.specs.Lookup.{userOfName}
-use Rattle.image.proofs.Policy.{user-kept, user-below}
+use Rattle.image.proofs.Policy.{SetsKept, user-kept, user-sets}
 use Rattle.labels.specs.Label.{Marks}
 use Rattle.labels.specs.Parse as parse
 use Rattle.labels.specs.Parse.{Reading, read, readText, refusalOf}
 use Rattle.access.specs.Rights.{rightsAt, writeCompartmentsOf, writeGroupsOf}
-use Rattle.access.specs.NewLabels.{sessionLabelAnswer, rowLabelAnswer, sessionRule}
+use Rattle.access.specs.NewLabels.{sessionGroupsRule, sessionLabelAnswer, rowLabelAnswer, sessionRule}
 use Rattle.access.proofs.Answers.{Inside, session-label-means, row-label-means, means-session}
 use Rattle.sessions.specs.Session.{SessionMarks, lentAnswer, sessionRights}
 use Rattle.sessions.specs.Opening.{Opening, session, refused, defaultLabel, defaultRowLabel, defaultSession, openAccepted, openOf}
 use Rattle.sessions.specs.Changes.{changeIf, changeTo, afterLent, withLabel, withRowLabel, labelChange, rowLabelChange, setLabelOf, setRowLabelOf}
 use Rattle.sessions.proofs.Accepting.{lent-accepted, lent-means, means-lent}
 
+-- a user's default groups and row groups keep the rules of sessions, by the profile
+module _ (im rec : List ℕ) (kept : GroupsKept (editionOf im) (groups im) rec) where
+  abbrev default : ℕ
+  default = defaultGroups (editionOf im) rec
+
+  abbrev row : ℕ
+  row = rowGroups (editionOf im) rec
+
+  default-groups : (p : Profile) → SetsKept p im rec
+      → byProfile p (within default (below im (readGroups (editionOf im) rec))) (within default (allBelow (groups im)) && within (readGroups (editionOf im) rec) default)
+      ≡ true
+  default-groups Tree k = k .defaultBelowRead
+  default-groups Release k = rw (exist-holds default (groups im) (kept .defaultExist), k .readInDefault)
+
+  row-groups : (p : Profile) → SetsKept p im rec
+      → (within row (byProfile p (intersection (byProfile p (below im default) default)
+      (byProfile p (below im (writeGroups (editionOf im) rec)) (writeGroups (editionOf im) rec))) (allBelow (groups im)))
+      && byProfile p true (within (byProfile p (below im default) default) row)) ≡ true
+  row-groups Tree k =
+      rw (within-intersection (below im default) (below im (writeGroups (editionOf im) rec)) row (k .rowBelowDefault) (k .rowBelowWrite))
+  row-groups Release k = rw (exist-holds row (groups im) (kept .rowExist), k .defaultInRow)
+
 module _ (im : List ℕ) (acc : IsAccepted im) (u : ℕ) (here : u < users im) where
   -- the record's default labels keep the rules of sessions
   default-inside : Inside (rightsAt im u (defaultLabel (editionOf im) (userRecord im u))) (defaultRowLabel (editionOf im) (userRecord im u))
-  unfolding rightsAt defaultLabel defaultRowLabel writeCompartmentsOf writeGroupsOf
+  unfolding rightsAt defaultLabel defaultRowLabel writeCompartmentsOf writeGroupsOf reach
   default-inside =
       let k = user-kept im acc u here in
-      let b = user-below im acc u here in
       let r = userRecord im u in
       record {
         level = k .levelsKept .rowDefault;
@@ -44,16 +70,13 @@ module _ (im : List ℕ) (acc : IsAccepted im) (u : ℕ) (here : u < users im) w
             within-intersection (defaultCompartments r) (writeCompartments r) (rowCompartments r)
             (has-within (rowCompartments r) (defaultCompartments r) (k .compartmentsKept .rowInDefault))
             (has-within (rowCompartments r) (writeCompartments r) (k .compartmentsKept .rowInWrite));
-        groups =
-            within-intersection (below im (defaultGroups (editionOf im) r)) (below im (writeGroups (editionOf im) r)) (rowGroups (editionOf im) r)
-            (b .rowBelowDefault) (b .rowBelowWrite);
+        groups = row-groups im r (k .groupsKept) (profileOf im) (user-sets im acc u here);
       }
 
   pub default-passes : sessionRule im u (defaultLabel (editionOf im) (userRecord im u)) (defaultRowLabel (editionOf im) (userRecord im u)) ≡ true
   unfolding defaultRowLabel
   default-passes =
       let k = user-kept im acc u here in
-      let b = user-below im acc u here in
       let r = userRecord im u in
       means-session im u (defaultLabel (editionOf im) r) (defaultRowLabel (editionOf im) r)
       (record {
@@ -63,7 +86,7 @@ module _ (im : List ℕ) (acc : IsAccepted im) (u : ℕ) (here : u < users im) w
               minimum = omega (arith, k .levelsKept .minimumRow, k .levelsKept .rowDefault);
               maximum = k .levelsKept .defaultMaximum;
               compartments = has-within (defaultCompartments r) (readCompartments r) (k .compartmentsKept .defaultInRead);
-              groups = b .defaultBelowRead;
+              groups = unfold sessionGroupsRule in default-groups im r (k .groupsKept) (profileOf im) (user-sets im acc u here);
               inside = default-inside;
             };
         rowLabel = unfold rightsAt in record { minimum = k .levelsKept .minimumRow; inside = default-inside };

@@ -15,9 +15,11 @@ use Rattle.header.specs.declared.edition.Edition.the-variants.{One, Two}
 use Rattle.header.specs.declared.layout.Kind.{Kind}
 use Rattle.header.specs.declared.layout.Kind.the-variants.{Component, Label, User}
 use Rattle.header.specs.declared.layout.Shape.{Shape}
-use Rattle.header.specs.Layout.{editionOf, byEdition, levels, compartments, groups, users, labels, components, Counts, countsOf}
+use Rattle.header.specs.declared.profile.Profile.{Profile}
+use Rattle.header.specs.declared.profile.Profile.the-variants.{Tree, Release}
+use Rattle.header.specs.Layout.{editionOf, profileOf, byEdition, levels, compartments, groups, users, labels, components, Counts, countsOf}
 use Rattle.header.specs.Layout.{recordSize, capacityOf, blocksFor, countOf, blocksOf, firstBlock, blocksNeeded, Fitted, shapeOf}
-use Rattle.writing.specs.Laid.{headerUsed, headerBlock, blocksIn, firstIn, imageOf, Fits}
+use Rattle.writing.specs.Laid.{profileByte, headerUsed, headerBlock, blocksIn, firstIn, imageOf, Fits}
 use Rattle.writing.proofs.Sealed.{sealed-byte}
 use Rattle.writing.proofs.HeaderFields.{Told, told}
 use Rattle.writing.proofs.Placed.{header-fits, image-length, image-header}
@@ -31,6 +33,10 @@ edition-of Two = refl
 pub block-byte : (im : List ℕ) (b i : ℕ) → i < 512 → byteAt im (512 * b + i) ≡ byteAt (blockAt im b) i
 unfolding blockAt
 block-byte im b i h = sym (part-byte im (512 * b) 512 i h)
+
+profile-of : (profile : Profile) → cond (eqb (profileByte profile) 1) Release Tree ≡ profile
+profile-of Tree = refl
+profile-of Release = refl
 
 -- the shape of a kind
 abbrev pub laidShape : Counts → (Kind → List (List ℕ)) → Kind → Shape
@@ -64,8 +70,8 @@ module _ (n : Counts) (records : Kind → List (List ℕ)) (fits : Fits n record
   unfolding number2
   header-number i h = ap₂ (λ (a b : ℕ). a + 256 * b) (header-byte i (omega arith)) (header-byte (i + 1) h)
 
-  fields : Told (n .levels) (n .compartments) (n .groups) (length (records User)) (length (records Label)) (n .edition)
-  fields = told (n .levels) (n .compartments) (n .groups) (length (records User)) (length (records Label)) (n .edition)
+  fields : Told (profileByte (n .profile)) (n .levels) (n .compartments) (n .groups) (length (records User)) (length (records Label)) (n .edition)
+  fields = told (profileByte (n .profile)) (n .levels) (n .compartments) (n .groups) (length (records User)) (length (records Label)) (n .edition)
 
   -- ---- the counts
   pub edition-byte-is : byteAt im 4 ≡ byEdition (n .edition) 1 2
@@ -74,6 +80,13 @@ module _ (n : Counts) (records : Kind → List (List ℕ)) (fits : Fits n record
   pub edition-is : editionOf im ≡ n .edition
   unfolding editionOf
   edition-is = ap (λ (x : ℕ). cond (eqb x 2) Two One) edition-byte-is ∙ edition-of (n .edition)
+
+  pub profile-byte-is : byteAt im 12 ≡ profileByte (n .profile)
+  profile-byte-is = header-byte 12 (omega arith) ∙ fields .profile-byte
+
+  pub profile-is : profileOf im ≡ n .profile
+  unfolding profileOf
+  profile-is = ap (λ (x : ℕ). cond (eqb x 1) Release Tree) profile-byte-is ∙ profile-of (n .profile)
 
   pub levels-is : levels im ≡ n .levels
   unfolding levels
@@ -99,7 +112,7 @@ module _ (n : Counts) (records : Kind → List (List ℕ)) (fits : Fits n record
   labels-is = header-number 10 (omega arith) ∙ fields .labels-bytes
 
   pub counts-are : countsOf im ≡ n
-  counts-are = rw (edition-is, levels-is, compartments-is, groups-is)
+  counts-are = rw (edition-is, profile-is, levels-is, compartments-is, groups-is)
 
   pub count-is : (kind : Kind) → countOf im kind ≡ length (records kind)
   unfolding components

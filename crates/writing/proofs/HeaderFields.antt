@@ -14,19 +14,20 @@ use Rattle.writing.specs.Laid.{headOf, headerFields}
 pub bytes2-number : (x : ℕ) → x % 256 + 256 * (x / 256) ≡ x
 bytes2-number x = omega arith
 
-module _ (levels compartments groups users labels : ℕ) where
+module _ (profile levels compartments groups users labels : ℕ) where
   abbrev used : Edition → List ℕ
-  used edition = headOf 80 0 0 ++ headerFields edition levels compartments groups users labels
+  used edition = headOf 80 0 0 ++ headerFields edition profile levels compartments groups users labels
 
   -- how many bytes are used, and what stands in them
   pub record Told (edition : Edition) : Type 0 where
-    pub long : length (used edition) ≡ byEdition edition 12 16
+    pub long : length (used edition) ≡ byEdition edition 13 16
     pub edition-byte : byteAt (used edition) 4 ≡ byEdition edition 1 2
     pub levels-byte : byteAt (used edition) 5 ≡ levels
     pub compartments-byte : byteAt (used edition) 6 ≡ compartments
     pub groups-bytes : byEdition edition (byteAt (used edition) 7) (number2 (used edition) 14) ≡ groups
     pub users-bytes : number2 (used edition) 8 ≡ users
     pub labels-bytes : number2 (used edition) 10 ≡ labels
+    pub profile-byte : byteAt (used edition) 12 ≡ profile
 
   pub told : (edition : Edition) → Told edition
   unfolding number2
@@ -39,6 +40,7 @@ module _ (levels compartments groups users labels : ℕ) where
         groups-bytes = refl;
         users-bytes = bytes2-number users;
         labels-bytes = bytes2-number labels;
+        profile-byte = refl;
       }
   told Two =
       record {
@@ -49,4 +51,5 @@ module _ (levels compartments groups users labels : ℕ) where
         groups-bytes = bytes2-number groups;
         users-bytes = bytes2-number users;
         labels-bytes = bytes2-number labels;
+        profile-byte = refl;
       }

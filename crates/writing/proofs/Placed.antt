@@ -12,15 +12,15 @@ use Rattle.header.specs.declared.layout.Kind.{Kind}
 use Rattle.header.specs.declared.layout.Kind.the-variants.{Component, Label, User}
 use Rattle.header.specs.Layout.{Counts, byEdition, kindByte, recordSize, capacityOf}
 use Rattle.header.proofs.Editions.{kind-roomy, in-either}
-use Rattle.writing.specs.Laid.{Sized, blockOf, headerUsed, headerBlock, blocksIn, firstIn, kindLaid, imageOf}
+use Rattle.writing.specs.Laid.{profileByte, Sized, blockOf, headerUsed, headerBlock, blocksIn, firstIn, kindLaid, imageOf}
 use Rattle.writing.proofs.Sealed.{sealed-length, part-first, part-second}
 use Rattle.writing.proofs.Packed.{kind-length, kind-block}
 use Rattle.writing.proofs.HeaderFields.{told}
 
 -- ---- the header
 module _ (n : Counts) (users labels : ℕ) where
-  pub header-used : length (headerUsed n users labels) ≡ byEdition (n .edition) 12 16
-  header-used = told (n .levels) (n .compartments) (n .groups) users labels (n .edition) .long
+  pub header-used : length (headerUsed n users labels) ≡ byEdition (n .edition) 13 16
+  header-used = told (profileByte (n .profile)) (n .levels) (n .compartments) (n .groups) users labels (n .edition) .long
 
   pub header-fits : length (headerUsed n users labels) ≤ 510
   header-fits = rw header-used (in-either (n .edition) (λ (x : ℕ). x ≤ 510) (omega arith) (omega arith))

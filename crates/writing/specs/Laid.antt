@@ -7,6 +7,8 @@ use lib.ListN.{length, getD, take, drop, replicate}
 use Rattle.blocks.specs.Blocks.{sumA, sumB}
 use Rattle.header.specs.declared.edition.Edition.{Edition}
 use Rattle.header.specs.declared.edition.Edition.the-variants.{One, Two}
+use Rattle.header.specs.declared.profile.Profile.{Profile}
+use Rattle.header.specs.declared.profile.Profile.the-variants.{Tree, Release}
 use Rattle.header.specs.declared.layout.Kind.{Kind}
 use Rattle.header.specs.declared.layout.Kind.the-variants.{Component, Label, User}
 use Rattle.header.specs.Layout.{Counts, kindByte, recordSize, capacityOf, blocksFor}
@@ -50,25 +52,30 @@ kindBlocks kind capacity zero place records = []
 kindBlocks kind capacity (suc n) place records =
     blockOf kind place (take capacity records) ++ kindBlocks kind capacity n (suc place) (drop capacity records)
 
--- ---- the header: edition, levels, compartments, groups, users, labels; in edition 2 the groups stand in bytes 14 and 15
-abbrev pub headerFields : Edition → ℕ → ℕ → ℕ → ℕ → ℕ → List ℕ
-headerFields One levels compartments groups users labels = 1 ∷ levels ∷ compartments ∷ groups ∷ bytes2 users ++ bytes2 labels
-headerFields Two levels compartments groups users labels =
-    2 ∷ levels ∷ compartments ∷ 0 ∷ bytes2 users ++ bytes2 labels ++ 0 ∷ 0 ∷ bytes2 groups
+-- ---- the header: edition, levels, compartments, groups, users, labels, profile; in edition 2 the groups stand in bytes 14 and 15
+abbrev pub profileByte : Profile → ℕ
+profileByte Tree = 0
+profileByte Release = 1
+
+abbrev pub headerFields : Edition → ℕ → ℕ → ℕ → ℕ → ℕ → ℕ → List ℕ
+headerFields One profile levels compartments groups users labels =
+    1 ∷ levels ∷ compartments ∷ groups ∷ bytes2 users ++ bytes2 labels ++ profile ∷ []
+headerFields Two profile levels compartments groups users labels =
+    2 ∷ levels ∷ compartments ∷ 0 ∷ bytes2 users ++ bytes2 labels ++ profile ∷ 0 ∷ bytes2 groups
 
 -- the header's used bytes, and the header
 abbrev pub headerUsed : Counts → ℕ → ℕ → List ℕ
-headerUsed n users labels = headOf 80 0 0 ++ headerFields (n .edition) (n .levels) (n .compartments) (n .groups) users labels
+headerUsed n users labels = headOf 80 0 0 ++ headerFields (n .edition) (profileByte (n .profile)) (n .levels) (n .compartments) (n .groups) users labels
 
 unfoldable pub headerBlock : Counts → ℕ → ℕ → List ℕ
 headerBlock n users labels = sealed (headerUsed n users labels)
 
 -- the counts of an image's components, as code is handed them
-abbrev pub countsFrom : Edition → ℕ → ℕ → ℕ → Counts
-countsFrom edition levels compartments groups =
-    record { edition = edition; levels = levels; compartments = compartments; groups = groups }
+abbrev pub countsFrom : Edition → Profile → ℕ → ℕ → ℕ → Counts
+countsFrom edition profile levels compartments groups =
+    record { edition = edition; profile = profile; levels = levels; compartments = compartments; groups = groups }
 
--- ---- an image: of that edition, with those numbers of levels, compartments and groups, and the records of each kind
+-- ---- an image: of that edition and profile, with those numbers of levels, compartments and groups, and the records of each kind
 -- how many blocks a kind's records need, and the first of them
 abbrev pub blocksIn : Counts → (Kind → List (List ℕ)) → Kind → ℕ
 blocksIn n records kind = blocksFor (capacityOf (n .edition) kind) (length (records kind))

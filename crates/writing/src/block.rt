@@ -7,10 +7,11 @@ ghost use Rattle.fields.specs.Bytes.{part};
 ghost use Rattle.buffers.specs.Pasting.{Written};
 ghost use Rattle.header.specs.declared.edition.Edition.the-variants.{One, Two};
 ghost use Rattle.header.specs.Layout.{byEdition};
-ghost use Rattle.writing.specs.Laid.{zeros, headOf, endOf, sealed, countsFrom, headerBlock};
+ghost use Rattle.writing.specs.Laid.{zeros, headOf, endOf, sealed, profileByte, countsFrom, headerBlock};
 use blocks::frame::sums;
 use buffers::given::put;
 use header::edition::Edition;
+use header::profile::Profile;
 
 // Writes n zeros over the buffer's bytes from `at` on, and tells where they end.
 pub fn put_zeros(buffer: &mut [u8], at: usize, n: usize) -> usize
@@ -81,8 +82,19 @@ pub fn put_block(
     put_end(buffer, at, end - at)
 }
 
+// The byte that tells a profile.
+fn profile_byte(profile: Profile) -> u8
+    ensures { λ r. ⌜ r ≡ profileByte profile ⌝ }
+{
+    match profile {
+        Profile::Tree => 0,
+        Profile::Release => 1,
+    }
+}
+
 // Writes the header of edition 1, whose group count is one byte.
 fn put_header_one(
+    profile: Profile,
     levels: u8,
     compartments: u8,
     groups: usize,
@@ -93,7 +105,7 @@ fn put_header_one(
 ) -> usize
     requires { ⌜ (groups < 256) × ((users < 65536) × (labels < 65536)) ⌝ }
     requires { ⌜ at + 512 ≤ length (now buffer) ⌝ }
-    ensures { λ r. ⌜ Written (now (buffer .entry)) at (headerBlock (countsFrom One levels compartments groups) users labels) (now (buffer .exit)) r ⌝ }
+    ensures { λ r. ⌜ Written (now (buffer .entry)) at (headerBlock (countsFrom One profile levels compartments groups) users labels) (now (buffer .exit)) r ⌝ }
 {
     let group_byte = groups as u8;
     let fields = [
@@ -105,12 +117,14 @@ fn put_header_one(
         high(users),
         low(labels),
         high(labels),
+        profile_byte(profile),
     ];
     put_block(80, 0, 0, &fields, buffer, at)
 }
 
 // Writes the header of edition 2, whose group count is two bytes behind the other counts.
 fn put_header_two(
+    profile: Profile,
     levels: u8,
     compartments: u8,
     groups: usize,
@@ -121,7 +135,7 @@ fn put_header_two(
 ) -> usize
     requires { ⌜ (groups < 65536) × ((users < 65536) × (labels < 65536)) ⌝ }
     requires { ⌜ at + 512 ≤ length (now buffer) ⌝ }
-    ensures { λ r. ⌜ Written (now (buffer .entry)) at (headerBlock (countsFrom Two levels compartments groups) users labels) (now (buffer .exit)) r ⌝ }
+    ensures { λ r. ⌜ Written (now (buffer .entry)) at (headerBlock (countsFrom Two profile levels compartments groups) users labels) (now (buffer .exit)) r ⌝ }
 {
     let fields = [
         2,
@@ -132,7 +146,7 @@ fn put_header_two(
         high(users),
         low(labels),
         high(labels),
-        0,
+        profile_byte(profile),
         0,
         low(groups),
         high(groups),
@@ -140,9 +154,10 @@ fn put_header_two(
     put_block(80, 0, 0, &fields, buffer, at)
 }
 
-// Writes the header: the edition, and how many there are of each.
+// Writes the header: the edition, the profile, and how many there are of each.
 pub fn put_header(
     edition: Edition,
+    profile: Profile,
     levels: u8,
     compartments: u8,
     groups: usize,
@@ -153,10 +168,32 @@ pub fn put_header(
 ) -> usize
     requires { ⌜ (groups < byEdition edition 256 65536) × ((users < 65536) × (labels < 65536)) ⌝ }
     requires { ⌜ at + 512 ≤ length (now buffer) ⌝ }
-    ensures { λ r. ⌜ Written (now (buffer .entry)) at (headerBlock (countsFrom edition levels compartments groups) users labels) (now (buffer .exit)) r ⌝ }
+    ensures { λ r. ⌜ Written (now (buffer .entry)) at (headerBlock (countsFrom edition profile levels compartments groups) users labels) (now (buffer .exit)) r ⌝ }
 {
     match edition {
-        Edition::One => put_header_one(levels, compartments, groups, users, labels, buffer, at),
-        Edition::Two => put_header_two(levels, compartments, groups, users, labels, buffer, at),
+        Edition::One => {
+            put_header_one(
+                profile,
+                levels,
+                compartments,
+                groups,
+                users,
+                labels,
+                buffer,
+                at,
+            )
+        },
+        Edition::Two => {
+            put_header_two(
+                profile,
+                levels,
+                compartments,
+                groups,
+                users,
+                labels,
+                buffer,
+                at,
+            )
+        },
     }
 }

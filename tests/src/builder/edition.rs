@@ -47,14 +47,9 @@ impl Edition {
         self.pick(4_096, 10_000)
     }
 
-    /// The privileges that a user may hold.
+    /// The privileges that a user may hold in the profile that has the most.
     pub fn privileges(self) -> u8 {
         self.pick(127, 127 & !COMPACCESS)
-    }
-
-    /// How many different bytes of privileges there are.
-    pub fn privilege_bytes(self) -> usize {
-        1 << self.privileges().count_ones()
     }
 
     /// The bytes of the header that hold the number of groups.

@@ -2,6 +2,8 @@
 
 mod edition;
 pub mod layout;
+mod partners;
+mod profile;
 mod random;
 mod sample;
 mod set;
@@ -9,6 +11,8 @@ mod sizes;
 mod trees;
 
 pub use edition::Edition;
+pub use partners::{partners, partners_table};
+pub use profile::{Profile, Variant};
 pub use random::{full, letters, random, random_with};
 pub use sample::sample;
 pub use set::Set;
@@ -18,7 +22,7 @@ pub use trees::Tree;
 use layout::{seal, Shape, BLOCK, COMPONENTS};
 use std::iter;
 
-/// The privilege that edition 2 has not.
+/// The privilege that edition 2 and the release profile have not.
 pub const COMPACCESS: u8 = 4;
 
 /// A level, a compartment or a group. Only a group may have a parent, by its place among groups.
@@ -78,6 +82,7 @@ pub struct User {
 #[derive(Clone, Debug)]
 pub struct Policy {
     pub edition: Edition,
+    pub profile: Profile,
     pub levels: Vec<Component>,
     pub compartments: Vec<Component>,
     pub groups: Vec<Component>,
@@ -96,6 +101,15 @@ impl Policy {
     /// that its users hold.
     pub fn in_edition(self, edition: Edition) -> Policy {
         Policy { edition, ..self }
+    }
+
+    /// The same in a profile, some of whose rules it may break.
+    pub fn in_profile(self, profile: Profile) -> Policy {
+        Policy { profile, ..self }
+    }
+
+    pub fn variant(&self) -> Variant {
+        self.edition.of(self.profile)
     }
 
     /// The places of the users who hold COMPACCESS.
@@ -186,6 +200,7 @@ fn header(policy: &Policy) -> Vec<u8> {
     );
     put(&mut block[8..10], policy.users.len());
     put(&mut block[10..12], policy.labels.len());
+    block[12] = policy.profile.number();
     block
 }
 

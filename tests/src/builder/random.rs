@@ -1,6 +1,7 @@
 //! Random well-formed policies, up to all limits of an edition.
 
-use super::{Component, Edition, Label, Levels, Policy, Rights, Set, Sizes, Tree, User};
+use super::{Component, Label, Levels, Policy, Profile, Rights, Set};
+use super::{Sizes, Tree, User, Variant};
 use crate::rng::Rng;
 use std::collections::BTreeSet;
 
@@ -8,22 +9,25 @@ use std::collections::BTreeSet;
 const MANY_GROUPS: usize = 64;
 
 /// The largest image's policy.
-pub fn full(edition: Edition) -> Policy {
-    random(Sizes::full(edition), &mut Rng::new(1))
+pub fn full(variant: impl Into<Variant>) -> Policy {
+    random(Sizes::full(variant), &mut Rng::new(1))
 }
 
 pub fn random(sizes: Sizes, rng: &mut Rng) -> Policy {
     grown(sizes, None, rng)
 }
 
-/// The same with parents of that form.
+/// The same with parents of that form, which the release profile has not.
 pub fn random_with(tree: Tree, sizes: Sizes, rng: &mut Rng) -> Policy {
+    assert_eq!(sizes.variant.profile, Profile::Tree);
     grown(sizes, Some(tree), rng)
 }
 
 fn grown(sizes: Sizes, tree: Option<Tree>, rng: &mut Rng) -> Policy {
+    let Variant { edition, profile } = sizes.variant;
     let mut policy = Policy {
-        edition: sizes.edition,
+        edition,
+        profile,
         levels: components(sizes.levels, &[], rng),
         compartments: Vec::new(),
         groups: Vec::new(),
@@ -32,9 +36,11 @@ fn grown(sizes: Sizes, tree: Option<Tree>, rng: &mut Rng) -> Policy {
     };
     policy.compartments = components(sizes.compartments, &policy.levels, rng);
     policy.groups = components(sizes.groups, &policy.compartments, rng);
-    let parents = Tree::parents(tree, sizes.groups, rng);
-    for (group, parent) in policy.groups.iter_mut().zip(parents) {
-        group.parent = parent;
+    if profile == Profile::Tree {
+        let parents = Tree::parents(tree, sizes.groups, rng);
+        for (group, parent) in policy.groups.iter_mut().zip(parents) {
+            group.parent = parent;
+        }
     }
     let tags = rising(sizes.labels, 1, 99_999_999, rng);
     policy.labels = tags
@@ -121,7 +127,7 @@ fn user(name: String, policy: &Policy, rng: &mut Rng) -> User {
     let [minimum, row, default, maximum] = levels;
     User {
         name,
-        privileges: rng.index(128) as u8 & policy.edition.privileges(),
+        privileges: rng.index(128) as u8 & policy.variant().privileges(),
         levels: Levels {
             maximum,
             minimum,
@@ -129,7 +135,10 @@ fn user(name: String, policy: &Policy, rng: &mut Rng) -> User {
             row,
         },
         compartments: rights(policy.all_compartments(), |set| set, rng),
-        groups: rights(policy.all_groups(), |set| policy.below(set), rng),
+        groups: match policy.profile {
+            Profile::Tree => rights(policy.all_groups(), |set| policy.below(set), rng),
+            Profile::Release => released(policy.all_groups(), rng),
+        },
     }
 }
 
@@ -146,6 +155,32 @@ fn rights(all: Set, reach: impl Fn(Set) -> Set, rng: &mut Rng) -> Rights {
     Rights {
         read,
         write,
+        default,
+        row,
+    }
+}
+
+/// Groups in the release profile: default contains read, row contains default, and write is read. Often there
+/// are few, so that all of them may be among a row's.
+fn released(all: Set, rng: &mut Rng) -> Rights {
+    let read = match rng.index(4) {
+        0 => Set::NONE,
+        1 | 2 => rng.few(all),
+        _ => rng.subset(all),
+    };
+    let default = match rng.index(4) {
+        0 => read | rng.subset(all),
+        1 => read | rng.few(all),
+        _ => read,
+    };
+    let row = match rng.index(4) {
+        0 => default,
+        1 => default | rng.few(all),
+        _ => default | rng.subset(all),
+    };
+    Rights {
+        read,
+        write: read,
         default,
         row,
     }

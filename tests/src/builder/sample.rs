@@ -1,6 +1,6 @@
 //! The sample co-operative of document 01.
 
-use super::{Component, Edition, Label, Levels, Policy, Rights, Set, User};
+use super::{Component, Edition, Label, Levels, Policy, Profile, Rights, Set, User};
 
 const KILN: u64 = 1 << 0;
 const GLAZE: u64 = 1 << 1;
@@ -15,6 +15,7 @@ const VAULT: u8 = 2;
 pub fn sample() -> Policy {
     Policy {
         edition: Edition::One,
+        profile: Profile::Tree,
         levels: vec![
             component("OPEN", 100, None),
             component("CREW", 200, None),
@@ -51,7 +52,7 @@ fn mara() -> User {
     }
 }
 
-fn rights(sets: [u64; 4]) -> Rights {
+pub fn rights(sets: [u64; 4]) -> Rights {
     let [read, write, default, row] = sets.map(Set::from);
     Rights {
         read,
@@ -61,7 +62,7 @@ fn rights(sets: [u64; 4]) -> Rights {
     }
 }
 
-fn component(name: &str, number: u16, parent: Option<u16>) -> Component {
+pub fn component(name: &str, number: u16, parent: Option<u16>) -> Component {
     Component {
         name: name.to_string(),
         number,
@@ -69,7 +70,7 @@ fn component(name: &str, number: u16, parent: Option<u16>) -> Component {
     }
 }
 
-fn label(tag: u32, level: u8, compartments: u64, groups: u64) -> Label {
+pub fn label(tag: u32, level: u8, compartments: u64, groups: u64) -> Label {
     Label {
         tag,
         level,

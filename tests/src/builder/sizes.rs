@@ -1,12 +1,12 @@
 //! How large random policies are, up to all limits of an edition.
 
-use super::Edition;
+use super::{Edition, Variant};
 use crate::rng::Rng;
 
-/// The edition of a policy, and how many of each it has.
+/// The edition and the profile of a policy, and how many of each it has.
 #[derive(Clone, Copy, Debug)]
 pub struct Sizes {
-    pub edition: Edition,
+    pub variant: Variant,
     pub levels: usize,
     pub compartments: usize,
     pub groups: usize,
@@ -16,9 +16,11 @@ pub struct Sizes {
 
 impl Sizes {
     /// The largest image: 127 blocks in either edition.
-    pub fn full(edition: Edition) -> Sizes {
+    pub fn full(variant: impl Into<Variant>) -> Sizes {
+        let variant = variant.into();
+        let edition = variant.edition;
         Sizes {
-            edition,
+            variant,
             levels: 32,
             compartments: 64,
             groups: edition.most_groups(),
@@ -27,9 +29,11 @@ impl Sizes {
         }
     }
 
-    pub fn small(edition: Edition, rng: &mut Rng) -> Sizes {
+    pub fn small(variant: impl Into<Variant>, rng: &mut Rng) -> Sizes {
+        let variant = variant.into();
+        let edition = variant.edition;
         Sizes {
-            edition,
+            variant,
             levels: rng.range(1, 5),
             compartments: rng.range(0, 6),
             groups: few_groups(edition, rng),
@@ -39,9 +43,11 @@ impl Sizes {
     }
 
     /// One to three blocks of each kind.
-    pub fn several_blocks(edition: Edition, rng: &mut Rng) -> Sizes {
+    pub fn several_blocks(variant: impl Into<Variant>, rng: &mut Rng) -> Sizes {
+        let variant = variant.into();
+        let edition = variant.edition;
         Sizes {
-            edition,
+            variant,
             levels: rng.range(1, 8),
             compartments: rng.range(0, 12),
             groups: rng.range(2, 16),
@@ -51,9 +57,11 @@ impl Sizes {
     }
 
     /// Several blocks of each kind, at most.
-    pub fn medium(edition: Edition, rng: &mut Rng) -> Sizes {
+    pub fn medium(variant: impl Into<Variant>, rng: &mut Rng) -> Sizes {
+        let variant = variant.into();
+        let edition = variant.edition;
         Sizes {
-            edition,
+            variant,
             levels: rng.range(1, 32),
             compartments: rng.range(0, 64),
             groups: rng.range(0, edition.most_groups()),
@@ -63,10 +71,11 @@ impl Sizes {
     }
 
     /// Anything within the limits, often a limit itself.
-    pub fn any(edition: Edition, rng: &mut Rng) -> Sizes {
-        let full = Sizes::full(edition);
+    pub fn any(variant: impl Into<Variant>, rng: &mut Rng) -> Sizes {
+        let variant = variant.into();
+        let full = Sizes::full(variant);
         Sizes {
-            edition,
+            variant,
             levels: up_to(full.levels, rng).max(1),
             compartments: up_to(full.compartments, rng),
             groups: up_to(full.groups, rng),

@@ -8,7 +8,7 @@ use crate::ffi::Answer;
 pub type Ask<'a> = &'a dyn Fn(&[u8]) -> Answer;
 
 /// A byte for a block: its place there, and its value.
-type Byte = (usize, u8);
+pub type Byte = (usize, u8);
 
 /// A block with its place and its check: two sums mod 255 over the bytes before it.
 fn block(place: u8, bytes: &[Byte]) -> Vec<u8> {
@@ -80,9 +80,8 @@ const USER: [Byte; 12] = [
     (4 + 168, 2),
 ];
 
-/// The image with other bytes in one of its blocks.
-fn changed(place: usize, bytes: &[Byte]) -> Vec<u8> {
-    let blocks: [&[Byte]; 4] = [&HEADER, &COMPONENTS, &LABELS, &USER];
+/// An image of four blocks with other bytes in one of them.
+pub fn with(blocks: [&[Byte]; 4], place: usize, bytes: &[Byte]) -> Vec<u8> {
     let changed = blocks.iter().enumerate().map(|(at, own)| {
         let added: &[Byte] = if at == place { bytes } else { &[] };
         block(at as u8, &[own, added].concat())
@@ -90,17 +89,22 @@ fn changed(place: usize, bytes: &[Byte]) -> Vec<u8> {
     changed.collect::<Vec<_>>().concat()
 }
 
+/// The image with other bytes in one of its blocks.
+fn changed(place: usize, bytes: &[Byte]) -> Vec<u8> {
+    with([&HEADER, &COMPONENTS, &LABELS, &USER], place, bytes)
+}
+
 /// As it is.
 pub fn image() -> Vec<u8> {
     changed(0, &[])
 }
 
-const fn refused(number: u32, place: u32) -> Answer {
+pub const fn refused(number: u32, place: u32) -> Answer {
     Answer::Refused { number, place }
 }
 
 /// A refusal by 32, 33 or 34, with block and record.
-const fn at(number: u32, block: u32, record: u32) -> Answer {
+pub const fn at(number: u32, block: u32, record: u32) -> Answer {
     refused(number, block * 65_536 + record)
 }
 
@@ -115,10 +119,10 @@ const FIRST: Answer = at(33, 2, 0);
 const SECOND: Answer = at(33, 2, 1);
 const U: Answer = at(34, 3, 0);
 
-/// Unknown editions; edition 1, where bytes 14..15 are unused; byte 7 and all else that holds nothing;
-/// counts over their limits, which are 256 groups, 32 users and 800 labels; counts that need other blocks;
-/// counts that need other records.
-const IN_HEADER: [Example; 26] = [
+/// Unknown editions; edition 1, where bytes 14..15 are unused; unknown profiles, and the release profile, which
+/// has no parents; byte 7 and all else that holds nothing; counts over their limits, which are 256 groups, 32
+/// users and 800 labels; counts that need other blocks; counts that need other records.
+const IN_HEADER: [Example; 28] = [
     (&[(4, 0)], LAYOUT),
     (&[(4, 1)], LAYOUT),
     (&[(4, 3)], LAYOUT),
@@ -128,7 +132,9 @@ const IN_HEADER: [Example; 26] = [
     (&[(7, 1)], LAYOUT),
     (&[(7, 2)], LAYOUT),
     (&[(7, 2), (14, 0)], LAYOUT),
-    (&[(12, 1)], LAYOUT),
+    (&[(12, 2)], LAYOUT),
+    (&[(12, 255)], LAYOUT),
+    (&[(12, 1)], GROUP_H),
     (&[(13, 1)], LAYOUT),
     (&[(16, 1)], LAYOUT),
     (&[(17, 255)], LAYOUT),

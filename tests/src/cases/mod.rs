@@ -1,12 +1,14 @@
-//! Images for comparing two programs. An edition and a seed name one image, its kind and its size.
+//! Images for comparing two programs. An edition, a profile and a seed name one image, its kind and its size.
 
 pub mod by_hand;
+pub mod release;
 mod tally;
+mod told;
 
 pub use tally::DamageTally;
 
 use crate::builder::layout::{seal, BLOCK};
-use crate::builder::{random, to_image, Edition, Policy, Sizes};
+use crate::builder::{random, to_image, Policy, Sizes, Variant};
 use crate::damage::{Combined, Damage, Draft, Expected};
 use crate::model::Refusal;
 use crate::rng::Rng;
@@ -40,6 +42,8 @@ const OTHERS: [(Kind, usize); 5] = [
 ];
 
 pub struct Case {
+    /// What the image is of, but for damage to it.
+    pub variant: Variant,
     pub kind: Kind,
     pub image: Vec<u8>,
     /// What each damage by itself is refused with, in the order in which they were done.
@@ -47,10 +51,11 @@ pub struct Case {
 }
 
 impl Case {
-    pub fn new(edition: Edition, seed: u64) -> Case {
-        let kind = kind_of(edition, seed);
+    pub fn new(variant: impl Into<Variant>, seed: u64) -> Case {
+        let variant = variant.into();
+        let kind = kind_of(variant, seed);
         let mut source = Source {
-            edition,
+            variant,
             rng: Rng::new(seed),
         };
         let (image, done) = match kind {
@@ -62,7 +67,12 @@ impl Case {
             Kind::ChangedMended => (source.changed(true), Vec::new()),
             Kind::Noise => (noise(&mut source.rng), Vec::new()),
         };
-        Case { kind, image, done }
+        Case {
+            variant,
+            kind,
+            image,
+            done,
+        }
     }
 
     /// What the image is refused with, where the damage tells it.
@@ -80,9 +90,9 @@ impl Case {
 }
 
 /// Seeds in a row go through all kinds in turn.
-fn kind_of(edition: Edition, seed: u64) -> Kind {
-    let damages = Damage::of(edition).into_iter().map(Kind::Damaged);
-    let combined = Combined::ALL.iter().map(|&damage| Kind::Combined(damage));
+fn kind_of(variant: Variant, seed: u64) -> Kind {
+    let damages = Damage::of(variant).into_iter().map(Kind::Damaged);
+    let combined = Combined::of(variant).into_iter().map(Kind::Combined);
     let combined = combined.flat_map(|kind| [kind; COMBINED]);
     let others = OTHERS.iter().flat_map(|&(kind, times)| vec![kind; times]);
     let kinds: Vec<Kind> = damages.chain(combined).chain(others).collect();
@@ -91,20 +101,20 @@ fn kind_of(edition: Edition, seed: u64) -> Kind {
 
 /// What policies are drawn from.
 struct Source {
-    edition: Edition,
+    variant: Variant,
     rng: Rng,
 }
 
 impl Source {
     /// Mostly small, often of several blocks of each kind, now and then up to all limits.
     fn policy(&mut self) -> Policy {
-        let Source { edition, rng } = self;
+        let Source { variant, rng } = self;
         let sizes = match rng.index(150) {
-            0 => Sizes::any(*edition, rng),
-            1 => Sizes::full(*edition),
-            2..=11 => Sizes::medium(*edition, rng),
-            12..=61 => Sizes::several_blocks(*edition, rng),
-            _ => Sizes::small(*edition, rng),
+            0 => Sizes::any(*variant, rng),
+            1 => Sizes::full(*variant),
+            2..=11 => Sizes::medium(*variant, rng),
+            12..=61 => Sizes::several_blocks(*variant, rng),
+            _ => Sizes::small(*variant, rng),
         };
         random(sizes, rng)
     }

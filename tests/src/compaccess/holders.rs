@@ -44,8 +44,11 @@ impl Who {
     }
 }
 
-/// The policy with other users as those who hold COMPACCESS.
+/// The policy with other users as those who hold COMPACCESS, if there is such a privilege.
 pub fn held(policy: Policy, rng: &mut Rng) -> Policy {
+    if !policy.variant().has_compaccess() {
+        return policy;
+    }
     let who = *rng.pick(&Who::ALL);
     let holders = who.of(policy.users.len(), rng);
     policy.held_by(&holders)

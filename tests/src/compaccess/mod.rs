@@ -1,5 +1,5 @@
-//! The two calls of request R-12 by seed: the list of the users who hold COMPACCESS, and the clearing move.
-//! Images of both editions, whole and damaged, of which nobody, one, some or all users hold it, with
+//! The two calls of request R-12 by profile and seed: the list of the users who hold COMPACCESS, and the clearing
+//! move. Images of both editions, whole and damaged, of which nobody, one, some or all users hold it, with
 //! buffers of all lengths.
 
 pub mod by_hand;
@@ -11,7 +11,7 @@ pub use holders::{held, Who};
 pub use tally::HolderTally;
 pub use verdicts::{each_verdict, Verdict, VerdictTally};
 
-use crate::builder::{to_image, Edition};
+use crate::builder::{to_image, Edition, Profile};
 use crate::cases::Case;
 use crate::compare::written;
 use crate::ffi::Answer;
@@ -74,10 +74,10 @@ pub struct Asked {
 }
 
 impl Asked {
-    /// Both calls on the image of a seed, each with a buffer of its own.
-    pub fn both(seed: u64) -> [Asked; 2] {
+    /// Both calls on the image of a profile and a seed, each with a buffer of its own.
+    pub fn both(profile: Profile, seed: u64) -> [Asked; 2] {
         let mut rng = Rng::new(seed);
-        let image = image(seed, &mut rng);
+        let image = image(profile, seed, &mut rng);
         HolderCall::ALL.map(|call| Asked::new(call, &image, &mut rng))
     }
 
@@ -101,13 +101,14 @@ impl Asked {
 
 /// Mostly one of edition 1 that is accepted; often damaged, of edition 2, or of sizes that edition 2 has
 /// no room for.
-fn image(seed: u64, rng: &mut Rng) -> Vec<u8> {
+fn image(profile: Profile, seed: u64, rng: &mut Rng) -> Vec<u8> {
+    let [one, two] = Edition::ALL.map(|edition| edition.of(profile));
     match rng.index(16) {
-        0 | 1 => Case::new(Edition::One, seed).image,
-        2..=4 => Case::new(Edition::Two, seed).image,
-        5 => to_image(&policy(Edition::Two, rng)),
-        6 => to_image(&around_limits(rng)),
-        7 | 8 => damaged(held(policy(Edition::One, rng), rng), rng),
-        _ => to_image(&held(policy(Edition::One, rng), rng)),
+        0 | 1 => Case::new(one, seed).image,
+        2..=4 => Case::new(two, seed).image,
+        5 => to_image(&policy(two, rng)),
+        6 => to_image(&around_limits(profile, rng)),
+        7 | 8 => damaged(held(policy(one, rng), rng), rng),
+        _ => to_image(&held(policy(one, rng), rng)),
     }
 }

@@ -1,7 +1,7 @@
 //! What was seen of the calls of request R-12, to know that they go everywhere.
 
 use super::{Asked, HolderCall};
-use crate::builder::Edition;
+use crate::builder::{Edition, Profile};
 use crate::compare::CallTally;
 use crate::ffi::Answer;
 use crate::model::{check, compaccess_users};
@@ -15,10 +15,13 @@ const BUFFERS: [&str; 5] = [
     "13",
 ];
 
-/// Who holds COMPACCESS in an image that is not refused.
-const HOLDERS: [&str; 7] = [
+/// Who holds COMPACCESS in an image that is not refused. In the release profile it is nobody.
+const NOBODY: [&str; 3] = [
     "nobody of no users",
     "nobody",
+    "nobody, over a limit of edition 2",
+];
+const HOLDERS: [&str; 5] = [
     "one of several",
     "some",
     "all of several",
@@ -27,14 +30,13 @@ const HOLDERS: [&str; 7] = [
 ];
 
 /// The refusals of images, also with no buffer, so that 13 would come too.
-const REFUSED: [&str; 16] = [
+const REFUSED: [&str; 14] = [
     "1 in edition 1",
     "2 in edition 1",
     "31 in edition 1",
     "32 in edition 1",
     "33 in edition 1",
     "34 in edition 1",
-    "35 in edition 1",
     "31 to 35 in edition 1, no buffer",
     "2 in edition 2",
     "31 in edition 2, accepted elsewhere",
@@ -42,9 +44,11 @@ const REFUSED: [&str; 16] = [
     "31 in edition 2, 32 elsewhere",
     "31 in edition 2, 33 elsewhere",
     "31 in edition 2, 34 elsewhere",
-    "31 in edition 2, 35 elsewhere",
     "31 in edition 2, no buffer",
 ];
+
+/// Those by parents, which the release profile has not.
+const REFUSED_TREES: [&str; 2] = ["35 in edition 1", "31 in edition 2, 35 elsewhere"];
 
 #[derive(Debug, Default)]
 pub struct HolderTally(CallTally);
@@ -74,16 +78,31 @@ impl HolderTally {
         }
     }
 
-    /// Asks that each answer came to each call at least so often in each of its ways. A list of nobody is
-    /// done without a buffer; an image is never so short.
-    pub fn assert_varied(&self, least: usize) {
-        for call in HolderCall::ALL.map(HolderCall::name) {
-            for outcomes in [&BUFFERS[..], &HOLDERS, &REFUSED] {
-                self.0.assert_least(call, outcomes, least);
+    /// Asks that each answer of the profile came to each call at least so often in each of its ways. A list of
+    /// nobody is done without a buffer, and in the release profile with every buffer; an image is never so short.
+    pub fn assert_varied(&self, profile: Profile, least: usize) {
+        let [list, clear] = HolderCall::ALL.map(HolderCall::name);
+        for call in [list, clear] {
+            self.0.assert_least(call, &NOBODY, least);
+            self.0.assert_least(call, &REFUSED, least);
+        }
+        self.0.assert_least(clear, &BUFFERS, least);
+        match profile {
+            Profile::Tree => {
+                self.0.assert_least(list, &BUFFERS, least);
+                for call in [list, clear] {
+                    self.0.assert_least(call, &HOLDERS, least);
+                    self.0.assert_least(call, &REFUSED_TREES, least);
+                }
+            }
+            Profile::Release => {
+                self.0.assert_least(list, &["done, a longer buffer"], least);
+                let never = BUFFERS[2..].iter().map(|it| self.0.times(list, it));
+                let held = HOLDERS.iter().map(|it| self.0.times(list, it));
+                assert_eq!(never.chain(held).max(), Some(0), "{self:?}");
             }
         }
-        let [list, clear] =
-            HolderCall::ALL.map(|call| self.0.times(call.name(), "done, no buffer"));
+        let [list, clear] = [list, clear].map(|call| self.0.times(call, "done, no buffer"));
         assert!(list >= least && clear == 0, "{list} and {clear}");
     }
 }
@@ -110,6 +129,7 @@ fn holders(image: &[u8]) -> &'static str {
     let is_over = users > two.most_users() || labels > two.most_labels();
     match holders {
         0 if users == 0 => "nobody of no users",
+        0 if is_over => "nobody, over a limit of edition 2",
         0 => "nobody",
         _ if is_over => "some, over a limit of edition 2",
         1 if users == 1 => "the only user",

@@ -1,10 +1,11 @@
 //! Two faults in one image, of which request R-2 says which one is told. That one is done last,
 //! unless a comment says otherwise.
 
-use super::users::{group, group_of, last_unused, Inclusion};
+use super::release::{group_parent, groups, groups_of, Containing};
+use super::users::{compaccess, group, group_of, last_unused, Inclusion};
 use super::{blocks, components, places, rings, Draft, Expected};
 use crate::builder::layout::{RecordAt, Run};
-use crate::builder::{Edition, COMPACCESS};
+use crate::builder::{Profile, COMPACCESS};
 use crate::rng::Rng;
 
 /// Kinds of records, by their place among a policy's runs.
@@ -26,10 +27,13 @@ fn any(draft: &Draft, rng: &mut Rng, which: Which) -> Option<RecordAt> {
 /// Breaks a rule that a record keeps by itself.
 fn spoil(draft: &mut Draft, rng: &mut Rng, at: RecordAt) -> Option<Expected> {
     let unused = last_unused(draft.edition());
+    let variant = draft.policy.variant();
     let (byte, value) = match at.kind {
+        // A parent, whatever the component is.
+        67 if variant.is_release() && rng.once_in(3) => (34, 0),
         67 => *rng.pick(&[(0, 0), (1, 31), (2, b'a'), (33, 255), (39, 1)]),
         76 => *rng.pick(&[(3, 255), (4, 255), (5, 1), (7, 1)]),
-        _ if draft.edition() == Edition::Two && rng.once_in(2) => (31, COMPACCESS),
+        _ if !variant.has_compaccess() && rng.once_in(2) => (31, COMPACCESS),
         _ => *rng.pick(&[(0, 0), (1, b'a'), (31, 128), (32, 255), (unused, 1)]),
     };
     draft.break_record(at, byte, &[value])
@@ -116,16 +120,52 @@ pub fn parent_missing_and_ring(draft: &mut Draft, rng: &mut Rng) -> Option<Expec
     draft.break_parent(draft.policy.group_at(group), parent)
 }
 
-// "A user's below rules come last."
+// "A user's below rules come last." So do those in their place in the release profile.
 
 fn break_below(draft: &mut Draft, rng: &mut Rng) -> Option<Expected> {
-    let rule = *rng.pick(&Inclusion::ALL);
-    group(draft, rng, rule)
+    match draft.policy.profile {
+        Profile::Tree => {
+            let rule = *rng.pick(&Inclusion::ALL);
+            group(draft, rng, rule)
+        }
+        Profile::Release => {
+            let rule = *rng.pick(&Containing::ALL);
+            groups(draft, rng, rule)
+        }
+    }
 }
 
 fn break_below_of(draft: &mut Draft, rng: &mut Rng, user: usize) -> Option<Expected> {
-    let rule = *rng.pick(&Inclusion::ALL);
-    group_of(draft, rng, rule, user)
+    match draft.policy.profile {
+        Profile::Tree => {
+            let rule = *rng.pick(&Inclusion::ALL);
+            group_of(draft, rng, rule, user)
+        }
+        Profile::Release => {
+            let rule = *rng.pick(&Containing::ALL);
+            groups_of(draft, rng, rule, user)
+        }
+    }
+}
+
+/// In the release profile: a group with a parent, and a user's groups.
+pub fn parent_and_below(draft: &mut Draft, rng: &mut Rng) -> Option<Expected> {
+    break_below(draft, rng)?;
+    group_parent(draft, rng)
+}
+
+/// A user who holds COMPACCESS, and a user's groups: a lower one's, the same one's or a higher one's.
+pub fn holder_and_below(draft: &mut Draft, rng: &mut Rng) -> Option<Expected> {
+    break_below(draft, rng)?;
+    compaccess(draft, rng)
+}
+
+/// A group with a parent comes before a user who holds COMPACCESS.
+pub fn parent_and_holder(draft: &mut Draft, rng: &mut Rng) -> Option<Expected> {
+    any(draft, rng, USERS)?;
+    let parent = group_parent(draft, rng)?;
+    compaccess(draft, rng)?;
+    Some(parent)
 }
 
 /// The ring is told, and done first: by it a group might come to lie below another.

@@ -146,9 +146,6 @@ pub fn parent_of_other_edition(draft: &mut Draft, rng: &mut Rng) -> Option<Expec
 /// first it may then name a group, or none.
 pub fn parent_high_byte(draft: &mut Draft, rng: &mut Rng) -> Option<Expected> {
     let at = any(draft, rng)?;
-    if draft.edition() == Edition::One {
-        return None;
-    }
     let [low, high] = [34, 35].map(|byte| draft.get(at.offset + byte));
     let value = rng.byte_but(high);
     let parent = usize::from(u16::from_le_bytes([low, value]));

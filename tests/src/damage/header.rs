@@ -2,7 +2,7 @@
 
 use super::{Draft, Expected};
 use crate::builder::layout::{Shape, BLOCK};
-use crate::builder::{Component, Edition, Label, Levels, Policy, Rights, Set, User};
+use crate::builder::{Component, Label, Levels, Policy, Rights, Set, User};
 use crate::rng::Rng;
 use std::iter;
 
@@ -44,9 +44,6 @@ fn fits_other(policy: &Policy) -> bool {
 /// Edition 2: what held the number of groups in edition 1 holds one again.
 pub fn old_group_count(draft: &mut Draft, rng: &mut Rng) -> Option<Expected> {
     let old = draft.edition().other().group_count();
-    if draft.edition() == Edition::One {
-        return None;
-    }
     let count = draft.policy.groups.len() as u8;
     let value = match rng.once_in(2) && count > 0 {
         true => count,
@@ -56,11 +53,11 @@ pub fn old_group_count(draft: &mut Draft, rng: &mut Rng) -> Option<Expected> {
     Expected::layout(0)
 }
 
-/// The bytes up to the check that hold nothing: byte 7 and those from 12 on, but for the number of
+/// The bytes up to the check that hold nothing: byte 7 and those from 13 on, but for the number of
 /// groups. Each of the first ones comes often.
 pub fn unused(draft: &mut Draft, rng: &mut Rng) -> Option<Expected> {
     let groups = draft.edition().group_count();
-    let bytes = iter::once(7).chain(12..=509);
+    let bytes = iter::once(7).chain(13..=509);
     let bytes: Vec<usize> = bytes.filter(|at| !groups.contains(at)).collect();
     let at = match rng.once_in(2) {
         true => *rng.pick(&bytes[..5]),

@@ -2,6 +2,9 @@
 //! where the rule allows it, nothing else; and pairs of faults by which one is told and not the
 //! other. Checks are mended where the rule isn't the check itself.
 
+#[macro_use]
+mod table;
+
 mod blocks;
 mod combined;
 mod components;
@@ -11,46 +14,17 @@ mod labels;
 mod lengths;
 mod names;
 mod places;
+mod release;
 mod rings;
 mod users;
 
 pub use draft::{Draft, Expected};
 
-use crate::builder::Edition;
+use crate::builder::{Edition, Profile, Variant};
 use crate::rng::Rng;
 use combined::{COMPONENTS, LABELS, USERS};
+use release::Containing;
 use users::Inclusion;
-
-/// Kinds of damage: for each file and the number that a well-formed image is then refused with, the
-/// kind and the function that does it, with what else the function is told. The function gives the
-/// refusal with its values, or nothing, and changes nothing, where the image lacks what it needs.
-macro_rules! damages {
-    (
-        $(#[$about:meta])*
-        $name:ident:
-        $($number:literal $file:ident { $($kind:ident => $function:ident $(($told:expr))?,)* })*
-    ) => {
-        $(#[$about])*
-        #[derive(Clone, Copy, Debug, PartialEq, Eq, PartialOrd, Ord)]
-        pub enum $name { $($($kind,)*)* }
-
-        impl $name {
-            pub const ALL: &'static [$name] = &[$($($name::$kind,)*)*];
-
-            pub fn number(self) -> u32 {
-                match self {
-                    $($($name::$kind)|* => $number,)*
-                }
-            }
-
-            pub fn apply(self, draft: &mut Draft, rng: &mut Rng) -> Option<Expected> {
-                match self {
-                    $($($name::$kind => $file::$function(draft, rng $(, $told)?),)*)*
-                }
-            }
-        }
-    };
-}
 
 damages! {
     /// One fault.
@@ -88,6 +62,9 @@ damages! {
         BlockExtra => block_extra,
         CountUnfit => count_unfit,
     }
+    31 release {
+        ProfileUnknown => profile_unknown,
+    }
     31 blocks {
         BlockKind => kind,
         BlockKindOrder => kind_order,
@@ -111,6 +88,10 @@ damages! {
         ParentHighByte => parent_high_byte,
         ComponentUnused => unused,
         EditionOtherFits => edition_other_fits,
+    }
+    32 release {
+        GroupParent => group_parent,
+        TreeToldRelease => tree_told_release,
     }
     32 names {
         NameEmpty => empty(names::component),
@@ -167,24 +148,32 @@ damages! {
         RowGroupByDefault => group(Inclusion::RowInDefault),
         RowGroupByWrite => group(Inclusion::RowInWrite),
     }
+    34 release {
+        DefaultLacksGroup => groups(Containing::DefaultHasRead),
+        RowLacksGroup => groups(Containing::RowHasDefault),
+        WriteLacksGroup => groups(Containing::WriteHasRead),
+        WriteHasOtherGroup => groups(Containing::ReadHasWrite),
+        ReleaseToldTree => release_told_tree,
+    }
 }
 
 impl Damage {
-    /// The kinds that an edition has.
-    pub fn of(edition: Edition) -> Vec<Damage> {
-        let kinds = Damage::ALL.iter().copied();
-        kinds.filter(|it| it.is_of(edition)).collect()
-    }
-
-    /// Whether images of an edition can be damaged so. Byte 7 of the header and byte 35 of a component
-    /// are other things in edition 1, and its users may hold COMPACCESS.
-    pub fn is_of(self, edition: Edition) -> bool {
-        let of_two = [
-            Damage::OldGroupCount,
-            Damage::ParentHighByte,
-            Damage::Compaccess,
-        ];
-        edition == Edition::Two || !of_two.contains(&self)
+    /// Whether images of an edition in a profile can be damaged so. Byte 7 of the header and byte 35 of a
+    /// component are other things in edition 1. COMPACCESS may be held where there is such a privilege. The
+    /// release profile has no parents, and other rules of groups.
+    pub fn is_of(self, variant: Variant) -> bool {
+        use Damage::*;
+        match self {
+            OldGroupCount | ParentHighByte => variant.edition == Edition::Two,
+            Compaccess => !variant.has_compaccess(),
+            RingOfOne | RingOfTwo | RingLong | LowerLeadsIntoRing | WriteGroup | DefaultGroup
+            | RowGroupByDefault | RowGroupByWrite | TreeToldRelease => {
+                variant.profile == Profile::Tree
+            }
+            GroupParent | DefaultLacksGroup | RowLacksGroup | WriteLacksGroup
+            | WriteHasOtherGroup | ReleaseToldTree => variant.profile == Profile::Release,
+            _ => true,
+        }
     }
 
     /// Whether no fault after block 0 is told beside this one. Such kinds stand first.
@@ -218,6 +207,8 @@ damages! {
         ComponentAndRing => record_and_ring(COMPONENTS),
         ClassAndClash => class_and_clash,
         ParentMissingAndRing => parent_missing_and_ring,
+        ParentAndBelow => parent_and_below,
+        ParentAndHolder => parent_and_holder,
     }
     33 combined {
         TwoLabels => two_in_block(LABELS),
@@ -233,12 +224,28 @@ damages! {
         UserAndRing => record_and_ring(USERS),
         BelowAndLaterUser => below_and_later_user,
         TwoBelow => two_below,
+        HolderAndBelow => holder_and_below,
     }
     35 combined {
         RingAndBelow => ring_and_below,
     }
     35 rings {
         TwoRings => two,
+    }
+}
+
+impl Combined {
+    /// The same of two faults. The release profile has no rings.
+    pub fn is_of(self, variant: Variant) -> bool {
+        use Combined::*;
+        match self {
+            LayoutAndRing | ComponentAndRing | ParentMissingAndRing | LabelAndRing
+            | UserAndRing | RingAndBelow | TwoRings => variant.profile == Profile::Tree,
+            ParentAndBelow | HolderAndBelow | ParentAndHolder => {
+                variant.profile == Profile::Release
+            }
+            _ => true,
+        }
     }
 }
 

@@ -2,26 +2,26 @@
 //! damage says.
 
 use super::{Combined, Damage, Draft, Expected};
-use crate::builder::{random, Edition, Sizes};
-use crate::in_each_edition;
+use crate::builder::{random, Edition, Sizes, Variant};
 use crate::model::{check, faults, first_fault, Fault, Refusal};
 use crate::rng::Rng;
+use crate::{in_each_edition, in_each_variant};
 use std::collections::BTreeSet;
 
-fn draft(edition: Edition, seed: u64, rng: &mut Rng) -> Draft {
+fn draft(variant: Variant, seed: u64, rng: &mut Rng) -> Draft {
     let sizes = match seed {
-        0..=4 => Sizes::any(edition, rng),
-        5..=39 => Sizes::medium(edition, rng),
-        40..=139 => Sizes::several_blocks(edition, rng),
-        _ => Sizes::small(edition, rng),
+        0..=4 => Sizes::any(variant, rng),
+        5..=39 => Sizes::medium(variant, rng),
+        40..=139 => Sizes::several_blocks(variant, rng),
+        _ => Sizes::small(variant, rng),
     };
     Draft::new(random(sizes, rng))
 }
 
-/// Damages policies of an edition by many seeds, and shows the damaged images that are as they should
-/// be.
+/// Damages policies of an edition and a profile by many seeds, and shows the damaged images that are as they
+/// should be.
 fn try_often(
-    edition: Edition,
+    variant: Variant,
     name: &str,
     number: u32,
     apply: impl Fn(&mut Draft, &mut Rng) -> Option<Expected>,
@@ -29,9 +29,9 @@ fn try_often(
 ) {
     let mut applied = 0;
     for seed in 0..300 {
-        let case = format!("{name}, {edition:?}, seed {seed}");
+        let case = format!("{name}, {variant:?}, seed {seed}");
         let mut rng = Rng::new(seed);
-        let mut draft = draft(edition, seed, &mut rng);
+        let mut draft = draft(variant, seed, &mut rng);
         let Some(expected) = apply(&mut draft, &mut rng) else {
             assert_eq!(check(&draft.image), Ok(()), "{case}");
             continue;
@@ -44,7 +44,7 @@ fn try_often(
         }
         see(&draft, expected);
     }
-    assert!(applied >= 25, "{name}, {edition:?}: {applied} times");
+    assert!(applied >= 25, "{name}, {variant:?}: {applied} times");
 }
 
 fn keys(image: &[u8]) -> usize {
@@ -52,12 +52,12 @@ fn keys(image: &[u8]) -> usize {
     keys.len()
 }
 
-fn damages_are_refused(edition: Edition) {
+fn damages_are_refused(variant: Variant) {
     let in_header = Expected::Fault(Fault::Layout { block: 0 });
-    for damage in Damage::of(edition) {
+    for damage in Damage::of(variant) {
         let apply = |draft: &mut Draft, rng: &mut Rng| damage.apply(draft, rng);
         let name = format!("{damage:?}");
-        try_often(edition, &name, damage.number(), apply, |_, expected| {
+        try_often(variant, &name, damage.number(), apply, |_, expected| {
             let hides = matches!(expected, Expected::Refused(_)) || expected == in_header;
             assert_eq!(damage.hides_the_rest(), hides, "{name}");
             let is_late = matches!(
@@ -70,11 +70,11 @@ fn damages_are_refused(edition: Edition) {
 }
 
 /// Of two faults one is told, and the other is there too.
-fn combined_damages_are_refused(edition: Edition) {
-    for damage in Combined::ALL {
+fn combined_damages_are_refused(variant: Variant) {
+    for damage in Combined::of(variant) {
         let name = format!("{damage:?}");
         let apply = |draft: &mut Draft, rng: &mut Rng| damage.apply(draft, rng);
-        try_often(edition, &name, damage.number(), apply, |draft, _| {
+        try_often(variant, &name, damage.number(), apply, |draft, _| {
             assert!(keys(&draft.image) >= 2, "{name}");
         });
     }
@@ -84,7 +84,7 @@ fn combined_damages_are_refused(edition: Edition) {
 fn the_lowest_group_need_not_stand_on_the_ring(edition: Edition) {
     let damage = Damage::LowerLeadsIntoRing;
     let apply = |draft: &mut Draft, rng: &mut Rng| damage.apply(draft, rng);
-    try_often(edition, "", 35, apply, |draft, expected| {
+    try_often(edition.tree(), "", 35, apply, |draft, expected| {
         let Refusal::Ring(group) = expected.refusal() else {
             panic!("{expected:?}");
         };
@@ -94,26 +94,36 @@ fn the_lowest_group_need_not_stand_on_the_ring(edition: Edition) {
     });
 }
 
-in_each_edition! {
+in_each_variant! {
     damages_are_refused
     combined_damages_are_refused
+}
+
+in_each_edition! {
     the_lowest_group_need_not_stand_on_the_ring
 }
 
-/// A kind that an edition has not is never done to it.
+/// A kind that an edition in a profile has not is never done to it, and each is of some.
 #[test]
-fn damage_of_one_edition_alone() {
-    let mut left_out = 0;
-    for edition in Edition::ALL {
-        let kinds = Damage::ALL.iter().filter(|it| !it.is_of(edition));
-        for damage in kinds {
-            left_out += 1;
-            for seed in 0..100 {
-                let mut rng = Rng::new(seed);
-                let mut draft = draft(edition, seed, &mut rng);
+fn damage_of_one_edition_or_profile_alone() {
+    let left_out = Variant::ALL.map(|variant| Damage::ALL.len() - Damage::of(variant).len());
+    // Two kinds are only of edition 2, and COMPACCESS is at fault but in a tree of edition 1. Six kinds are only
+    // of the release profile, and nine only of the other.
+    assert_eq!(left_out, [3 + 6, 6, 2 + 9, 9]);
+    let left_out = Variant::ALL.map(|variant| Combined::ALL.len() - Combined::of(variant).len());
+    assert_eq!(left_out, [3, 3, 7, 7]);
+    for variant in Variant::ALL {
+        for seed in 0..100 {
+            let mut rng = Rng::new(seed);
+            let mut draft = draft(variant, seed, &mut rng);
+            let whole = draft.image.clone();
+            for damage in Damage::ALL.iter().filter(|it| !it.is_of(variant)) {
                 assert_eq!(damage.apply(&mut draft, &mut rng), None, "{damage:?}");
             }
+            for damage in Combined::ALL.iter().filter(|it| !it.is_of(variant)) {
+                assert_eq!(damage.apply(&mut draft, &mut rng), None, "{damage:?}");
+            }
+            assert_eq!(draft.image, whole, "{variant:?}, seed {seed}");
         }
     }
-    assert_eq!(left_out, 3);
 }

@@ -10,7 +10,7 @@ pub fn any(draft: &Draft, rng: &mut Rng) -> Option<RecordAt> {
     Some(draft.policy.user_at(any_place(draft, rng)?))
 }
 
-fn any_place(draft: &Draft, rng: &mut Rng) -> Option<usize> {
+pub fn any_place(draft: &Draft, rng: &mut Rng) -> Option<usize> {
     let [.., users] = draft.policy.runs();
     places::any(&users, rng)
 }
@@ -22,7 +22,7 @@ fn later(draft: &Draft, rng: &mut Rng) -> Option<usize> {
 }
 
 /// Writes the record of a user as the policy now has it.
-fn rewrite(draft: &mut Draft, place: usize) -> Option<Expected> {
+pub fn rewrite(draft: &mut Draft, place: usize) -> Option<Expected> {
     let record = user_record(draft.edition(), &draft.policy.users[place]);
     draft.break_record(draft.policy.user_at(place), 0, &record)
 }
@@ -66,12 +66,9 @@ pub fn privilege_128(draft: &mut Draft, rng: &mut Rng) -> Option<Expected> {
     draft.break_record(at, 31, &[value])
 }
 
-/// Edition 2: a user holds COMPACCESS beside what else is held.
+/// Edition 2 or the release profile: a user holds COMPACCESS beside what else is held.
 pub fn compaccess(draft: &mut Draft, rng: &mut Rng) -> Option<Expected> {
     let at = any(draft, rng)?;
-    if draft.edition() == Edition::One {
-        return None;
-    }
     let value = draft.get(at.offset + 31) | COMPACCESS;
     draft.break_record(at, 31, &[value])
 }
@@ -195,13 +192,17 @@ pub fn compartment(draft: &mut Draft, rng: &mut Rng, rule: Inclusion) -> Option<
     let user = any_place(draft, rng)?;
     let count = draft.policy.compartments.len().min(64);
     let one = Set::of(rng.place(0, count)?);
-    let [read, write, default, row] = rule.broken(one);
     let rights = &mut draft.policy.users[user].compartments;
+    with_one(rights, one, rule.broken(one));
+    rewrite(draft, user)
+}
+
+/// Takes one place from all sets, and adds these to them.
+pub fn with_one(rights: &mut Rights, one: Set, [read, write, default, row]: [Set; 4]) {
     rights.read = rights.read & !one | read;
     rights.write = rights.write & !one | write;
     rights.default = rights.default & !one | default;
     rights.row = rights.row & !one | row;
-    rewrite(draft, user)
 }
 
 /// Breaks a rule by below for any user.

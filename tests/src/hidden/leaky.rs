@@ -2,7 +2,7 @@
 
 use super::program::{HostCall, Model, Program};
 use super::scene::Scene;
-use crate::builder::{to_image, Set};
+use crate::builder::{to_image, Profile, Set};
 use crate::calls::Call;
 use crate::ffi::Answer;
 use crate::row_calls::{Lent, RowCall};
@@ -53,13 +53,20 @@ impl Leak {
     ];
 }
 
-/// The image of the scene's policy with all that there is to read for the scene's user.
+/// The image of the scene's policy with all that there is to read for the scene's user. In the release profile
+/// the most is read without read groups.
 pub fn lifted(scene: &Scene) -> Vec<u8> {
     let mut policy = scene.policy.clone();
     let user = &mut policy.users[scene.user];
     user.levels.maximum = policy.levels.len() as u8 - 1;
     user.compartments.read = Set::first(policy.compartments.len());
-    user.groups.read = Set::first(policy.groups.len());
+    match policy.profile {
+        Profile::Tree => user.groups.read = Set::first(policy.groups.len()),
+        Profile::Release => {
+            user.groups.read = Set::NONE;
+            user.groups.write = Set::NONE;
+        }
+    }
     to_image(&policy)
 }
 

@@ -16,13 +16,13 @@ pub use scene::Scene;
 pub use sequence::{sequence, Step};
 pub use tally::HiddenTally;
 
-use crate::builder::Edition;
+use crate::builder::Variant;
 use crate::rng::Rng;
 
-/// The scene of an edition and a seed, and its sequence of so many calls.
-pub fn case(edition: Edition, seed: u64, calls: usize) -> (Scene, Vec<Step>) {
+/// The scene of an edition, a profile and a seed, and its sequence of so many calls.
+pub fn case(variant: Variant, seed: u64, calls: usize) -> (Scene, Vec<Step>) {
     let mut rng = Rng::new(seed);
-    let scene = Scene::new(edition, &mut rng);
+    let scene = Scene::new(variant, &mut rng);
     let steps = sequence(&scene, calls, rng);
     (scene, steps)
 }

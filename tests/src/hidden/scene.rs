@@ -1,7 +1,7 @@
 //! A policy, one of its users, and two tables that agree in the rows that the user may read at the
 //! maximum read label.
 
-use crate::builder::{to_image, Edition, Policy};
+use crate::builder::{to_image, Policy, Variant};
 use crate::model::{accepted, may_read_at_maximum};
 use crate::rng::Rng;
 use crate::tables::row;
@@ -23,8 +23,8 @@ pub struct Scene {
 }
 
 impl Scene {
-    pub fn new(edition: Edition, rng: &mut Rng) -> Scene {
-        let (policy, user) = policy_and_user(edition, rng);
+    pub fn new(variant: Variant, rng: &mut Rng) -> Scene {
+        let (policy, user) = policy_and_user(variant, rng);
         let image = to_image(&policy);
         let readable = readable(&policy, &image, user);
         let mut scene = Scene {
@@ -119,9 +119,9 @@ impl Scene {
 }
 
 /// A policy with users, one of whom has lost READ and FULL.
-fn policy_and_user(edition: Edition, rng: &mut Rng) -> (Policy, usize) {
+fn policy_and_user(variant: Variant, rng: &mut Rng) -> (Policy, usize) {
     loop {
-        let mut policy = policy(edition, rng);
+        let mut policy = policy(variant, rng);
         if let Some(user) = rng.place(0, policy.users.len()) {
             policy.users[user].privileges &= !SEES_ALL;
             return (policy, user);

@@ -2,7 +2,7 @@
 
 use super::program::{HostCall, Model, Program};
 use super::scene::Scene;
-use crate::builder::{Label, Policy};
+use crate::builder::{Label, Policy, Profile};
 use crate::calls::Call;
 use crate::ffi::{Answer, SESSION};
 use crate::model::{self, Image};
@@ -193,13 +193,17 @@ fn break_session(policy: &Policy, session: &mut [u8; SESSION], rng: &mut Rng) {
     let _ = rng.pick(&ways).apply(policy, session, rng);
 }
 
-/// A session's label with more of all that the policy has, up to all of it.
+/// A session's label with more of all that the policy has, up to all of it. In the release profile fewer groups
+/// are more.
 fn more_than(session: &[u8; SESSION], policy: &Policy, rng: &mut Rng) -> Label {
     let label = label_at(session, LABEL_AT);
     Label {
         tag: 0,
         level: rng.with_ends(label.level.into(), policy.levels.len() - 1) as u8,
         compartments: label.compartments | rng.subset(policy.all_compartments()),
-        groups: label.groups | rng.subset(policy.all_groups()),
+        groups: match policy.profile {
+            Profile::Tree => label.groups | rng.subset(policy.all_groups()),
+            Profile::Release => rng.subset(label.groups),
+        },
     }
 }

@@ -18,12 +18,12 @@ pub enum Fault {
     },
     /// The parents of this group never end.
     Ring { group: usize },
-    /// The groups of this user break a rule by below.
+    /// The groups of this user break a rule by below, or in the release profile one of those in its place.
     Below { block: usize, record: usize },
 }
 
 /// "The lowest block decides among 31 to 34", "35 comes after all these; a user's below rules come
-/// last".
+/// last". By R-10 "in place of the below rules (a user's come last, as those did)".
 #[derive(Clone, Copy, Debug, PartialEq, Eq, PartialOrd, Ord)]
 enum Stage {
     Blocks,
@@ -128,11 +128,11 @@ fn in_records(image: &Image, run: &Run) -> Vec<Fault> {
     at_fault.map(fault).collect()
 }
 
-/// Users whose groups break a rule by below. Where parents never end a walk along them is cut; such
+/// Users whose groups break a rule that comes last. Where parents never end a walk along them is cut; such
 /// an image has a ring too, which comes before.
 fn by_below(image: &Image) -> Vec<Fault> {
     let run = image.counts.users();
-    let broken = (0..run.count).filter(|&user| !records::user_holds_by_below(image, user));
+    let broken = (0..run.count).filter(|&user| !records::user_groups_hold(image, user));
     let places = broken.map(|user| run.at(user));
     places
         .map(|(block, record)| Fault::Below { block, record })

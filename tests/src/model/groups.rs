@@ -2,13 +2,14 @@
 
 use super::layout::Image;
 use super::places::Places;
+use super::profile::Profile;
 use std::iter;
 
-/// The parent of each group. One that is no group is a fault of the group's record; nothing is
-/// above it.
+/// The parent of each group. One that is no group, and any in the release profile, is a fault of the group's
+/// record; nothing is above it.
 fn parents(image: &Image) -> Vec<Option<usize>> {
     let groups = image.counts.groups;
-    let exists = |&place: &usize| place < groups;
+    let exists = |&place: &usize| place < groups && image.profile() == Profile::Tree;
     (0..groups)
         .map(|group| Some(image.parent(image.group(group))).filter(exists))
         .collect()

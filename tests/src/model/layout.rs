@@ -3,6 +3,7 @@
 use super::edition::{edition, Edition, Records};
 use super::groups::subgroups;
 use super::places::Places;
+use super::profile::Profile;
 use std::iter;
 use std::ops::Range;
 
@@ -67,6 +68,7 @@ impl Run {
 
 pub struct Counts {
     pub edition: &'static Edition,
+    pub profile: Profile,
     pub levels: usize,
     pub compartments: usize,
     pub groups: usize,
@@ -80,6 +82,7 @@ impl Counts {
         let edition = edition(header[4])?;
         let counts = Counts {
             edition,
+            profile: Profile::of(header[12])?,
             levels: usize::from(header[5]),
             compartments: usize::from(header[6]),
             groups: number_at(header, &edition.group_count),
@@ -139,10 +142,10 @@ impl Counts {
     }
 }
 
-/// The bytes of a header, up to its check, that hold nothing: byte 7 and those from 12 on, but for the
+/// The bytes of a header, up to its check, that hold nothing: byte 7 and those from 13 on, but for the
 /// number of groups.
 fn unused_in_header(edition: &Edition) -> impl Iterator<Item = usize> + '_ {
-    let bytes = iter::once(7).chain(12..510);
+    let bytes = iter::once(7).chain(13..510);
     bytes.filter(|at| !edition.group_count.contains(at))
 }
 
@@ -171,6 +174,10 @@ impl Image<'_> {
 
     pub fn edition(&self) -> &'static Edition {
         self.counts.edition
+    }
+
+    pub fn profile(&self) -> Profile {
+        self.counts.profile
     }
 
     pub fn block(&self, place: usize) -> &[u8] {

@@ -2,6 +2,8 @@
 
 use super::groups::below;
 use super::layout::{set_at, sets_at, u16_at, u32_at, Image, Kind, COMPARTMENT_SET};
+use super::places::Places;
+use super::profile::Profile;
 
 /// Whether the record at a place keeps all rules that look at no other record of its kind.
 pub fn holds(image: &Image, kind: Kind, place: usize) -> bool {
@@ -36,14 +38,17 @@ pub fn all_zero(bytes: &[u8]) -> bool {
 fn component_holds(image: &Image, place: usize) -> bool {
     let record = image.component(place);
     let class = class_at(image, place);
-    let edition = image.edition();
-    let parent = image.parent(record);
-    let parent_holds = parent == edition.no_parent || class == 3 && parent < image.counts.groups;
     record[0] == class
         && name_holds(record[1], &record[2..32])
         && u16_at(record, 32) <= 9_999
-        && parent_holds
-        && all_zero(&record[edition.parent.end..])
+        && parent_holds(image, class, image.parent(record))
+        && all_zero(&record[image.edition().parent.end..])
+}
+
+/// A group may have another, or itself, as its parent; by R-10 there are "no parents" in the release profile.
+fn parent_holds(image: &Image, class: u8, parent: usize) -> bool {
+    let is_group = class == 3 && parent < image.counts.groups;
+    parent == image.edition().no_parent || is_group && image.profile() == Profile::Tree
 }
 
 /// The class that the counts put at a place among all components.
@@ -118,8 +123,9 @@ fn user_holds(image: &Image, place: usize) -> bool {
     let levels = [maximum, minimum, default, row];
     let groups = image.user_groups(record);
     let end = 72 + groups.len() * image.edition().group_set;
+    let privileges = image.edition().privileges & image.profile().privileges();
     name_holds(record[0], &record[1..31])
-        && record[31] & !image.edition().privileges == 0
+        && record[31] & !privileges == 0
         && levels
             .iter()
             .all(|&level| usize::from(level) < image.counts.levels)
@@ -143,12 +149,26 @@ fn compartments_hold(image: &Image, record: &[u8]) -> bool {
         && row.is_subset(write)
 }
 
-/// The rules by below.
-pub fn user_holds_by_below(image: &Image, place: usize) -> bool {
-    let [read, write, default, row] = image.user_groups(image.user(place));
+/// The rules of a user's groups, which come last: those by below, or in the release profile those in their
+/// place.
+pub fn user_groups_hold(image: &Image, place: usize) -> bool {
+    let sets = image.user_groups(image.user(place));
+    match image.profile() {
+        Profile::Tree => by_below(image, sets),
+        Profile::Release => by_release(sets),
+    }
+}
+
+fn by_below(image: &Image, [read, write, default, row]: [Places; 4]) -> bool {
     let below_read = below(image, &read);
     write.is_subset(&below_read)
         && default.is_subset(&below_read)
         && row.is_subset(&below(image, &default))
         && row.is_subset(&below(image, &write))
+}
+
+/// Default groups "contain all of the user's read groups", "row groups must contain default groups, and write
+/// groups equal read groups".
+fn by_release([read, write, default, row]: [Places; 4]) -> bool {
+    read.is_subset(&default) && default.is_subset(&row) && write == read
 }

@@ -34,7 +34,8 @@ pub enum Refusal {
     Compartments,
     /// 10: its groups are not.
     Groups,
-    /// 11: the row label would stand outside the new write sets or above the new level.
+    /// 11: the row label would stand outside the new write sets or above the new level; in the release profile
+    /// it would lack a group of the new label.
     RowLabel,
     /// 12: a width isn't 5..512, or the table's length isn't a multiple of it.
     Width,

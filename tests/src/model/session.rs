@@ -3,6 +3,8 @@
 use super::groups::below;
 use super::label::{Label, LABEL};
 use super::layout::Image;
+use super::places::Places;
+use super::profile::Profile;
 use super::text::label_of;
 use super::user::{place_of, User};
 use super::Refusal;
@@ -95,7 +97,7 @@ pub fn user_of(image: &Image, session: &Session) -> Result<User, Refusal> {
 
 /// "New session label: minimum ≤ level ≤ maximum; compartments in read; groups in below(read); and
 /// the present row label has level ≤ the new level, compartments and groups inside the new write
-/// sets."
+/// sets." By R-10 other groups in the release profile.
 fn session_label_holds(
     image: &Image,
     user: &User,
@@ -108,28 +110,49 @@ fn session_label_holds(
     if !label.compartments.is_subset(&user.read.compartments) {
         return Err(Refusal::Compartments);
     }
-    if !label.groups.is_subset(&below(image, &user.read.groups)) {
+    if !session_groups_hold(image, user, &label.groups) {
         return Err(Refusal::Groups);
     }
-    let write = user.write_sets(image, label);
     let row_inside = row.level <= label.level
-        && row.compartments.is_subset(&write.compartments)
-        && row.groups.is_subset(&write.groups);
+        && row.compartments.is_subset(&user.write_compartments(label))
+        && row_groups_hold(image, user, label, &row.groups);
     row_inside.then_some(()).ok_or(Refusal::RowLabel)
 }
 
 /// "New row label: minimum ≤ level ≤ session level; compartments and groups inside the session's
-/// write sets."
+/// write sets." By R-10 other groups in the release profile.
 fn row_label_holds(image: &Image, user: &User, label: &Label, row: &Label) -> Result<(), Refusal> {
     if row.level < user.minimum || row.level > label.level {
         return Err(Refusal::Level);
     }
-    let write = user.write_sets(image, label);
-    if !row.compartments.is_subset(&write.compartments) {
+    if !row.compartments.is_subset(&user.write_compartments(label)) {
         return Err(Refusal::Compartments);
     }
-    if !row.groups.is_subset(&write.groups) {
+    if !row_groups_hold(image, user, label, &row.groups) {
         return Err(Refusal::Groups);
     }
     Ok(())
+}
+
+/// "Groups in below(read)"; in the release profile "a session's groups must exist and contain all of the
+/// user's read groups".
+fn session_groups_hold(image: &Image, user: &User, groups: &Places) -> bool {
+    let read = &user.read.groups;
+    match image.profile() {
+        Profile::Tree => groups.is_subset(&below(image, read)),
+        Profile::Release => exist(image, groups) && read.is_subset(groups),
+    }
+}
+
+/// Groups "inside the session's write sets"; in the release profile "a row label's groups must exist and
+/// contain the session's, in place of lying in its write groups".
+fn row_groups_hold(image: &Image, user: &User, session: &Label, groups: &Places) -> bool {
+    match image.profile() {
+        Profile::Tree => groups.is_subset(&user.write_groups(image, session)),
+        Profile::Release => exist(image, groups) && session.groups.is_subset(groups),
+    }
+}
+
+fn exist(image: &Image, groups: &Places) -> bool {
+    groups.all_below(image.counts.groups)
 }

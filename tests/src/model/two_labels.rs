@@ -1,21 +1,35 @@
-//! Two labels: dominance under a policy, by request R-3 of document 02, and merging, which is lent no
-//! image. That what is read is dominated is for others to find out: nothing of reading is used here.
+//! Two labels: dominance under a policy, by requests of document 02, and merging, which is lent
+//! no image. That what is read is dominated is for others to find out: nothing of reading is used here.
 
 use super::label::Label;
 use super::layout::Image;
 use super::places::Places;
+use super::profile::Profile;
 use super::Refusal;
 use std::iter;
 
-/// "Label 1 dominates label 2: its level is at least as high, it has all compartments of 2", and 2 has
-/// no groups or one of them "lies in below(groups of label 1)".
+/// "Label 1 dominates label 2: its level is at least as high, it has all compartments of 2", and its groups
+/// dominate those of 2.
 pub fn dominates(image: &Image, first: &Label, second: &Label) -> Result<bool, Refusal> {
     both_exist(image, first, second)?;
-    let is_reached = |group| line(image, group).any(|it| first.groups.contains(it));
-    let by_groups = second.groups.is_empty() || second.groups.iter().any(is_reached);
+    let by_groups = match image.profile() {
+        Profile::Tree => groups_dominate(image, &first.groups, &second.groups),
+        Profile::Release => released_further(&first.groups, &second.groups),
+    };
     Ok(first.level >= second.level
         && second.compartments.is_subset(&first.compartments)
         && by_groups)
+}
+
+/// 2 has no groups or one of them "lies in below(groups of label 1)".
+fn groups_dominate(image: &Image, first: &Places, second: &Places) -> bool {
+    let is_reached = |group| line(image, group).any(|it| first.contains(it));
+    second.is_empty() || second.iter().any(is_reached)
+}
+
+/// "Dominance turns the group test round likewise": label 2 goes to every group that label 1 goes to.
+fn released_further(first: &Places, second: &Places) -> bool {
+    first.iter().all(|group| second.contains(group))
 }
 
 /// "Strictly: and the labels differ."

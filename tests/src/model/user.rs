@@ -20,7 +20,7 @@ const BITS: [(u8, Privilege); 3] = [
     (4, Privilege::CompAccess),
 ];
 
-/// Compartments and groups that a user, or a session, may read or write.
+/// Compartments and groups that a user may read or write.
 pub struct Rights {
     pub compartments: Places,
     pub groups: Places,
@@ -72,15 +72,15 @@ impl User {
         self.privileges.contains(&privilege)
     }
 
-    /// "The session's write compartments are its compartments that the user may write. Its write
-    /// groups are below(session groups) ∩ below(write groups)."
-    pub fn write_sets(&self, image: &Image, session: &Label) -> Rights {
-        let below_session = below(image, &session.groups);
-        let below_write = below(image, &self.write.groups);
-        Rights {
-            compartments: session.compartments & self.write.compartments,
-            groups: below_session & below_write,
-        }
+    /// "The session's write compartments are its compartments that the user may write."
+    pub fn write_compartments(&self, session: &Label) -> Places {
+        session.compartments & self.write.compartments
+    }
+
+    /// "Its write groups are below(session groups) ∩ below(write groups)." The release profile has no use for
+    /// them.
+    pub fn write_groups(&self, image: &Image, session: &Label) -> Places {
+        below(image, &session.groups) & below(image, &self.write.groups)
     }
 }
 

@@ -3,6 +3,7 @@
 use super::groups::below;
 use super::label::Label;
 use super::layout::{set_at, u32_at, Image, COMPARTMENT_SET};
+use super::profile::Profile;
 use super::session::{user_of, Session};
 use super::user::{Privilege, User};
 use super::Refusal;
@@ -14,8 +15,9 @@ pub fn may_read(image: &Image, session: &Session, tag: u32) -> Result<bool, Refu
 }
 
 /// "The maximum read label is the user's maximum level with the read compartments and read groups;
-/// what is readable at it follows the same rules, COMPACCESS included." A user is given by its place;
-/// where there is none, nothing is readable.
+/// what is readable at it follows the same rules, COMPACCESS included." By R-10 it "means exactly the user's
+/// read groups" in the release profile too. A user is given by its place; where there is none, nothing is
+/// readable.
 pub fn may_read_at_maximum(image: &Image, user: usize, tag: u32) -> bool {
     let Some(user) = User::at(image, user) else {
         return false;
@@ -54,8 +56,8 @@ pub fn may_write(image: &Image, session: &Session, tag: u32) -> Result<bool, Ref
     if writes_all {
         return Ok(true);
     }
-    let by_compartments = user.has(Privilege::CompAccess)
-        && is_writable_by_compartments(image, &user, &session.label, &row);
+    let by_compartments =
+        user.has(Privilege::CompAccess) && is_writable_by_compartments(&user, &session.label, &row);
     Ok(by_compartments || is_writable(image, &user, &session.label, &row))
 }
 
@@ -71,12 +73,17 @@ fn label_with(image: &Image, tag: u32) -> Option<Label> {
 }
 
 /// "**Read**: row level ≤ session level; row groups empty, or one of them in below(session groups);
-/// row compartments all in the session's."
+/// row compartments all in the session's." By R-10, in the release profile "a row passes the group test of
+/// reading exactly if all session groups are among the row's".
 fn is_readable(image: &Image, session: &Label, row: &Label) -> bool {
-    let shares_group = row.groups.shares_one(&below(image, &session.groups));
-    row.level <= session.level
-        && (row.groups.is_empty() || shares_group)
-        && row.compartments.is_subset(&session.compartments)
+    let by_groups = match image.profile() {
+        Profile::Tree => {
+            let shares_group = row.groups.shares_one(&below(image, &session.groups));
+            row.groups.is_empty() || shares_group
+        }
+        Profile::Release => session.groups.is_subset(&row.groups),
+    };
+    row.level <= session.level && by_groups && row.compartments.is_subset(&session.compartments)
 }
 
 /// "**COMPACCESS** only adds. With the level test met: a row with compartments is also readable if
@@ -92,23 +99,41 @@ fn level_is_writable(user: &User, session: &Label, row: &Label) -> bool {
     user.minimum <= row.level && row.level <= session.level
 }
 
+fn is_writable(image: &Image, user: &User, session: &Label, row: &Label) -> bool {
+    match image.profile() {
+        Profile::Tree => is_writable_by_tree(image, user, session, row),
+        Profile::Release => is_writable_by_release(image, user, session, row),
+    }
+}
+
 /// "**Write**: .. Row has groups: one is in the write groups, and all its compartments are in the
 /// session's. No groups: all its compartments are in the write compartments."
-fn is_writable(image: &Image, user: &User, session: &Label, row: &Label) -> bool {
+fn is_writable_by_tree(image: &Image, user: &User, session: &Label, row: &Label) -> bool {
     if !level_is_writable(user, session, row) {
         return false;
     }
-    let write = user.write_sets(image, session);
     if row.groups.is_empty() {
-        return row.compartments.is_subset(&write.compartments);
+        return has_write_compartments(user, session, row);
     }
-    row.groups.shares_one(&write.groups) && row.compartments.is_subset(&session.compartments)
+    let has_group = row.groups.shares_one(&user.write_groups(image, session));
+    has_group && row.compartments.is_subset(&session.compartments)
+}
+
+/// "Writing asks the read test, the minimum level, and write access to all row compartments."
+fn is_writable_by_release(image: &Image, user: &User, session: &Label, row: &Label) -> bool {
+    is_readable(image, session, row)
+        && user.minimum <= row.level
+        && has_write_compartments(user, session, row)
+}
+
+fn has_write_compartments(user: &User, session: &Label, row: &Label) -> bool {
+    let write = user.write_compartments(session);
+    row.compartments.is_subset(&write)
 }
 
 /// ".. and also writable if all are write compartments."
-fn is_writable_by_compartments(image: &Image, user: &User, session: &Label, row: &Label) -> bool {
-    let write = user.write_sets(image, session);
+fn is_writable_by_compartments(user: &User, session: &Label, row: &Label) -> bool {
     level_is_writable(user, session, row)
         && !row.compartments.is_empty()
-        && row.compartments.is_subset(&write.compartments)
+        && has_write_compartments(user, session, row)
 }

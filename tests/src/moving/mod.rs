@@ -1,12 +1,12 @@
-//! Moves up by seed (request R-11): images of both editions, whole and damaged, with and without users who
-//! hold COMPACCESS, with buffers of all lengths.
+//! Moves up by profile and seed (request R-11): images of both editions, whole and damaged, with and without
+//! users who hold COMPACCESS, with buffers of all lengths.
 
 pub mod by_hand;
 mod tally;
 
 pub use tally::MoveTally;
 
-use crate::builder::{random, to_image, Edition, Policy, Sizes};
+use crate::builder::{random, to_image, Edition, Policy, Profile, Sizes, Variant};
 use crate::cases::Case;
 use crate::compaccess::held;
 use crate::compare::written;
@@ -28,9 +28,9 @@ pub struct Move {
 }
 
 impl Move {
-    pub fn new(seed: u64) -> Move {
+    pub fn new(profile: Profile, seed: u64) -> Move {
         let mut rng = Rng::new(seed);
-        let image = image(seed, &mut rng);
+        let image = image(profile, seed, &mut rng);
         let cleared = clear_compaccess(&image, usize::MAX);
         let moved = cleared.and_then(|image| move_up(&image, usize::MAX));
         let needed = moved.ok().map(|moved| moved.len());
@@ -55,30 +55,32 @@ pub fn by_model(image: &[u8], buffer: &[u8]) -> (Answer, Vec<u8>) {
 
 /// Mostly one of edition 1 that can be moved; often one whose users hold COMPACCESS, that is damaged, of
 /// edition 2, or of sizes about which edition 2 has limits.
-fn image(seed: u64, rng: &mut Rng) -> Vec<u8> {
+fn image(profile: Profile, seed: u64, rng: &mut Rng) -> Vec<u8> {
+    let [one, two] = Edition::ALL.map(|edition| edition.of(profile));
     match rng.index(16) {
-        0..=2 => Case::new(Edition::One, seed).image,
-        3..=5 => Case::new(Edition::Two, seed).image,
-        6 => to_image(&policy(Edition::Two, rng)),
-        7 => to_image(&around_limits(rng)),
-        8 if rng.once_in(2) => damaged(around_limits(rng), rng),
-        9 | 10 => to_image(&held(policy(Edition::One, rng), rng)),
-        _ => to_image(&movable(rng)),
+        0..=2 => Case::new(one, seed).image,
+        3..=5 => Case::new(two, seed).image,
+        6 => to_image(&policy(two, rng)),
+        7 => to_image(&around_limits(profile, rng)),
+        8 if rng.once_in(2) => damaged(around_limits(profile, rng), rng),
+        9 | 10 => to_image(&held(policy(one, rng), rng)),
+        _ => to_image(&movable(profile, rng)),
     }
 }
 
 /// A policy of edition 1 that can be moved up.
-pub fn movable(rng: &mut Rng) -> Policy {
-    policy(Edition::One, rng).held_by(&[])
+pub fn movable(profile: Profile, rng: &mut Rng) -> Policy {
+    policy(Edition::One.of(profile), rng).held_by(&[])
 }
 
-/// A policy that edition 2 has room for. In edition 1 users may hold COMPACCESS.
-pub fn policy(edition: Edition, rng: &mut Rng) -> Policy {
+/// A policy that edition 2 has room for. In a tree of edition 1 users may hold COMPACCESS.
+pub fn policy(variant: impl Into<Variant>, rng: &mut Rng) -> Policy {
+    let variant = variant.into();
     let sizes = match rng.index(24) {
-        0 => Sizes::any(edition, rng),
-        1..=3 => Sizes::medium(edition, rng),
-        4..=11 => Sizes::several_blocks(edition, rng),
-        _ => Sizes::small(edition, rng),
+        0 => Sizes::any(variant, rng),
+        1..=3 => Sizes::medium(variant, rng),
+        4..=11 => Sizes::several_blocks(variant, rng),
+        _ => Sizes::small(variant, rng),
     };
     let sizes = Sizes {
         labels: sizes.labels.min(Edition::Two.most_labels()),
@@ -89,9 +91,9 @@ pub fn policy(edition: Edition, rng: &mut Rng) -> Policy {
 }
 
 /// A policy of edition 1 with as many labels or users as edition 2 may have, with one more, or with as
-/// many as there may be. Nobody, some or all of the users hold COMPACCESS.
-pub fn around_limits(rng: &mut Rng) -> Policy {
-    let small = Sizes::small(Edition::One, rng);
+/// many as there may be. Nobody, some or all of the users hold COMPACCESS, if the profile has it.
+pub fn around_limits(profile: Profile, rng: &mut Rng) -> Policy {
+    let small = Sizes::small(Edition::One.of(profile), rng);
     let labels = [small.labels, 799, 800, 801, 1_680];
     let users = [small.users, 31, 32, 33, 96];
     let sizes = Sizes {

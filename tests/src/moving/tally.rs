@@ -1,12 +1,53 @@
 //! What was seen of moves up, to know that they go everywhere.
 
 use super::Move;
-use crate::builder::Edition;
+use crate::builder::{Edition, Profile};
 use crate::compare::CallTally;
 use crate::ffi::Answer;
 use crate::model::{check, compaccess_users};
 
 const MOVE: &str = "move_up";
+
+/// The answers that a move up has in each profile.
+const OF_BOTH: [&str; 22] = [
+    "done, a buffer just long enough",
+    "done, a longer buffer",
+    "13, no buffer",
+    "13, a buffer short by one",
+    "13",
+    "37, nobody holds it",
+    "37 by labels",
+    "37 by users",
+    "37 by both",
+    "1 in edition 1",
+    "2 in edition 1",
+    "31 in edition 1",
+    "32 in edition 1",
+    "33 in edition 1",
+    "34 in edition 1",
+    "31 to 35 before 37",
+    "2 in edition 2",
+    "31 in edition 2, accepted elsewhere",
+    "31 in edition 2, 31 elsewhere",
+    "31 in edition 2, 32 elsewhere",
+    "31 in edition 2, 33 elsewhere",
+    "31 in edition 2, 34 elsewhere",
+];
+
+/// Those by COMPACCESS and by parents, which the release profile has not.
+const OF_TREES: [&str; 11] = [
+    "36, one holds it",
+    "36, one holds it, before 13",
+    "36, some hold it",
+    "36, some hold it, before 13",
+    "36, all hold it",
+    "36, all hold it, before 13",
+    "37, one holds it",
+    "37, some hold it",
+    "37, all hold it",
+    "35 in edition 1",
+    "31 in edition 2, 35 elsewhere",
+];
 
 #[derive(Debug, Default)]
 pub struct MoveTally(CallTally);
@@ -20,44 +61,17 @@ impl MoveTally {
         self.0.count(MOVE, outcome);
     }
 
-    /// Asks that each answer came at least so often in each of its ways.
-    pub fn assert_varied(&self, least: usize) {
-        let outcomes = [
-            "done, a buffer just long enough",
-            "done, a longer buffer",
-            "13, no buffer",
-            "13, a buffer short by one",
-            "13",
-            "36, one holds it",
-            "36, one holds it, before 13",
-            "36, some hold it",
-            "36, some hold it, before 13",
-            "36, all hold it",
-            "36, all hold it, before 13",
-            "37, nobody holds it",
-            "37, one holds it",
-            "37, some hold it",
-            "37, all hold it",
-            "37 by labels",
-            "37 by users",
-            "37 by both",
-            "1 in edition 1",
-            "2 in edition 1",
-            "31 in edition 1",
-            "32 in edition 1",
-            "33 in edition 1",
-            "34 in edition 1",
-            "35 in edition 1",
-            "31 to 35 before 37",
-            "2 in edition 2",
-            "31 in edition 2, accepted elsewhere",
-            "31 in edition 2, 31 elsewhere",
-            "31 in edition 2, 32 elsewhere",
-            "31 in edition 2, 33 elsewhere",
-            "31 in edition 2, 34 elsewhere",
-            "31 in edition 2, 35 elsewhere",
-        ];
-        self.0.assert_least(MOVE, &outcomes, least);
+    /// Asks that each answer of the profile came at least so often in each of its ways. Of the others 35 may
+    /// come, where an image was told to be a tree.
+    pub fn assert_varied(&self, profile: Profile, least: usize) {
+        self.0.assert_least(MOVE, &OF_BOTH, least);
+        match profile {
+            Profile::Tree => self.0.assert_least(MOVE, &OF_TREES, least),
+            Profile::Release => {
+                let held = OF_TREES.iter().filter(|it| it.contains("hold"));
+                held.for_each(|it| assert_eq!(self.0.times(MOVE, it), 0, "{it}"));
+            }
+        }
     }
 }
 

@@ -3,7 +3,7 @@
 
 use super::kinds::Kind;
 use super::lacking::Lacking;
-use crate::builder::{Edition, Label, Policy};
+use crate::builder::{Label, Policy, Variant};
 use crate::calls::{Pair, PairCall};
 use crate::ffi::{Answer, LABEL};
 use crate::model;
@@ -27,9 +27,9 @@ pub struct Step<'a> {
     pub answer: Answer,
 }
 
-/// Shows both questions about the first pairs of an edition and a seed.
-pub fn each_pair(edition: Edition, seed: u64, count: usize, mut see: impl FnMut(&Step)) {
-    let mut walk = Walk::new(edition, seed);
+/// Shows both questions about the first pairs of an edition, a profile and a seed.
+pub fn each_pair(variant: impl Into<Variant>, seed: u64, count: usize, mut see: impl FnMut(&Step)) {
+    let mut walk = Walk::new(variant, seed);
     let images = walk.images();
     let checked: Vec<_> = images.iter().map(|image| model::accepted(image)).collect();
     walk.wander(&checked[0], SESSION_CALLS);

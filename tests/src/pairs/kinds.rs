@@ -1,6 +1,6 @@
 //! Kinds of two labels that a policy has.
 
-use crate::builder::{Label, Policy, Set};
+use crate::builder::{Label, Policy, Profile, Set};
 use crate::rng::Rng;
 use crate::walk::{label_at, one_of, Walk, LABEL_AT, ROW_AT};
 use std::iter;
@@ -24,20 +24,38 @@ pub enum Kind {
     ThreeSteps,
     /// The same with four steps or more.
     Far,
+    /// One label has all groups of the other, often more.
+    Released,
+    /// One label has all groups of the other but one.
+    OneLacking,
+    /// One label has no groups.
+    NoGroups,
 }
 
 impl Kind {
-    pub const ALL: [Kind; 9] = [
-        Kind::Records,
-        Kind::SessionAndRecord,
-        Kind::Sessions,
-        Kind::Any,
-        Kind::Near,
-        Kind::OneStep,
-        Kind::TwoSteps,
-        Kind::ThreeSteps,
-        Kind::Far,
-    ];
+    /// Those of each profile. Without parents none are steps apart.
+    pub fn of(profile: Profile) -> [Kind; 9] {
+        let [one, two, three, four] = match profile {
+            Profile::Tree => [Kind::OneStep, Kind::TwoSteps, Kind::ThreeSteps, Kind::Far],
+            Profile::Release => [
+                Kind::Released,
+                Kind::Released,
+                Kind::OneLacking,
+                Kind::NoGroups,
+            ],
+        };
+        [
+            Kind::Records,
+            Kind::SessionAndRecord,
+            Kind::Sessions,
+            Kind::Any,
+            Kind::Near,
+            one,
+            two,
+            three,
+            four,
+        ]
+    }
 
     pub fn name(self) -> &'static str {
         match self {
@@ -50,13 +68,16 @@ impl Kind {
             Kind::TwoSteps => "two steps",
             Kind::ThreeSteps => "three steps",
             Kind::Far => "far",
+            Kind::Released => "released",
+            Kind::OneLacking => "one lacking",
+            Kind::NoGroups => "no groups",
         }
     }
 
     /// A kind and labels of it. Kinds are tried until the policy has what one takes.
     pub fn any(walk: &mut Walk) -> (Kind, [Label; 2]) {
         loop {
-            let kind = *walk.rng.pick(&Kind::ALL);
+            let kind = *walk.rng.pick(&Kind::of(walk.policy.profile));
             if let Some(labels) = kind.labels(walk) {
                 return (kind, labels);
             }
@@ -74,6 +95,9 @@ impl Kind {
             Kind::TwoSteps => apart(2..=2, &walk.policy, &mut walk.rng),
             Kind::ThreeSteps => apart(3..=3, &walk.policy, &mut walk.rng),
             Kind::Far => apart(4..=255, &walk.policy, &mut walk.rng),
+            Kind::Released => Some(released(&walk.policy, &mut walk.rng)),
+            Kind::OneLacking => one_lacking(&walk.policy, &mut walk.rng),
+            Kind::NoGroups => Some(without_groups(&walk.policy, &mut walk.rng)),
         }
     }
 }
@@ -141,22 +165,9 @@ fn apart(steps: RangeInclusive<usize>, policy: &Policy, rng: &mut Rng) -> Option
     let &(group, ancestor) = lines.get(rng.place(0, lines.len())?)?;
     let all = policy.all_groups();
     let over = Set::of(ancestor) | others(all & !policy.with_ancestors(group), rng);
-    let level = rng.index(policy.levels.len());
-    let compartments = rng.subset(policy.all_compartments());
-    let mut labels = [
-        Label {
-            tag: 0,
-            level: level as u8,
-            compartments,
-            groups: over,
-        },
-        Label {
-            tag: 0,
-            level: rng.range(0, level) as u8,
-            compartments: rng.subset(compartments),
-            groups: Set::of(group) | others(all & !policy.below(over), rng),
-        },
-    ];
+    let mut labels = by_groups(policy, rng, over, |rng| {
+        Set::of(group) | others(all & !policy.below(over), rng)
+    });
     match rng.index(8) {
         0 => labels[1].level = rng.index(policy.levels.len()) as u8,
         1 => labels[1].compartments |= one_of(policy.all_compartments(), rng),
@@ -164,6 +175,64 @@ fn apart(steps: RangeInclusive<usize>, policy: &Policy, rng: &mut Rng) -> Option
         _ => {}
     }
     Some(labels)
+}
+
+/// Labels with groups, of which the first has at least the second's level and compartments.
+fn by_groups(
+    policy: &Policy,
+    rng: &mut Rng,
+    first: Set,
+    second: impl Fn(&mut Rng) -> Set,
+) -> [Label; 2] {
+    let level = rng.index(policy.levels.len());
+    let compartments = rng.subset(policy.all_compartments());
+    let label = |level: usize, compartments, groups| Label {
+        tag: 0,
+        level: level as u8,
+        compartments,
+        groups,
+    };
+    [
+        label(level, compartments, first),
+        label(rng.range(0, level), rng.subset(compartments), second(rng)),
+    ]
+}
+
+/// In the release profile the first dominates if the second has all its groups; else they stand the other way
+/// round.
+fn released(policy: &Policy, rng: &mut Rng) -> [Label; 2] {
+    let all = policy.all_groups();
+    let groups = rng.subset(all);
+    let mut labels = by_groups(policy, rng, groups, |rng| groups | others(all, rng));
+    if rng.once_in(3) {
+        labels.reverse();
+    }
+    labels
+}
+
+/// The same but for one group that the second lacks. Without it the first would dominate.
+fn one_lacking(policy: &Policy, rng: &mut Rng) -> Option<[Label; 2]> {
+    let all = policy.all_groups();
+    let lacking = Set::of(rng.place_in(all)?);
+    let groups = rng.subset(all) | lacking;
+    let mut labels = by_groups(policy, rng, groups, |rng| {
+        (groups | others(all, rng)) & !lacking
+    });
+    if rng.once_in(3) {
+        labels.reverse();
+    }
+    Some(labels)
+}
+
+/// In the release profile a label without groups is dominated only by such a label.
+fn without_groups(policy: &Policy, rng: &mut Rng) -> [Label; 2] {
+    let all = policy.all_groups();
+    let mut labels = by_groups(policy, rng, Set::NONE, |rng| others(all, rng));
+    if rng.once_in(2) {
+        let [first, second] = &mut labels;
+        std::mem::swap(&mut first.groups, &mut second.groups);
+    }
+    labels
 }
 
 /// Each group with its ancestors that are so many steps above it.

@@ -1,4 +1,4 @@
-//! Two labels by edition and seed, for comparing. They name a policy and pairs of labels under it, which
+//! Two labels by edition, profile and seed, for comparing. They name a policy and pairs of labels under it, which
 //! are compared; or a policy and sessions of its users, which are asked beside its label records. A seed
 //! alone names two labels that are merged.
 

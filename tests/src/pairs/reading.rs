@@ -1,11 +1,12 @@
 //! Sessions beside the label records of their policy: what a session reads, and what its label
 //! dominates.
 
-use crate::builder::{to_image, Edition, Label, Policy, User, COMPACCESS};
+use crate::builder::{to_image, Label, Policy, User, Variant, COMPACCESS};
 use crate::calls::{Call, Pair, PairCall};
 use crate::compare::Checked;
 use crate::ffi::{Answer, LABEL, SESSION};
 use crate::rng::Rng;
+use crate::row_calls::{Lent, RowCall};
 use crate::walk::{Walk, LABEL_AT, ROW_AT};
 
 const READ: u8 = 1;
@@ -33,7 +34,14 @@ impl Program {
         }
     }
 
-    fn dominates(self, lent: &Checked, pair: &Pair) -> Answer {
+    pub fn rows(self, call: &RowCall, lent: &Checked, rows: &mut Lent) -> Answer {
+        match self {
+            Program::Library => call.by_library(lent.image, rows),
+            Program::Model => call.by_model(&lent.by_model, rows),
+        }
+    }
+
+    pub fn dominates(self, lent: &Checked, pair: &Pair) -> Answer {
         let (call, mut out) = (PairCall::Dominates, [0; LABEL]);
         match self {
             Program::Library => call.by_library(lent.image, pair, &mut out),
@@ -47,7 +55,7 @@ impl Program {
 #[derive(Clone, Copy, Debug, PartialEq, Eq)]
 pub enum Held {
     Nothing,
-    /// Edition 2 has it not.
+    /// Only trees of edition 1 have it.
     CompAccess,
     /// At least one of the two.
     ReadOrFull,
@@ -55,10 +63,10 @@ pub enum Held {
 
 impl Held {
     /// All by which more is read than is dominated.
-    pub fn of(edition: Edition) -> &'static [Held] {
-        match edition {
-            Edition::One => &[Held::CompAccess, Held::ReadOrFull],
-            Edition::Two => &[Held::ReadOrFull],
+    pub fn of(variant: Variant) -> &'static [Held] {
+        match variant.has_compaccess() {
+            true => &[Held::CompAccess, Held::ReadOrFull],
+            false => &[Held::ReadOrFull],
         }
     }
 
@@ -85,15 +93,15 @@ pub struct Beside {
     pub dominates: bool,
 }
 
-/// Shows every label record of the policy of an edition and a seed under sessions of its users: as they
-/// open, and after each change that is done.
+/// Shows every label record of the policy of an edition, a profile and a seed under sessions of its users: as
+/// they open, and after each change that is done.
 pub fn each_record(
-    (edition, seed): (Edition, u64),
+    (variant, seed): (Variant, u64),
     held: Held,
     program: Program,
     mut see: impl FnMut(&Beside),
 ) {
-    let mut walk = Walk::new(edition, seed);
+    let mut walk = Walk::new(variant, seed);
     let Walk { policy, rng, .. } = &mut walk;
     let users = policy.users.iter_mut();
     users.for_each(|user| held.give(user, rng));

@@ -4,9 +4,9 @@ use super::compared::Step;
 use super::kinds::Kind;
 use super::lacking::Lacking;
 use super::reading::Beside;
-use crate::builder::{Edition, Set};
+use crate::builder::{Edition, Profile, Set, Variant};
 use crate::calls::PairCall;
-use crate::compare::{CallTally, OF_IMAGES};
+use crate::compare::CallTally;
 use crate::ffi::Answer;
 
 #[derive(Debug, Default)]
@@ -45,29 +45,35 @@ impl PairTally {
 
     /// Asks that so many pairs were compared, that each refusal came at least so often to both
     /// questions, also where an image's number came before 18, and that neither yes nor no is rare:
-    /// over all pairs, and of those with groups one, two and three steps apart. In edition 2 yes and no
-    /// came so often also where groups decide that edition 1 has not.
-    pub fn assert_varied(&self, edition: Edition, pairs: usize, least: usize) {
+    /// over all pairs, and of those with groups one, two and three steps apart or, in the release profile, of
+    /// those that differ in what they are released to. In edition 2 yes and no came so often also where groups
+    /// decide that edition 1 has not.
+    pub fn assert_varied(&self, variant: Variant, pairs: usize, least: usize) {
+        let Variant { edition, profile } = variant;
         for call in PairCall::QUESTIONS.map(|call| call.name()) {
             let [yes, no] = ["yes", "no"].map(|answer| self.answers.times(call, answer));
             assert!(yes + no >= pairs, "{call}: {yes} yes, {no} no");
             self.answers.assert_both(call);
-            self.answers.assert_least(call, &OF_IMAGES, least);
+            self.answers.assert_of_images(profile, call, least);
             self.answers.assert_least(call, &["18"], least);
             if edition == Edition::Two {
                 self.high.assert_least(call, &["yes", "no"], least);
             }
         }
-        for kind in Kind::ALL.map(Kind::name) {
-            self.kinds.assert_least(kind, &["yes", "no"], least);
+        for kind in Kind::of(profile) {
+            self.kinds.assert_least(kind.name(), &["yes", "no"], least);
         }
-        for kind in [Kind::OneStep, Kind::TwoSteps, Kind::ThreeSteps] {
+        let often: &[Kind] = match profile {
+            Profile::Tree => &[Kind::OneStep, Kind::TwoSteps, Kind::ThreeSteps],
+            Profile::Release => &[Kind::Released, Kind::NoGroups],
+        };
+        for kind in often {
             self.kinds.assert_both(kind.name());
         }
         for name in Lacking::names() {
             self.lacking.assert_least("18", &[&name], least);
         }
-        self.lacking.assert_least("an image", &OF_IMAGES, least);
+        self.lacking.assert_of_images(profile, "an image", least);
     }
 }
 

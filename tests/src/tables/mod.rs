@@ -1,4 +1,4 @@
-//! Row calls by edition and seed, which name a policy, sessions of its users, and tables whose rows are
+//! Row calls by edition, profile and seed, which name a policy, sessions of its users, and tables whose rows are
 //! read, updated and read masked, with right arguments and wrong ones.
 
 pub mod by_hand;
@@ -7,7 +7,7 @@ mod tally;
 
 pub use tally::RowTally;
 
-use crate::builder::Edition;
+use crate::builder::Variant;
 use crate::ffi::{Answer, SESSION};
 use crate::model::{self, Image, Session};
 use crate::rng::Rng;
@@ -39,8 +39,13 @@ pub struct Step<'a> {
 
 /// Shows the first row calls of an edition and a seed. A table that the model updates is lent again
 /// later.
-pub fn each_row_call(edition: Edition, seed: u64, count: usize, mut see: impl FnMut(&Step)) {
-    let mut walk = Walk::new(edition, seed);
+pub fn each_row_call(
+    variant: impl Into<Variant>,
+    seed: u64,
+    count: usize,
+    mut see: impl FnMut(&Step),
+) {
+    let mut walk = Walk::new(variant, seed);
     let images = walk.images();
     let checked: Vec<_> = images.iter().map(|image| model::accepted(image)).collect();
     let own = model::accepted(&images[0]).expect("the policy is well-formed");

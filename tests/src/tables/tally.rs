@@ -1,8 +1,8 @@
 //! What was seen of row calls, to know that they go everywhere.
 
 use super::{Step, LARGEST};
-use crate::builder::Edition;
-use crate::compare::{CallTally, OF_IMAGES};
+use crate::builder::{Edition, Variant};
+use crate::compare::CallTally;
 use crate::ffi::Answer;
 use crate::row_calls::{first_difference, RowCall};
 use crate::walk::is_ruled;
@@ -51,15 +51,15 @@ impl RowTally {
     }
 
     /// Asks that each call gave each of its answers and saw each of its kinds at least so often,
-    /// and that users had all privilege bytes of the edition. What only one edition has never came in the
+    /// and that users had all privilege bytes that there are. What only one edition has never came in the
     /// other.
-    pub fn assert_varied(&self, edition: Edition, least: usize) {
+    pub fn assert_varied(&self, variant: Variant, least: usize) {
         for (call, outcomes) in OUTCOMES {
             self.answers.assert_least(call, outcomes, least);
-            self.answers.assert_least(call, &OF_IMAGES, least);
+            self.answers.assert_of_images(variant.profile, call, least);
         }
         for ((call, kind), times) in &self.kinds {
-            let is_of_other = match edition {
+            let is_of_other = match variant.edition {
                 Edition::One => ONLY_TWO.contains(kind),
                 Edition::Two => ONLY_ONE.contains(kind),
             };
@@ -69,7 +69,7 @@ impl RowTally {
             };
             assert!(is_right, "{call}: {kind} came {times} times");
         }
-        assert_eq!(self.privileges.len(), edition.privilege_bytes());
+        assert_eq!(self.privileges.len(), variant.privilege_bytes());
     }
 }
 

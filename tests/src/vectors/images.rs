@@ -2,7 +2,7 @@
 
 use super::parts::{parts_with, Form};
 use super::{first_word, question_and_answer, read_refusal};
-use crate::builder::{to_image, Edition};
+use crate::builder::{to_image, Variant};
 use crate::ffi::Answer;
 
 pub struct ImageCase {
@@ -12,10 +12,10 @@ pub struct ImageCase {
     pub answer: Answer,
 }
 
-/// All cases of an edition: ID check = accepted, or a refusal.
-pub fn images(edition: Edition) -> Vec<ImageCase> {
+/// All cases of an edition and a profile: ID check = accepted, or a refusal.
+pub fn images(variant: Variant) -> Vec<ImageCase> {
     let mut cases = Vec::new();
-    for part in parts_with(edition, Form::Check) {
+    for part in parts_with(variant, Form::Check) {
         let image = to_image(&part.policy);
         cases.extend(part.cases.into_iter().map(|line| ImageCase {
             line,

@@ -2,7 +2,7 @@
 
 use super::parts::{parts_with, Form};
 use super::{first_word, read_refusal};
-use crate::builder::{Edition, Policy};
+use crate::builder::{Policy, Variant};
 use crate::ffi::Answer;
 
 pub struct Vector {
@@ -18,9 +18,9 @@ pub enum Expected {
     Refused(Answer),
 }
 
-pub fn label_text(edition: Edition) -> Vec<Vector> {
+pub fn label_text(variant: Variant) -> Vec<Vector> {
     let mut vectors = Vec::new();
-    for part in parts_with(edition, Form::LabelText) {
+    for part in parts_with(variant, Form::LabelText) {
         for line in part.cases {
             let (_, case) = first_word(line);
             let (text, expected) = read_case(case);

@@ -13,12 +13,12 @@ mod users;
 pub use asked::Asked;
 pub use images::{images, ImageCase};
 pub use label_text::{label_text, Expected};
-pub use parts::{cases_of_the_sample, rows_of_the_guide};
+pub use parts::{cases_of_the_sample, rows_in_release, rows_of_the_guide};
 pub use requests::{requests, Waiting};
 pub use sessions::{sessions, Case, Section};
 pub use two_labels::{two_labels, PairCase};
 
-use crate::builder::{Component, Edition, Label, Policy, Set};
+use crate::builder::{Component, Label, Policy, Set, Variant};
 use crate::ffi::Answer;
 
 /// The first word of a line, and the rest.
@@ -32,11 +32,12 @@ fn question_and_answer(case: &'static str) -> (&'static str, &'static str) {
 }
 
 /// Three classes, each with names and their numbers. Places go by the numbers.
-fn read_policy(edition: Edition, text: &str) -> Policy {
+fn read_policy(Variant { edition, profile }: Variant, text: &str) -> Policy {
     let mut classes = text.split(';').map(read_class);
     let mut next = || classes.next().expect("three classes");
     let policy = Policy {
         edition,
+        profile,
         levels: next(),
         compartments: next(),
         groups: next(),

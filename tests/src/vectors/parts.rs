@@ -2,11 +2,11 @@
 
 use super::users::{read_tagged, read_user};
 use super::{first_word, read_policy};
-use crate::builder::{Edition, Policy};
+use crate::builder::{Edition, Policy, Profile, Variant};
 use std::collections::BTreeSet;
 
 /// All files that are run. The sample's comes last.
-const FILES: [&str; 12] = [
+const FILES: [&str; 14] = [
     include_str!("../../vectors/reading.txt"),
     include_str!("../../vectors/privileges.txt"),
     include_str!("../../vectors/writing.txt"),
@@ -18,6 +18,8 @@ const FILES: [&str; 12] = [
     include_str!("../../vectors/inverse_groups.txt"),
     include_str!("../../vectors/places.txt"),
     include_str!("../../vectors/edition_2.txt"),
+    include_str!("../../vectors/release.txt"),
+    include_str!("../../vectors/release_sessions.txt"),
     SAMPLE,
 ];
 
@@ -27,7 +29,8 @@ const SAMPLE: &str = include_str!("../../vectors/cooperative.txt");
 pub struct Part {
     pub policy: Policy,
     pub cases: Vec<&'static str>,
-    /// The editions in which the cases hold.
+    /// The profile and the editions in which the cases hold.
+    profile: Profile,
     editions: &'static [Edition],
 }
 
@@ -51,11 +54,11 @@ fn form(case: &str) -> Form {
     }
 }
 
-/// The parts that have cases of a form in an edition, with these cases alone. Their policies are of that
-/// edition.
-pub fn parts_with(edition: Edition, asked: Form) -> Vec<Part> {
+/// The parts that have cases of a form in an edition and a profile, with these cases alone. Their policies are
+/// of that edition and profile.
+pub fn parts_with(Variant { edition, profile }: Variant, asked: Form) -> Vec<Part> {
     let mut parts = parts();
-    parts.retain(|part| part.editions.contains(&edition));
+    parts.retain(|part| part.profile == profile && part.editions.contains(&edition));
     for part in &mut parts {
         part.policy.edition = edition;
         part.cases.retain(|case| form(case) == asked);
@@ -79,10 +82,11 @@ fn parts_of(file: &'static str) -> Vec<Part> {
     let mut parts: Vec<Part> = Vec::new();
     for line in lines_that_say(file) {
         let (word, rest) = first_word(line);
-        if let Some(editions) = read_editions(word) {
+        if let Some((profile, editions)) = read_variants(word) {
             parts.push(Part {
-                policy: read_policy(editions[0], rest),
+                policy: read_policy(editions[0].of(profile), rest),
                 cases: Vec::new(),
+                profile,
                 editions,
             });
             continue;
@@ -103,12 +107,17 @@ fn parts_of(file: &'static str) -> Vec<Part> {
     parts
 }
 
-/// The word before a policy, and the editions in which its cases hold.
-fn read_editions(word: &str) -> Option<&'static [Edition]> {
+/// The word before a policy tells the profile and the editions in which its cases hold.
+fn read_variants(word: &str) -> Option<(Profile, &'static [Edition])> {
+    let (word, editions) = match word.split_once('-') {
+        None => (word, &Edition::ALL[..]),
+        Some((word, "1")) => (word, &Edition::ALL[..1]),
+        Some((word, "2")) => (word, &Edition::ALL[1..]),
+        _ => return None,
+    };
     match word {
-        "policy" => Some(&Edition::ALL),
-        "policy-1" => Some(&Edition::ALL[..1]),
-        "policy-2" => Some(&Edition::ALL[1..]),
+        "policy" => Some((Profile::Tree, editions)),
+        "release" => Some((Profile::Release, editions)),
         _ => None,
     }
 }
@@ -122,6 +131,13 @@ pub fn lines_that_say(file: &'static str) -> impl Iterator<Item = &'static str> 
 /// The rows of the worked examples that stand as cases: n for an id Gn.m.
 pub fn rows_of_the_guide() -> BTreeSet<u32> {
     numbers_after('G', parts())
+}
+
+/// The same of cases in the release profile.
+pub fn rows_in_release() -> BTreeSet<u32> {
+    let parts = parts().into_iter();
+    let of_release = parts.filter(|part| part.profile == Profile::Release);
+    numbers_after('G', of_release.collect())
 }
 
 /// The cases of document 01 that stand in the sample's file: n for an id Pn.m.

@@ -3,7 +3,7 @@
 use super::asked::Asked;
 use super::parts::{parts_with, Form, Part};
 use super::{first_word, question_and_answer, read_label, read_refusal, read_verdict};
-use crate::builder::{to_image, Edition, Label, Policy};
+use crate::builder::{to_image, Label, Policy, Variant};
 use crate::calls::Call;
 use crate::ffi::{Answer, SESSION};
 
@@ -49,10 +49,10 @@ impl Case {
     }
 }
 
-/// All sections of an edition. Every line is used: each user is asked by a case, and each label by its
-/// tag.
-pub fn sessions(edition: Edition) -> Vec<Section> {
-    let parts = parts_with(edition, Form::Session).into_iter();
+/// All sections of an edition and a profile. Every line is used: each user is asked by a case, and each label by
+/// its tag.
+pub fn sessions(variant: Variant) -> Vec<Section> {
+    let parts = parts_with(variant, Form::Session).into_iter();
     parts.map(read_section).collect()
 }
 

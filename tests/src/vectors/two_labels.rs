@@ -2,7 +2,7 @@
 
 use super::parts::{parts_with, Form};
 use super::{first_word, question_and_answer, read_label, read_refusal, read_verdict};
-use crate::builder::{to_image, Edition, Policy};
+use crate::builder::{to_image, Policy, Variant};
 use crate::calls::{Pair, PairCall};
 use crate::ffi::{Answer, LABEL};
 
@@ -29,10 +29,10 @@ impl PairCase {
     }
 }
 
-/// All cases of an edition.
-pub fn two_labels(edition: Edition) -> Vec<PairCase> {
+/// All cases of an edition and a profile.
+pub fn two_labels(variant: Variant) -> Vec<PairCase> {
     let mut cases = Vec::new();
-    for part in parts_with(edition, Form::TwoLabels) {
+    for part in parts_with(variant, Form::TwoLabels) {
         let read = |line| read_case(&part.policy, line);
         cases.extend(part.cases.into_iter().map(read));
     }

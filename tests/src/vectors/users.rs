@@ -1,7 +1,7 @@
 //! A user in a vector file: what the line leaves out is filled in by rule F of the worked examples.
 
 use super::{first_word, place_of, read_label, read_sets};
-use crate::builder::{Label, Levels, Policy, Rights, Set, User};
+use crate::builder::{Label, Levels, Policy, Profile, Rights, Set, User};
 
 /// The names of the privilege bits, from bit 1 on.
 const PRIVILEGES: [&str; 7] = [
@@ -16,7 +16,8 @@ const PRIVILEGES: [&str; 7] = [
 
 /// NAME DEFAULT FIELD=VALUE .. The minimum is the lowest level, the maximum is the default's level,
 /// the read sets are the default's, the write sets are the read sets, the row label is the minimum
-/// alone, and there are no privileges, if the fields don't say otherwise.
+/// alone, and there are no privileges, if the fields don't say otherwise. In the release profile the row label
+/// has the default's groups.
 pub fn read_user(policy: &Policy, text: &'static str) -> User {
     let (name, rest) = text.split_once(' ').expect("a name and a default label");
     let (default, rest) = rest.split_once(' ').unwrap_or((rest, ""));
@@ -28,8 +29,12 @@ pub fn read_user(policy: &Policy, text: &'static str) -> User {
     let minimum = level("min").unwrap_or(0);
     let read = sets("read").unwrap_or((default.compartments, default.groups));
     let write = sets("write").unwrap_or(read);
+    let row_groups = match policy.profile {
+        Profile::Tree => Set::NONE,
+        Profile::Release => default.groups,
+    };
     let row = value("row").map(|label| read_label(policy, label));
-    let row = row.map_or((minimum, Set::NONE, Set::NONE), |it| {
+    let row = row.map_or((minimum, Set::NONE, row_groups), |it| {
         (it.level, it.compartments, it.groups)
     });
     User {

@@ -1,5 +1,6 @@
 //! Ways to break a session: for each part of the rules behind refusal 19 a change that breaks it.
 
+use super::release::break_groups;
 use super::{label_at, set_bit, LABEL_AT, ROW_AT};
 use crate::builder::{Edition, Policy, Set};
 use crate::ffi::SESSION;
@@ -15,9 +16,9 @@ pub enum Break {
     LevelUnder,
     /// A compartment outside the user's read set, also one that the policy lacks.
     Compartment,
-    /// A group outside below(read), also one that the policy lacks.
+    /// A group outside below(read), also one that the policy lacks; in the release profile a read group less.
     Group,
-    /// A group of the session label past all that there are; in edition 1 in bytes 24..47.
+    /// A group of the session label past all that there are; in a tree of edition 1 in bytes 24..47.
     GroupPast,
     /// The row label's level over the session's.
     RowLevelOver,
@@ -25,13 +26,15 @@ pub enum Break {
     RowLevelUnder,
     /// A compartment of the row label outside the write compartments.
     RowCompartment,
-    /// A group of the row label outside the write groups.
+    /// A group of the row label outside the write groups; in the release profile the row label loses a group of
+    /// the session label.
     RowGroup,
-    /// A group of the row label past all that there are; in edition 1 in bytes 24..47.
+    /// A group of the row label past all that there are; in a tree of edition 1 in bytes 24..47.
     RowGroupPast,
     /// The session label loses a compartment that the row label has.
     CompartmentTaken,
-    /// The session label loses all that a group of the row label is below.
+    /// The session label loses all that a group of the row label is below; in the release profile it wins a
+    /// group that the row label lacks.
     GroupTaken,
 }
 
@@ -63,12 +66,26 @@ impl Break {
             Break::LevelOver | Break::LevelUnder | Break::RowLevelOver | Break::RowLevelUnder => {
                 self.break_level(policy, session, rng)?
             }
+            _ if self.is_of_groups() && policy.variant().is_release() => {
+                break_groups(self, policy, session, rng)?
+            }
             Break::GroupPast => set_bit(session, LABEL_AT + 16, group_past(policy, rng)?),
             Break::RowGroupPast => set_bit(session, ROW_AT + 16, group_past(policy, rng)?),
             Break::CompartmentTaken | Break::GroupTaken => self.take(policy, session, rng)?,
             _ => self.add(policy, session, rng)?,
         }
         Some(())
+    }
+
+    fn is_of_groups(self) -> bool {
+        matches!(
+            self,
+            Break::Group
+                | Break::GroupPast
+                | Break::RowGroup
+                | Break::RowGroupPast
+                | Break::GroupTaken
+        )
     }
 
     fn break_level(
@@ -125,11 +142,11 @@ impl Break {
     }
 }
 
-/// A group that the policy lacks: in edition 1 one that no policy of it has.
-fn group_past(policy: &Policy, rng: &mut Rng) -> Option<usize> {
-    let first = match policy.edition {
-        Edition::One => policy.edition.most_groups(),
-        Edition::Two => policy.groups.len(),
+/// A group that the policy lacks: for a tree of edition 1 one that no policy of it has.
+pub fn group_past(policy: &Policy, rng: &mut Rng) -> Option<usize> {
+    let first = match policy.variant() == Edition::One.tree() {
+        true => policy.edition.most_groups(),
+        false => policy.groups.len(),
     };
     (first < Set::PLACES).then(|| rng.with_ends(first, Set::PLACES - 1))
 }

@@ -1,7 +1,7 @@
 //! The parts of a session in its bytes.
 
 use crate::builder::{Label, Set};
-use crate::ffi::SESSION;
+use crate::ffi::{LABEL, SESSION};
 use crate::rng::Rng;
 
 /// Where the session label and the row label begin in a session.
@@ -19,11 +19,18 @@ pub fn spoil_unused(session: &mut [u8; SESSION], rng: &mut Rng) {
 
 /// The label at an offset of a session.
 pub fn label_at(session: &[u8; SESSION], at: usize) -> Label {
+    let mut bytes = [0; LABEL];
+    bytes.copy_from_slice(&session[at..at + LABEL]);
+    label_of(&bytes)
+}
+
+/// The label of its bytes. Its tag is 0.
+pub fn label_of(bytes: &[u8; LABEL]) -> Label {
     Label {
         tag: 0,
-        level: session[at + 4],
-        compartments: Set::from_bytes(&session[at + 8..at + 16]),
-        groups: Set::from_bytes(&session[at + 16..at + 48]),
+        level: bytes[4],
+        compartments: Set::from_bytes(&bytes[8..16]),
+        groups: Set::from_bytes(&bytes[16..]),
     }
 }
 

@@ -1,18 +1,20 @@
-//! Calls on sessions by edition and seed, which name a policy and a walk through its users' sessions:
+//! Calls on sessions by edition, profile and seed, which name a policy and a walk through its users' sessions:
 //! they are opened, changed and asked, whole and broken, with the policy's image and with damaged ones.
 
 mod breaks;
 mod bytes;
 mod policy;
+mod reasons;
+mod release;
 mod tally;
 mod wishes;
 
 pub use breaks::Break;
-pub use bytes::{label_at, spoil_unused, LABEL_AT, ROW_AT};
+pub use bytes::{label_at, label_of, spoil_unused, LABEL_AT, ROW_AT};
 pub use policy::{is_ruled, one_of, policy};
 pub use tally::WalkTally;
 
-use crate::builder::{letters, to_image, Edition, Label, Policy};
+use crate::builder::{letters, to_image, Label, Policy, Variant};
 use crate::calls::Call;
 use crate::damage::{Damage, Draft};
 use crate::ffi::{Answer, SESSION};
@@ -27,6 +29,7 @@ const REMEMBERED: usize = 8;
 
 /// A call of a walk: what it is lent, and what the model gives.
 pub struct Step<'a> {
+    pub policy: &'a Policy,
     pub image: &'a [u8],
     pub lent: [u8; SESSION],
     pub call: Call,
@@ -39,8 +42,8 @@ pub struct Step<'a> {
 }
 
 /// Shows the first calls of a walk. Sessions that the model hands out are lent again later.
-pub fn each_call(edition: Edition, seed: u64, count: usize, mut see: impl FnMut(&Step)) {
-    let mut walk = Walk::new(edition, seed);
+pub fn each_call(variant: impl Into<Variant>, seed: u64, count: usize, mut see: impl FnMut(&Step)) {
+    let mut walk = Walk::new(variant, seed);
     let images = walk.images();
     let checked: Vec<_> = images.iter().map(|image| model::accepted(image)).collect();
     for _ in 0..count {
@@ -50,6 +53,7 @@ pub fn each_call(edition: Edition, seed: u64, count: usize, mut see: impl FnMut(
         let mut session = lent;
         let answer = walk.go(&call, &checked[image], &mut session);
         see(&Step {
+            policy: &walk.policy,
             image: &images[image],
             lent,
             answer,
@@ -70,9 +74,9 @@ pub struct Walk {
 }
 
 impl Walk {
-    pub fn new(edition: Edition, seed: u64) -> Walk {
+    pub fn new(variant: impl Into<Variant>, seed: u64) -> Walk {
         let mut rng = Rng::new(seed);
-        Walk::of(policy(edition, &mut rng), rng)
+        Walk::of(policy(variant, &mut rng), rng)
     }
 
     pub fn of(policy: Policy, rng: Rng) -> Walk {

@@ -1,19 +1,22 @@
 //! Policies for walks: users with and without privileges, and rows' labels around their rights.
 
-use crate::builder::{random, Edition, Label, Policy, Rights, Set, Sizes, User};
+use super::release;
+use crate::builder::{random, Label, Policy, Profile, Rights, Set, Sizes, User, Variant};
 use crate::rng::Rng;
 
 const READ: u8 = 1;
 const FULL: u8 = 2;
 
 /// Mostly small, so that sets meet often; now and then up to all limits.
-pub fn policy(edition: Edition, rng: &mut Rng) -> Policy {
+pub fn policy(variant: impl Into<Variant>, rng: &mut Rng) -> Policy {
+    let variant = variant.into();
     let mut sizes = match rng.index(100) {
-        0 => Sizes::any(edition, rng),
-        1..=8 => Sizes::medium(edition, rng),
-        _ => Sizes::small(edition, rng),
+        0 => Sizes::any(variant, rng),
+        1..=8 => Sizes::medium(variant, rng),
+        _ => Sizes::small(variant, rng),
     };
-    sizes.labels += rng.range(0, 12).min(edition.most_labels() - sizes.labels);
+    let most = variant.edition.most_labels();
+    sizes.labels += rng.range(0, 12).min(most - sizes.labels);
     if sizes.users == 0 && !rng.once_in(6) {
         sizes.users = rng.range(1, 3);
     }
@@ -71,7 +74,10 @@ fn row(tag: u32, policy: &Policy, user: &User, rng: &mut Rng) -> Label {
         tag,
         level: level as u8,
         compartments,
-        groups: row_groups(policy, user, rng),
+        groups: match policy.profile {
+            Profile::Tree => row_groups(policy, user, rng),
+            Profile::Release => release::row_groups(policy, user, rng),
+        },
     }
 }
 

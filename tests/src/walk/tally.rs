@@ -1,9 +1,10 @@
 //! What was seen on walks, to know that they go everywhere.
 
+use super::reasons::{reason, REASONS};
 use super::{is_ruled, label_at, Step, LABEL_AT};
-use crate::builder::{Edition, Set};
+use crate::builder::{Edition, Set, Variant};
 use crate::calls::Call;
-use crate::compare::{CallTally, OF_IMAGES};
+use crate::compare::CallTally;
 use crate::ffi::Answer;
 use std::collections::BTreeSet;
 
@@ -36,6 +37,8 @@ pub struct WalkTally {
     high: CallTally,
     /// Label changes by texts of over 4,096 bytes.
     long: CallTally,
+    /// Why a call was answered as it was, in the release profile.
+    reasons: CallTally,
     /// The privileges of users whose verdicts were not refused.
     privileges: BTreeSet<u8>,
 }
@@ -57,6 +60,10 @@ impl WalkTally {
         if is_long(&step.call) {
             self.long.add(name, is_verdict, step.answer);
         }
+        if step.policy.variant().is_release() {
+            let reason = reason(step).into_iter();
+            reason.for_each(|reason| self.reasons.count(name, reason));
+        }
         let groups = label_at(&step.session, LABEL_AT).groups;
         if !groups.is_in(Set::first(64)) {
             self.high.add(name, is_verdict, step.answer);
@@ -64,14 +71,15 @@ impl WalkTally {
     }
 
     /// Asks that each call gave each of its answers at least so often, that neither yes nor no is
-    /// rare, also where labels decide, and that users had all privilege bytes of the edition. Unknown tags
-    /// are seen with READ and FULL in edition 1, and in edition 2 they are not.
-    pub fn assert_varied(&self, edition: Edition, least: usize) {
+    /// rare, also where labels decide, that users had all privilege bytes that there are, and that in the release
+    /// profile each reason came so often too. Unknown tags are seen with READ and FULL in edition 1, and in
+    /// edition 2 they are not.
+    pub fn assert_varied(&self, variant: Variant, least: usize) {
         for (call, outcomes) in OUTCOMES {
             self.answers.assert_least(call, outcomes, least);
-            self.answers.assert_least(call, &OF_IMAGES, least);
+            self.answers.assert_of_images(variant.profile, call, least);
         }
-        let (always, never) = match edition {
+        let (always, never) = match variant.edition {
             Edition::One => ("yes", "no"),
             Edition::Two => ("no", "yes"),
         };
@@ -81,10 +89,15 @@ impl WalkTally {
             self.unknown.assert_least(verdict, &[always], least);
             assert_eq!(self.unknown.times(verdict, never), 0, "{verdict}");
         }
-        if edition == Edition::Two {
+        if variant.edition == Edition::Two {
             self.assert_high(least);
         }
-        assert_eq!(self.privileges.len(), edition.privilege_bytes());
+        if variant.is_release() {
+            for (call, reasons) in REASONS {
+                self.reasons.assert_least(call, reasons, least);
+            }
+        }
+        assert_eq!(self.privileges.len(), variant.privilege_bytes());
     }
 
     /// Asks that groups which only edition 2 has came in sessions at least so often, and at times texts
@@ -101,7 +114,8 @@ impl WalkTally {
             self.high.assert_least(call, outcomes, least);
         }
         for call in ["set_label", "set_row_label"] {
-            self.long.assert_least(call, &["done", "6", "7"], least / 5);
+            self.long
+                .assert_least(call, &["done", "6", "7"], least / 10);
         }
     }
 }

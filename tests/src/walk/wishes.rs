@@ -1,7 +1,8 @@
 //! New labels for a session, around what its user may set.
 
+use super::release::{row_label_groups, session_groups};
 use super::{label_at, one_of, LABEL_AT, ROW_AT};
-use crate::builder::{Label, Policy, Set, User};
+use crate::builder::{Label, Policy, Profile, Set, User};
 use crate::ffi::SESSION;
 use crate::rng::Rng;
 
@@ -21,7 +22,10 @@ pub fn session_label(view: &View, rng: &mut Rng) -> Label {
         tag: 0,
         level: between(row.level, user.levels.maximum, rng),
         compartments: row.compartments | rng.subset(user.compartments.read),
-        groups: cover(policy, row.groups, reach, rng) | rng.subset(reach),
+        groups: match policy.profile {
+            Profile::Tree => cover(policy, row.groups, reach, rng) | rng.subset(reach),
+            Profile::Release => session_groups(user, &row, rng),
+        },
     }
 }
 
@@ -35,7 +39,10 @@ pub fn row_label(view: &View, rng: &mut Rng) -> Label {
         tag: 0,
         level: between(user.levels.minimum, highest, rng),
         compartments: rng.subset(session.compartments & user.compartments.write),
-        groups: rng.subset(write_groups),
+        groups: match policy.profile {
+            Profile::Tree => rng.subset(write_groups),
+            Profile::Release => row_label_groups(policy, &session, rng),
+        },
     }
 }
 

@@ -72,6 +72,19 @@ pub fn faulty() -> Vec<(Box<[u8]>, Refusal)> {
     changes.into_iter().map(image).collect()
 }
 
+/// The sample of the release profile: a co-operative that marks its rows with the partner stores that they may
+/// go to.
+#[allow(dead_code)]
+pub fn partners() -> Box<[u8]> {
+    file("partners.img")
+}
+
+/// Its table: rows of 16 bytes.
+#[allow(dead_code)]
+pub fn partners_table() -> Box<[u8]> {
+    file("partners.bin")
+}
+
 /// The table of the report loop.
 #[allow(dead_code)]
 pub fn table() -> Box<[u8]> {

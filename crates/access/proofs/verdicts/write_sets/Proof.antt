@@ -1,30 +1,46 @@
-use mathlib.Core.Path.{sym, _∙_}
-use Rattle.access.specs.Verdicts.{readCompartmentsRule, writeGroupsRule, writeCompartmentsRule, writeSetsRule}
+use mathlib.Core.Path.{_≡_, sym, ap, _∙_}
+use Rattle.header.specs.declared.profile.Profile.{Profile}
+use Rattle.header.specs.Layout.{byProfile}
+use Rattle.labels.specs.declared.label.Label.{Label}
+use Rattle.labels.specs.Label.{marksOf}
+use Rattle.access.specs.declared.rights.View.{View}
+use Rattle.access.specs.Rights.{rightsOf}
+use Rattle.access.specs.Verdicts.{treeSetsRule, releaseSetsRule, writeSetsRule}
 use borrow.Author.Needs.{needs}
 use Rattle.access.proofs.verdicts.write_sets.Statement.{statement}
 use Rattle.access.proofs.verdicts.write_sets.Tie as tie
 
-is-empty-requires : tie.Need-is-empty-requires
-is-empty-requires c κs = search needs
+by-profile : (view : View) (row : Label) {p : Profile} → view .profile ≡ p
+    → byProfile (view .profile) (treeSetsRule (rightsOf view) (marksOf row)) (releaseSetsRule (rightsOf view) (marksOf row))
+    ≡ byProfile p (treeSetsRule (rightsOf view) (marksOf row)) (releaseSetsRule (rightsOf view) (marksOf row))
+by-profile view row e =
+    ap (λ (p : Profile). byProfile p (treeSetsRule (rightsOf view) (marksOf row)) (releaseSetsRule (rightsOf view) (marksOf row))) e
 
-within-requires : tie.Need-within-requires
-within-requires c κs = search needs
+enum-told : tie.Need-enum-told
+enum-told c = search needs
+
+tree-sets-requires : tie.Need-tree-sets-requires
+tree-sets-requires c κs = search needs
+
+enum-told-2 : tie.Need-enum-told-2
+enum-told-2 c = search needs
+
+release-sets-requires : tie.Need-release-sets-requires
+release-sets-requires c κs = search needs
 
 returns : tie.Need-returns
-unfolding writeSetsRule writeCompartmentsRule
-returns c = rw (sym (c .before .before .is-empty .ensures) ∙ c .before .if1 .taken) (c .within .ensures)
-
-meets-requires : tie.Need-meets-requires
-meets-requires c κs = search needs
-
-within-requires-2 : tie.Need-within-requires-2
-within-requires-2 c κs = search needs
+unfolding writeSetsRule
+returns c =
+    let case = c .before in
+    let start = case .before .before in
+    c .tree-sets .ensures ∙ sym (by-profile (start .args .view) (start .args .row) (case .enum-told .given .1))
 
 returns-2 : tie.Need-returns-2
-unfolding writeSetsRule writeGroupsRule readCompartmentsRule
-returns-2 c = rw (sym (c .before .before .before .is-empty .ensures) ∙ c .before .before .if1 .left, c .before .meets .ensures, c .within2 .ensures)
+unfolding writeSetsRule
+returns-2 c =
+    let case = c .before in
+    let start = case .before .before in
+    c .release-sets .ensures ∙ sym (by-profile (start .args .view) (start .args .row) (case .enum-told2 .given .1))
 
 pub write-sets-spec : {M : Type 1} → statement M
-write-sets-spec =
-    tie.close
-    (tie.spec is-empty-requires within-requires returns meets-requires within-requires-2 returns-2)
+write-sets-spec = tie.close (tie.spec enum-told tree-sets-requires enum-told-2 release-sets-requires returns returns-2)

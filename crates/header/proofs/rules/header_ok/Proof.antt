@@ -15,6 +15,9 @@ shared-slice-read-result-3 c = search needs
 shared-slice-read-result-4 : tie.Need-shared-slice-read-result-4
 shared-slice-read-result-4 c = search needs
 
+shared-slice-read-result-5 : tie.Need-shared-slice-read-result-5
+shared-slice-read-result-5 c = search needs
+
 counts-ok-requires : tie.Need-counts-ok-requires
 counts-ok-requires c κs = search needs
 
@@ -36,6 +39,7 @@ header-ok-spec =
     shared-slice-read-result-2
     shared-slice-read-result-3
     shared-slice-read-result-4
+    shared-slice-read-result-5
     counts-ok-requires
     edition-of-requires
     unused-ok-requires

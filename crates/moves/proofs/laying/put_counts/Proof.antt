@@ -37,9 +37,12 @@ labels-requires c κs = search needs
 edition-after-requires : tie.Need-edition-after-requires
 edition-after-requires c κs = search needs
 
+profile-of-requires : tie.Need-profile-of-requires
+profile-of-requires c κs = search needs
+
 put-header-requires : tie.Need-put-header-requires
 put-header-requires c κs =
-    let told = c .before in
+    let told = c .before .before in
     let labels = told .before in
     let users = labels .before in
     let groups = users .before in
@@ -55,7 +58,8 @@ same-length c = search needs
 returns : tie.Need-returns
 returns c =
     let written = c .before .before in
-    let told = written .before .before in
+    let profiled = written .before .before in
+    let told = profiled .before in
     let labels = told .before in
     let users = labels .before in
     let groups = users .before in
@@ -67,6 +71,7 @@ returns c =
       users .users .ensures .0,
       labels .labels .ensures .0,
       told .edition-after .ensures,
+      profiled .profile-of .ensures,
     )
     at (written .put-header .ensures)
 
@@ -82,6 +87,7 @@ put-counts-spec =
     users-requires
     labels-requires
     edition-after-requires
+    profile-of-requires
     put-header-requires
     same-length
     returns)

@@ -14,8 +14,8 @@ class-at-requires c κs = header-inside _ (c .before .before .pre .0)
 edition-of-requires : tie.Need-edition-of-requires
 edition-of-requires c κs = header-inside _ (c .before .before .before .pre .0)
 
-groups-requires : tie.Need-groups-requires
-groups-requires c κs = header-inside _ (c .before .before .before .before .pre .0)
+parent-count-requires : tie.Need-parent-count-requires
+parent-count-requires c κs = header-inside _ (c .before .before .before .before .pre .0)
 
 shape-ok-requires : tie.Need-shape-ok-requires
 shape-ok-requires c κs = search needs
@@ -40,7 +40,7 @@ returns c =
       c .new-name-ok .ensures,
       asked .before .class-at .ensures,
       asked .edition-of .ensures,
-      shaped .before .groups .ensures .0,
+      shaped .before .parent-count .ensures,
       listed .record-part .ensures .0,
     )
 
@@ -51,7 +51,7 @@ component-ok-spec =
     record-part-requires
     class-at-requires
     edition-of-requires
-    groups-requires
+    parent-count-requires
     shape-ok-requires
     numeric-ok-requires
     new-name-ok-requires

@@ -29,6 +29,11 @@ part-name-ok-end c = search needs
 name-ok-requires : tie.Need-name-ok-requires
 name-ok-requires c κs = search needs
 
+profile-of-requires : tie.Need-profile-of-requires
+profile-of-requires c κs =
+    let named = c in
+    header-inside _ (named .before .before .before .before .before .before .pre .0 .fitted)
+
 shared-slice-read-privileges-ok : tie.Need-shared-slice-read-privileges-ok
 shared-slice-read-privileges-ok c = search needs
 
@@ -49,7 +54,7 @@ all-zero-requires c κs = search needs
 
 sub-all-zero-2 : tie.Need-sub-all-zero-2
 sub-all-zero-2 c =
-    let ended = c .before .before .before .before .before .before in
+    let ended = c .before .before .before .before .before .before .before in
     let asked = ended .before in
     let start = asked .before .before .before in
     let end = ended .by-edition .ensures ∙ ap userEnd (asked .edition-of .ensures) in
@@ -57,7 +62,7 @@ sub-all-zero-2 c =
 
 part-all-zero-start-2 : tie.Need-part-all-zero-start-2
 part-all-zero-start-2 c =
-    let ended = c .before .before .before .before .before .before in
+    let ended = c .before .before .before .before .before .before .before in
     let asked = ended .before in
     let start = asked .before .before .before in
     let end = ended .by-edition .ensures ∙ ap userEnd (asked .edition-of .ensures) in
@@ -71,7 +76,7 @@ all-zero-requires-2 c κs = search needs
 
 levels-requires : tie.Need-levels-requires
 levels-requires c κs =
-    let named = c .before .before .before .before .before .before in
+    let named = c .before .before .before .before .before .before .before in
     header-inside _ (named .before .before .before .before .before .before .pre .0 .fitted)
 
 levels-ok-requires : tie.Need-levels-ok-requires
@@ -80,7 +85,7 @@ levels-ok-requires c κs = search needs
 compartments-requires : tie.Need-compartments-requires
 compartments-requires c κs =
     let zeroed = c .before .before in
-    let named = zeroed .before .before .before .before .before .before in
+    let named = zeroed .before .before .before .before .before .before .before in
     header-inside _ (named .before .before .before .before .before .before .pre .0 .fitted)
 
 compartments-ok-requires : tie.Need-compartments-ok-requires
@@ -89,13 +94,13 @@ compartments-ok-requires c κs = search needs
 groups-requires : tie.Need-groups-requires
 groups-requires c κs =
     let zeroed = c .before .before .before .before in
-    let named = zeroed .before .before .before .before .before .before in
+    let named = zeroed .before .before .before .before .before .before .before in
     header-inside _ (named .before .before .before .before .before .before .pre .0 .fitted)
 
 groups-ok-requires : tie.Need-groups-ok-requires
 groups-ok-requires c κs =
     let zeroed = c .before .before .before .before .before in
-    let named = zeroed .before .before .before .before .before .before in
+    let named = zeroed .before .before .before .before .before .before .before in
     let asked = named .before .before .before in
     let start = asked .before .before .before in
     (rw (asked .edition-of .ensures) (start .pre .1 .0), omega (arith, c .groups .ensures .0, counted-groups _ (start .pre .0)))
@@ -105,11 +110,12 @@ unfolding userShape
 returns c =
     let levelled = c .before .before .before .before in
     let zeroed = levelled .before .before in
-    let named = zeroed .before .before .before .before .before .before in
+    let named = zeroed .before .before .before .before .before .before .before in
     let ended = named .before .before in
     rw (
       named .name-ok .ensures,
       zeroed .before .before .before .before .privileges-ok .ensures,
+      zeroed .before .before .before .before .before .before .profile-of .ensures,
       zeroed .before .before .all-zero .ensures,
       zeroed .all-zero2 .ensures,
       rest-taken (ended .before .before .before .before .args .rec .now) (ended .by-edition .result),
@@ -133,6 +139,7 @@ shape-ok-spec =
     part-name-ok-start
     part-name-ok-end
     name-ok-requires
+    profile-of-requires
     shared-slice-read-privileges-ok
     privileges-ok-requires
     sub-all-zero

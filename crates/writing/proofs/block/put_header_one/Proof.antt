@@ -18,6 +18,9 @@ low-requires-2 c κs = search needs
 high-requires-2 : tie.Need-high-requires-2
 high-requires-2 c κs = search needs
 
+profile-byte-requires : tie.Need-profile-byte-requires
+profile-byte-requires c κs = search needs
+
 slice-aggregate-put-block : tie.Need-slice-aggregate-put-block
 slice-aggregate-put-block c = search needs
 
@@ -31,9 +34,10 @@ returns : tie.Need-returns
 unfolding headerBlock
 returns c =
     let written = c .before .before in
-    let labelled = written .before .before .before in
+    let profiled = written .before .before .before in
+    let labelled = profiled .before in
     let counted = labelled .before .before in
-    rw (counted .before .low .ensures, counted .high .ensures, labelled .before .low2 .ensures, labelled .high2 .ensures)
+    rw (counted .before .low .ensures, counted .high .ensures, labelled .before .low2 .ensures, labelled .high2 .ensures, profiled .profile-byte .ensures)
     at (written .put-block .ensures)
 
 pub put-header-one-spec : {M : Type 1} → statement M
@@ -45,6 +49,7 @@ put-header-one-spec =
     high-requires
     low-requires-2
     high-requires-2
+    profile-byte-requires
     slice-aggregate-put-block
     put-block-requires
     same-length

@@ -21,6 +21,9 @@ low-requires-3 c κs = search needs
 high-requires-3 : tie.Need-high-requires-3
 high-requires-3 c κs = search needs
 
+profile-byte-requires : tie.Need-profile-byte-requires
+profile-byte-requires c κs = search needs
+
 slice-aggregate-put-block : tie.Need-slice-aggregate-put-block
 slice-aggregate-put-block c = search needs
 
@@ -35,13 +38,15 @@ unfolding headerBlock
 returns c =
     let written = c .before .before in
     let grouped = written .before .before .before in
-    let labelled = grouped .before .before in
+    let profiled = grouped .before .before in
+    let labelled = profiled .before in
     let counted = labelled .before .before in
     rw (
       counted .before .low .ensures,
       counted .high .ensures,
       labelled .before .low2 .ensures,
       labelled .high2 .ensures,
+      profiled .profile-byte .ensures,
       grouped .before .low3 .ensures,
       grouped .high3 .ensures,
     )
@@ -55,6 +60,7 @@ put-header-two-spec =
     high-requires
     low-requires-2
     high-requires-2
+    profile-byte-requires
     low-requires-3
     high-requires-3
     slice-aggregate-put-block

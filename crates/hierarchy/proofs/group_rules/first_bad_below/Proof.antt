@@ -8,14 +8,14 @@ use Rattle.fields.proofs.Scan.{loop-bad, loop-good, loop-end}
 use Rattle.sets.specs.Sets.{allBelow}
 use Rattle.header.specs.Layout.{users}
 use Rattle.header.proofs.Inside.{header-inside}
-use Rattle.hierarchy.specs.Below.{belowRule, firstBadBelow}
+use Rattle.hierarchy.specs.Below.{groupSetsRule, firstBadBelow}
 use Rattle.hierarchy.proofs.Room.{groups-fit}
-use Rattle.hierarchy.proofs.table.first_bad_below.Statement.{statement}
-use Rattle.hierarchy.proofs.table.first_bad_below.Tie as tie
+use Rattle.hierarchy.proofs.group_rules.first_bad_below.Statement.{statement}
+use Rattle.hierarchy.proofs.group_rules.first_bad_below.Tie as tie
 
 abbrev Inv-loop : tie.InvT-loop
 Inv-loop image table all count u₀ u =
-    (u ≤ users image) × (firstBad (belowRule image) (users image - u) u ≡ firstBadBelow image)
+    (u ≤ users image) × (firstBad (groupSetsRule image) (users image - u) u ≡ firstBadBelow image)
 
 abbrev μ-loop : tie.MeasureT-loop
 μ-loop image table all count u₀ u = users image - u
@@ -35,8 +35,8 @@ loop-holds : tie.Need-loop-holds Inv-loop μ-loop
 unfolding firstBadBelow
 loop-holds c = (omega arith, rw sub-zero)
 
-below-ok-requires : tie.Need-below-ok-requires Inv-loop μ-loop
-below-ok-requires c κs =
+group-sets-ok-requires : tie.Need-group-sets-ok-requires Inv-loop μ-loop
+group-sets-ok-requires c κs =
     let every = c .before .before .before in
     let counted = every .before in
     let pre = counted .before .before .pre in
@@ -48,7 +48,7 @@ returns c =
     let turn = c .before .before .before in
     let u = turn .loop .u in
     let l : u < users (turn .before .before .before .before .before .args .image .now) = omega arith in
-    let bad = sym (c .before .below-ok .ensures) ∙ not-true _ (c .if1 .taken) in
+    let bad = sym (c .before .group-sets-ok .ensures) ∙ not-true _ (c .if1 .taken) in
     loop-bad _ _ _ _ l (turn .loop .inv .1) bad
 
 add-u : tie.Need-add-u Inv-loop μ-loop
@@ -62,7 +62,7 @@ loop-again c =
     let turn = c .before .before .before in
     let u = turn .loop .u in
     let l : u < users (turn .before .before .before .before .before .args .image .now) = omega arith in
-    let good = sym (c .before .below-ok .ensures) ∙ not-false _ (c .if1 .left) in
+    let good = sym (c .before .group-sets-ok .ensures) ∙ not-false _ (c .if1 .left) in
     (omega arith, loop-good _ _ _ _ l (turn .loop .inv .1) good)
 
 returns-2 : tie.Need-returns-2 Inv-loop μ-loop
@@ -81,7 +81,7 @@ first-bad-below-spec =
     all-below-requires
     users-requires
     loop-holds
-    below-ok-requires
+    group-sets-ok-requires
     returns
     add-u
     loop-less

@@ -2,8 +2,8 @@ use mathlib.Core.Path.{refl, sym, _∙_}
 use borrow.Author.Needs.{needs}
 use borrow.Author.Tests.{not-true, not-false}
 use Rattle.hierarchy.proofs.Steps.{rule-by}
-use Rattle.hierarchy.proofs.table.below_ok.Statement.{statement}
-use Rattle.hierarchy.proofs.table.below_ok.Tie as tie
+use Rattle.hierarchy.proofs.group_rules.below_ok.Statement.{statement}
+use Rattle.hierarchy.proofs.group_rules.below_ok.Tie as tie
 
 group-sets-requires : tie.Need-group-sets-requires
 group-sets-requires c κs = search needs
