@@ -22,7 +22,7 @@ use Rattle.records.specs.Fields.{placeOfRead, placeOfFull}
 use Rattle.access.specs.Verdicts.{readsAll, writesAll, holdsCompaccess, readLevelRule, readGroupsRule, readCompartmentsRule, compaccessReads, readTests, writeLevelRule, writeGroupsRule, writeCompartmentsRule, treeSetsRule, releaseSetsRule, writeSetsRule, compaccessWrites, writeTests, readsLabel, writesLabel, knownTag, mayRead, mayWrite}
 use Rattle.access.proofs.Tests.{unknown-mono, and-mono, or-mono, cond-mono}
 
--- the write sets lie inside the sets of reading
+-- the write compartments lie inside the compartments of reading, and in the old profile the write groups inside what is reached
 record WriteInRead (rights : Rights) : Type 0 where
   compartments : within (rights .writeCompartments) (rights .compartments) ≡ true
   groups : rights .profile ≡ Tree → within (rights .writeGroups) (rights .reachedGroups) ≡ true

@@ -97,7 +97,7 @@ pub layout-told-exactly : (im : List ℕ) → Framed im
 layout-told-exactly = layout-exactly
 
 -- 32 to 34 at block b and record r exactly if no lower block has a fault, b's layout is sound and r is its lowest record at fault, or, as 34
--- and last, if the record is that of the lowest user who breaks a below rule;
+-- and last, if the record is that of the lowest user who breaks the rule of group sets;
 pub record-told-exactly : (im : List ℕ) → Framed im → (kind : Kind) (b r : ℕ)
     → (checkOf im ≡ Refused (recordRefusal kind b r)) ↔ RecordTold im kind b r
 record-told-exactly = record-exactly

@@ -5,7 +5,7 @@ ghost use lib.ListN.{length};
 ghost use Rattle.header.specs.Layout.{profileOf};
 
 pub enum Profile {
-    // Groups have parents, and a group reaches all that lie below it.
+    // Groups may have parents, and a group reaches all that lie below it.
     Tree,
     // A row's groups are those that it may be released to.
     Release,

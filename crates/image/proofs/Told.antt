@@ -24,7 +24,7 @@ use Rattle.image.specs.Walk.{firstBadContent, contentFault, countedFault
 use Rattle.image.proofs.InBlocks.{two-numbers, three-numbers, blocks-from, blocks-upto, blocks-lowest}
 use Rattle.image.proofs.Lowest.{orElse, All, none, all-append, all-unless, all-at, all-map, From, from-earlier, content-faulty, lowest-then, lowest-unless, lowest-at}
 
--- ---- the user whose groups break a below rule: later users have later keys
+-- ---- the user whose groups break the rule of group sets: later users have later keys
 later-record : (c i j : ℕ) → 0 < c → i < j → (i / c < j / c) ⊎ ((i / c ≡ j / c) × (i % c < j % c))
 later-record c i j pos h = at (ltb (i / c) (j / c)) refl
   where

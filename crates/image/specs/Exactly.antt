@@ -54,7 +54,7 @@ pub record RingAtFault (im : List ℕ) (g : ℕ) : Type 0 where
   pub earlier : (h : ℕ) → h < g → endsRule im h ≡ true
   pub fault : endsRule im g ≡ false
 
--- 34, last: no block has a fault, the parents of every group end, and u is the lowest user who breaks a below rule
+-- 34, last: no block has a fault, the parents of every group end, and u is the lowest user who breaks the rule of group sets
 pub record BelowAtFault (im : List ℕ) (u : ℕ) : Type 0 where
   pub blocks : SoundBefore im (blocksNeeded im)
   pub rings : (g : ℕ) → g < groups im → endsRule im g ≡ true
@@ -67,7 +67,7 @@ pub record UserAt (im : List ℕ) (u b r : ℕ) : Type 0 where
   pub block : recordBlock (shapeOf im User) u ≡ b
   pub slot : recordSlot (shapeOf im User) u ≡ r
 
--- 32, 33 or 34 at block b and record r: by a record's own rules, or, for a user, by the below rules
+-- 32, 33 or 34 at block b and record r: by a record's own rules, or, for a user, by the rule of group sets
 abbrev pub RecordTold : List ℕ → Kind → ℕ → ℕ → Type 0
 RecordTold im kind b r = RecordAtFault im kind b r ⊎ ((kind ≡ User) × ((u : ℕ) × (BelowAtFault im u × UserAt im u b r)))
 

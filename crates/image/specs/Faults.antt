@@ -20,7 +20,7 @@ use Rattle.image.specs.declared.faults.Fault.the-variants.{Sound, Length
 
 -- ---- how a fault is told
 -- 1; 2 with the block; 31 for the header, a length unfit for its counts, and a block's kind, record count or bytes outside records; 32 for a
--- component, 33 for a label and 34 for a user, with the record's block and its place there; 35 with the group; a user's below rules as 34
+-- component, 33 for a label and 34 for a user, with the record's block and its place there; 35 with the group; a user's rule of group sets as 34
 abbrev pub shownAs : Fault → Checked
 shownAs Sound = Accepted
 shownAs Length = Refused ImageLength
@@ -34,7 +34,7 @@ shownAs (Below b r) = Refused (UserRecord b r)
 
 -- ---- the order
 -- 1 first, then 2 by block. Then 31 to 34 by block: in a block its layout, which is 31, and then its records in order. Then 35 by group.
--- A user's below rules come last, by user
+-- A user's rule of group sets comes last, by user
 abbrev pub keyOf : Fault → List ℕ
 keyOf Length = 1 ∷ []
 keyOf (Block b) = 2 ∷ b ∷ []
@@ -88,7 +88,7 @@ contentFaults im b =
     faultUnless (layoutRule im b) (Layout b)
     ++ faultsAt (λ r. recordRule im (held .kind) (held .from + r)) (recordFault (held .kind) b) (held .to - held .from) 0
 
--- the fault of the user at place u whose groups break a below rule: the block and the place there of the user's record
+-- the fault of the user at place u whose groups break the rule of group sets: the block and the place there of the user's record
 abbrev pub belowFault : List ℕ → ℕ → Fault
 belowFault im u = Below (recordBlock (shapeOf im kind.User) u) (recordSlot (shapeOf im kind.User) u)
 

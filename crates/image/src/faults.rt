@@ -21,7 +21,7 @@ pub enum Fault {
     User(u16, u16),
     // The parents of this group never end.
     Ring(usize),
-    // The groups of a user break a below rule: the block of the user's record, and its place there.
+    // The groups of a user break the rule of group sets: the block of the user's record, and its place there.
     Below(u16, u16),
 }
 

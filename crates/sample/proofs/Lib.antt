@@ -1,4 +1,5 @@
 pub mod Sample
+pub mod Partners
 pub mod Texts
 pub mod Mara
 pub mod Reported

@@ -31,7 +31,7 @@ both-sound : (foundFault cooperative ≡ Sound) × (foundFault casesImage ≡ So
 unfolding cooperative casesImage number2 number4 number8 all nameByte nameIn nameRule sameName nameBefore firstBad has allBelow within meets collect lengthRule blockAt sumA sumB checkRule placeRule blockRule blockCount firstBadBlock levels compartments groups users labels components firstBlock blocksFor blocksNeeded recordOffset recordAt contentsOf kindAt headerRule fitRule classAt classFirst parentRule componentShape numericRule otherName newNameRule componentRule labelShape tagRule labelRule userLevelsRule userCompartmentsRule userGroupsRule privilegesRule userShape userNameRule userRule ruleOf recordsOf listFrom layoutRule firstBadRecord contentRule parent hasParent endsWithin endsRule firstRing lineageWithin lineage below belowRule firstBadBelow firstBadContent contentFault countedFault foundFault editionOf countsRule groupsAt joined groupSetsRule profileOf reach
 both-sound = (refl, refl)
 
-sound-accepted : (im : List ℕ) → foundFault im ≡ Sound → checkOf im ≡ Accepted
+pub sound-accepted : (im : List ℕ) → foundFault im ≡ Sound → checkOf im ≡ Accepted
 unfolding checkOf faultOf
 sound-accepted im e = ap shownAs (found-lowest im ∙ e)
 
