@@ -59,6 +59,8 @@ run() {
 for loop in target/report_loop target/cargo/release/examples/report_loop; do
     $loop sample/cooperative.img sample/table.bin MARA | diff - sample/report_loop.out
     run $loop sample/cooperative.img sample/table.bin MARA | diff - <(cat sample/report_loop.out; echo "exit 0")
+    # of the release profile: the rows that go to HUGO's partner
+    run $loop sample/partners.img sample/partners.bin HUGO | diff - <(cat sample/partners.out; echo "exit 0")
     # refusals: no such user; 1,000 bytes are no whole blocks; 95 bytes are no whole rows
     test "$(run $loop sample/cooperative.img sample/table.bin NOBODY)" = $'refused 4\nexit 1'
     test "$(run $loop <(head -c 1000 sample/cooperative.img) sample/table.bin MARA)" = $'refused 1\nexit 1'

@@ -1,12 +1,42 @@
 //! What was seen of damaged images, to know that they go everywhere.
 
-use super::told::{is_of, kinds};
+use super::told::kinds;
 use super::Case;
-use crate::builder::{Profile, Variant};
+use crate::builder::{Edition, Profile, Variant};
 use crate::compare::expected;
 use crate::ffi::Answer;
 use crate::model::{faults, Fault, Kind};
 use std::collections::{BTreeMap, BTreeSet};
+
+// Kinds that not every edition has in every profile.
+pub const HIGH_GROUP: &str = "32 at a group past place 63";
+pub const RING_AT_0: &str = "35 at group 0";
+pub const RING: &str = "35";
+pub const HIGH_RING: &str = "35 past place 63";
+pub const HELD: &str = "34 by COMPACCESS";
+pub const HELD_BEFORE: &str = "34 by COMPACCESS, 35 or below";
+pub const PARENT: &str = "32 by a group as a parent";
+pub const OF_RELEASE: [&str; 4] = [
+    "34 by below, default lacks a read group",
+    "34 by below, row lacks a default group",
+    "34 by below, write lacks a read group",
+    "34 by below, write has another group",
+];
+
+/// Whether a kind is one of an edition in a profile.
+fn is_of(kind: &str, variant: Variant) -> bool {
+    let is_two = variant.edition == Edition::Two;
+    let is_release = variant.is_release();
+    match kind {
+        HIGH_GROUP => is_two,
+        RING_AT_0 | RING => !is_release,
+        HIGH_RING => is_two && !is_release,
+        HELD | HELD_BEFORE => !variant.has_compaccess(),
+        PARENT => is_release,
+        _ if OF_RELEASE.contains(&kind) => is_release,
+        _ => true,
+    }
+}
 
 /// Counts damaged images that 31 to 35 refuse. Those that 1 or 2 refuse tell nothing of places.
 #[derive(Debug, Default)]
@@ -82,14 +112,14 @@ impl DamageTally {
     }
 }
 
-/// The fault that is told, and another. A user's groups are told late.
+/// The fault that is told, and another.
 fn pair(told: Fault, other: Fault) -> &'static str {
     use Fault::{Below, Layout, Record, Ring};
     match (told, other) {
         (Layout { .. }, Layout { .. }) => "31, 31 of a later block",
         (Layout { block }, Record { block: it, .. }) if it == block => "31, a record of the block",
         (Layout { .. }, Record { .. }) => "31, a record of a later block",
-        (Layout { .. }, _) => "31, 35 or late",
+        (Layout { .. }, _) => "31, 35 or below",
         (Record { .. }, Layout { .. }) => "a record, 31 of a later block",
         (Record { block, .. }, Record { block: it, .. }) if it == block => "two of a block",
         (Record { .. }, Record { .. }) => "a record, a record of a later block",
@@ -104,10 +134,10 @@ fn pair(told: Fault, other: Fault) -> &'static str {
                 block: lower,
                 record: its,
             },
-        ) if (lower, its) < (block, record) => "a user, a lower one late",
-        (Record { .. }, Below { .. }) => "a record, a user late",
+        ) if (lower, its) < (block, record) => "a user, a lower one by below",
+        (Record { .. }, Below { .. }) => "a record, a user by below",
         (Ring { .. }, Ring { .. }) => "35, 35 at a higher group",
-        (Ring { .. }, _) => "35, a user late",
-        (Below { .. }, _) => "late, a higher user late",
+        (Ring { .. }, _) => "35, a user by below",
+        (Below { .. }, _) => "below, a higher user by below",
     }
 }

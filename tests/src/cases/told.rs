@@ -1,38 +1,10 @@
-//! The kinds of faults that a damaged image is told with, and which editions and profiles have them.
+//! The kinds of faults that a damaged image is told with. Below stands for the rules of a user's groups that come
+//! last, also for those of the release profile.
 
+use super::tally::{HELD, HELD_BEFORE, HIGH_GROUP, HIGH_RING, OF_RELEASE, PARENT, RING, RING_AT_0};
 use crate::builder::layout::BLOCK;
-use crate::builder::{Edition, Set, Variant, COMPACCESS};
+use crate::builder::{Set, Variant, COMPACCESS};
 use crate::model::{Fault, Kind};
-
-// Kinds that not every edition has in every profile.
-const HIGH_GROUP: &str = "32 at a group past place 63";
-const RING_AT_0: &str = "35 at group 0";
-const RING: &str = "35";
-const HIGH_RING: &str = "35 past place 63";
-const HELD: &str = "34 by COMPACCESS";
-const HELD_BEFORE: &str = "34 by COMPACCESS, 35 or late";
-const PARENT: &str = "32 by a group as a parent";
-const OF_RELEASE: [&str; 4] = [
-    "34 late, default lacks a read group",
-    "34 late, row lacks a default group",
-    "34 late, write lacks a read group",
-    "34 late, write has another group",
-];
-
-/// Whether a kind is one of an edition in a profile.
-pub fn is_of(kind: &str, variant: Variant) -> bool {
-    let is_two = variant.edition == Edition::Two;
-    let is_release = variant.is_release();
-    match kind {
-        HIGH_GROUP => is_two,
-        RING_AT_0 | RING => !is_release,
-        HIGH_RING => is_two && !is_release,
-        HELD | HELD_BEFORE => !variant.has_compaccess(),
-        PARENT => is_release,
-        _ if OF_RELEASE.contains(&kind) => is_release,
-        _ => true,
-    }
-}
 
 /// The kinds of an image's faults, which are in order, and whether the first, which is told, is of them.
 pub fn kinds(variant: Variant, image: &[u8], faults: &[Fault]) -> Vec<(&'static str, bool)> {
@@ -56,12 +28,11 @@ struct Told<'a> {
 }
 
 impl Told<'_> {
-    /// The rules of a user's groups come late: those by below, or those of the release profile.
     fn by_place(&self) -> Vec<(&'static str, bool)> {
         let (image, told) = (self.image, self.fault);
         let number = told.refusal().number();
-        let is_late = matches!(told, Fault::Below { .. });
-        let (is_later, is_last) = match told {
+        let is_below = matches!(told, Fault::Below { .. });
+        let (is_belowr, is_last) = match told {
             Fault::Record { block, record, .. } | Fault::Below { block, record } => {
                 let [before, bytes] = [block - 1, block].map(|it| &image[it * BLOCK..][..BLOCK]);
                 (before[0] == bytes[0], record + 1 == usize::from(bytes[1]))
@@ -72,17 +43,17 @@ impl Told<'_> {
             ("31 in block 0", told == Fault::Layout { block: 0 }),
             ("31", matches!(told, Fault::Layout { block: 1.. })),
             ("32", number == 32),
-            ("32 in a later block", number == 32 && is_later),
+            ("32 in a later block", number == 32 && is_belowr),
             ("32 at the last record of a block", number == 32 && is_last),
             (HIGH_GROUP, self.is_high()),
             ("33", number == 33),
-            ("33 in a later block", number == 33 && is_later),
+            ("33 in a later block", number == 33 && is_belowr),
             ("33 at the last record of a block", number == 33 && is_last),
-            ("34", number == 34 && !is_late),
-            ("34 in a later block", number == 34 && is_later),
+            ("34", number == 34 && !is_below),
+            ("34 in a later block", number == 34 && is_belowr),
             ("34 at the last record of a block", number == 34 && is_last),
-            ("34 late", is_late),
-            ("34 late in a later block", is_late && is_later),
+            ("34 by below", is_below),
+            ("34 by below in a later block", is_below && is_belowr),
             (RING_AT_0, told == Fault::Ring { group: 0 }),
             (RING, matches!(told, Fault::Ring { group: 1.. })),
             (HIGH_RING, matches!(told, Fault::Ring { group: 64.. })),
@@ -124,7 +95,7 @@ impl Told<'_> {
             .is_some_and(|(_, record)| record[0] == 3 && number(&record[edition.parent()]) < groups)
     }
 
-    /// The user's record, if the fault is a user's own or late.
+    /// The user's record, if the fault is a user's own or one by below.
     fn user(&self) -> Option<&[u8]> {
         let (block, record) = match self.fault {
             Fault::Record {
@@ -144,15 +115,15 @@ impl Told<'_> {
         let is_own = matches!(self.fault, Fault::Record { .. });
         let is_held = self.user().is_some_and(|it| it[31] & COMPACCESS != 0);
         let is_told = is_own && is_held && !self.variant.has_compaccess();
-        let is_late = |fault: &Fault| matches!(fault, Fault::Ring { .. } | Fault::Below { .. });
-        let is_before = is_told && faults.iter().any(is_late);
+        let is_below = |fault: &Fault| matches!(fault, Fault::Ring { .. } | Fault::Below { .. });
+        let is_before = is_told && faults.iter().any(is_below);
         [(HELD, is_told), (HELD_BEFORE, is_before)]
     }
 
     /// Which rules of the release profile the user breaks.
     fn by_release(&self) -> [(&'static str, bool); 4] {
-        let is_late = self.variant.is_release() && matches!(self.fault, Fault::Below { .. });
-        let user = self.user().filter(|_| is_late);
+        let is_below = self.variant.is_release() && matches!(self.fault, Fault::Below { .. });
+        let user = self.user().filter(|_| is_below);
         let size = self.variant.edition.group_set();
         let broken = user.map_or([false; 4], |user| {
             let [read, write, default, row] =
