@@ -18,14 +18,18 @@ use Rattle.sessions.specs.Opening.{session, refused, openOf}
 use Rattle.sessions.specs.Changes.{changeIf, changeTo, afterLent, withLabel, withRowLabel, labelChange, rowLabelChange, setLabelOf, setRowLabelOf}
 use Rattle.sessions.specs.Asking.{mayReadOf, mayWriteOf}
 use Rattle.sessions.proofs.Passing.{opened-passes, label-changed-passes, row-label-changed-passes}
+use Rattle.buffers.specs.Filling.{unfilled}
+use Rattle.maps.specs.Calls.{makeMapOf, judgeMapOf}
 use Rattle.rows.specs.Reading.{readRowsOf}
 use Rattle.rows.specs.Updating.{updateRowOf}
 use Rattle.rows.specs.Masked.{maskedVerdictOf}
+use Rattle.rows.specs.Mapped.{readMappedOf}
 use Rattle.rows.specs.declared.answers.RowsRead.the-variants as read
 use Rattle.encoding.specs.Sessions.{sessionBytes, sessionIn, SessionPartsFit, Holds, changedInto}
 use Rattle.encoding.specs.Verdicts.{verdictCode}
 use Rattle.encoding.proofs.ReadBack.{bytes-hold}
-use Rattle.abi.specs.Answers.{coded, withSession}
+use Rattle.abi.specs.Answers.{coded, filledGiven, withSession}
+use Rattle.abi.specs.Maps.{makeMapAnswer, judgeMapAnswer, readMappedAnswer}
 use Rattle.abi.specs.Sessions.{openAnswer, changeAnswer, setLabelAnswer, setRowLabelAnswer, mayReadAnswer, mayWriteAnswer}
 use Rattle.abi.specs.Tables.{rowsGiven, readAnswer, updateAnswer, maskedAnswer}
 use Rattle.abi.proofs.Widths.{lent-widths}
@@ -128,3 +132,14 @@ module _ (im bytes : List ℕ) (s : SessionMarks) (holds : Holds bytes s) where
 
   pub masked-held : (table : List ℕ) (w place : ℕ) → maskedAnswer im bytes table w place ≡ verdictCode (maskedVerdictOf im s table w place)
   masked-held table w place = ap verdictCode (held verdict.Refused (λ t. maskedVerdictOf im t table w place))
+
+  -- maps
+  pub make-map-held : (buffer : List ℕ) → _≡_ {A = ℕ × List ℕ} (makeMapAnswer im bytes buffer) (coded filledGiven (makeMapOf im s buffer))
+  make-map-held buffer = ap (coded filledGiven) (held (unfilled buffer) (λ t. makeMapOf im t buffer))
+
+  pub judge-map-held : (bits : List ℕ) → judgeMapAnswer im bytes bits ≡ codeOf (checkedGiven (judgeMapOf im s bits))
+  judge-map-held bits = ap (λ (c : Checked). codeOf (checkedGiven c)) (held Refused (λ t. judgeMapOf im t bits))
+
+  pub read-mapped-held : (table : List ℕ) (w : ℕ) (bits buffer : List ℕ)
+      → _≡_ {A = ℕ × List ℕ} (readMappedAnswer im bytes table w bits buffer) (coded rowsGiven (readMappedOf im s table w bits buffer))
+  read-mapped-held table w bits buffer = ap (coded rowsGiven) (held (λ r. (read.Refused r, buffer)) (λ t. readMappedOf im t table w bits buffer))

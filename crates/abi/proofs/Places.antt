@@ -39,14 +39,15 @@ use Rattle.sessions.specs.Session.{SessionMarks, lentAnswer, sessionRights}
 use Rattle.sessions.specs.Opening.{Opening, session, refused, defaultSession, openAccepted, openOf}
 use Rattle.sessions.specs.Changes.{changeIf, changeTo, afterLent, withLabel, withRowLabel, labelChange, rowLabelChange, setLabelOf, setRowLabelOf}
 use Rattle.sessions.specs.Asking.{mayReadOf, mayWriteOf}
-use Rattle.moves.specs.declared.answers.Moved.{Moved}
-use Rattle.moves.specs.declared.answers.Moved.the-variants as moved
+use Rattle.buffers.specs.declared.answers.Filled.{Filled}
+use Rattle.buffers.specs.declared.answers.Filled.the-variants as filled
 use Rattle.moves.specs.declared.target.Move.the-variants.{Up, Clear}
 use Rattle.moves.specs.Moved.{newImage}
 use Rattle.moves.specs.Holders.{isHolder, holders}
-use Rattle.moves.specs.Moving.{framedTwo, oldCheckOf, unmoved, writtenTo, moveLimitsRule, moveAccepted, moveUpOf, compaccessUsersOf, clearCompaccessOf}
+use Rattle.buffers.specs.Filling.{unfilled, writtenTo}
+use Rattle.moves.specs.Moving.{framedTwo, oldCheckOf, moveLimitsRule, moveAccepted, moveUpOf, compaccessUsersOf, clearCompaccessOf}
 use Rattle.abi.specs.Labels.{printedGiven}
-use Rattle.abi.specs.Moves.{movedGiven}
+use Rattle.abi.specs.Answers.{filledGiven}
 use Rattle.abi.specs.Sessions.{openedGiven}
 use Rattle.abi.specs.TwoLabels.{mergedGiven}
 
@@ -213,30 +214,30 @@ merge-fits a b letters r e = subst (λ (m : Merging). PlaceFits (mergedGiven m))
 
 -- ---- moves
 -- what is written has no place, and neither has 13
-written-fits : (buffer bytes : List ℕ) → PlaceFits (movedGiven (writtenTo buffer bytes .0))
+pub written-fits : (buffer bytes : List ℕ) → PlaceFits (filledGiven (writtenTo buffer bytes .0))
 written-fits buffer bytes = at (leb (length bytes) (length buffer))
   where
-    at : (t : Bool) → PlaceFits (movedGiven (cond {A = Moved × List ℕ} t (moved.Done (length bytes), atFront bytes buffer) (moved.Refused Room, buffer) .0))
+    at : (t : Bool) → PlaceFits (filledGiven (cond {A = Filled × List ℕ} t (filled.Done (length bytes), atFront bytes buffer) (filled.Refused Room, buffer) .0))
     at true = omega arith
     at false = omega arith
 
 -- an answer that comes after the check of an image of edition 1
-old-fits : (im buffer : List ℕ) (answer : Moved × List ℕ) → PlaceFits (movedGiven (answer .0))
-    → PlaceFits (movedGiven (onChecked (oldCheckOf im) (unmoved buffer) answer .0))
+old-fits : (im buffer : List ℕ) (answer : Filled × List ℕ) → PlaceFits (filledGiven (answer .0))
+    → PlaceFits (filledGiven (onChecked (oldCheckOf im) (unfilled buffer) answer .0))
 unfolding oldCheckOf
 old-fits im buffer answer fits = at (framedTwo im) (checkOf im) refl
   where
     at : (f : Bool) (c : Checked) → checkOf im ≡ c
-        → PlaceFits (movedGiven (onChecked {A = Moved × List ℕ} (cond f (Refused ImageLayout) c) (unmoved buffer) answer .0))
+        → PlaceFits (filledGiven (onChecked {A = Filled × List ℕ} (cond f (Refused ImageLayout) c) (unfilled buffer) answer .0))
     at true c e = omega arith
     at false Accepted e = fits
     at false (Refused r) e = image-fits im r e
 
-pub list-fits : (im buffer : List ℕ) → PlaceFits (movedGiven (compaccessUsersOf im buffer .0))
+pub list-fits : (im buffer : List ℕ) → PlaceFits (filledGiven (compaccessUsersOf im buffer .0))
 unfolding compaccessUsersOf
 list-fits im buffer = old-fits im buffer (writtenTo buffer (holders im)) (written-fits buffer (holders im))
 
-pub clear-fits : (im buffer : List ℕ) → PlaceFits (movedGiven (clearCompaccessOf im buffer .0))
+pub clear-fits : (im buffer : List ℕ) → PlaceFits (filledGiven (clearCompaccessOf im buffer .0))
 unfolding clearCompaccessOf
 clear-fits im buffer = old-fits im buffer (writtenTo buffer (newImage Clear im)) (written-fits buffer (newImage Clear im))
 
@@ -245,13 +246,13 @@ few-holders : (im : List ℕ) → moveLimitsRule im ≡ true → length (holders
 unfolding moveLimitsRule holders
 few-holders im e = omega (arith, where-count (isHolder im) (users im) 0, leb-true (users im) 32 (parts (leb (labels im) 800) (leb (users im) 32) e .1))
 
-pub move-fits : (im buffer : List ℕ) → PlaceFits (movedGiven (moveUpOf im buffer .0))
+pub move-fits : (im buffer : List ℕ) → PlaceFits (filledGiven (moveUpOf im buffer .0))
 unfolding moveUpOf
 move-fits im buffer = old-fits im buffer (moveAccepted im buffer) (at (moveLimitsRule im) refl (eqb (length (holders im)) 0))
   where
     at : (s : Bool) → moveLimitsRule im ≡ s → (h : Bool)
-        → PlaceFits (movedGiven (cond {A = Moved × List ℕ} s
-        (cond h (writtenTo buffer (newImage Up im)) (unmoved buffer (CompaccessHolders (length (holders im))))) (unmoved buffer MoveLimits) .0))
+        → PlaceFits (filledGiven (cond {A = Filled × List ℕ} s
+        (cond h (writtenTo buffer (newImage Up im)) (unfilled buffer (CompaccessHolders (length (holders im))))) (unfilled buffer MoveLimits) .0))
     at true e true = written-fits buffer (newImage Up im)
     at true e false = few-holders im e
     at false e h = omega arith

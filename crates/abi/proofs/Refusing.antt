@@ -9,10 +9,13 @@ use Rattle.printing.specs.declared.answers.Printed.the-variants as printed
 use Rattle.sessions.specs.Session.{SessionMarks, lentAnswer}
 use Rattle.sessions.specs.Changes.{setLabelOf, setRowLabelOf}
 use Rattle.sessions.specs.Asking.{mayReadOf, mayWriteOf}
+use Rattle.buffers.specs.Filling.{unfilled}
+use Rattle.maps.specs.Calls.{makeMapOf, judgeMapOf}
 use Rattle.rows.specs.Table.{tableAnswer}
 use Rattle.rows.specs.Reading.{readRowsOf}
 use Rattle.rows.specs.Updating.{updateRowOf}
 use Rattle.rows.specs.Masked.{maskedVerdictOf}
+use Rattle.rows.specs.Mapped.{readMappedOf}
 use Rattle.rows.specs.declared.answers.RowsRead.the-variants as read
 
 -- ---- every call on a session refuses as soon as the session is refused
@@ -44,3 +47,15 @@ module _ (im : List ℕ) (s : SessionMarks) (r : Refusal) (e : lentAnswer im s �
   pub masked-refused : (table : List ℕ) (w place : ℕ) → maskedVerdictOf im s table w place ≡ verdict.Refused r
   unfolding maskedVerdictOf tableAnswer
   masked-refused table w place = rw e
+
+  pub make-map-refused : (buffer : List ℕ) → makeMapOf im s buffer ≡ unfilled buffer r
+  unfolding makeMapOf
+  make-map-refused buffer = rw e
+
+  pub judge-map-refused : (bits : List ℕ) → judgeMapOf im s bits ≡ Refused r
+  unfolding judgeMapOf
+  judge-map-refused bits = rw e
+
+  pub read-mapped-refused : (table : List ℕ) (w : ℕ) (bits buffer : List ℕ) → readMappedOf im s table w bits buffer ≡ (read.Refused r, buffer)
+  unfolding readMappedOf tableAnswer
+  read-mapped-refused table w bits buffer = rw e

@@ -5,3 +5,4 @@ pub mod Sessions
 pub mod Tables
 pub mod TwoLabels
 pub mod Moves
+pub mod Maps

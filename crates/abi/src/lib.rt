@@ -1,4 +1,6 @@
 // The C functions. Each takes the bytes apart, makes the call and lays its answer down in one number.
+mod codes;
+pub mod mapping;
 pub mod moving;
 
 ghost use mathlib.Core.Path.{_≡_};
@@ -6,8 +8,9 @@ ghost use Rattle.refusals.specs.Answers.{PlaceFits, refusalGiven, codeOf, answe
 ghost use Rattle.abi.specs.Answers.{afterCheck, checkAnswer, nameSpan};
 ghost use Rattle.abi.specs.Labels.{parseAnswer, printedGiven, printAnswer};
 ghost use Rattle.abi.specs.Sessions.{openAnswer, setLabelAnswer, setRowLabelAnswer, mayReadAnswer, mayWriteAnswer};
-ghost use Rattle.abi.specs.Tables.{rowsGiven, readAnswer, updateAnswer, maskedAnswer};
+ghost use Rattle.abi.specs.Tables.{readAnswer, updateAnswer, maskedAnswer};
 ghost use Rattle.abi.specs.TwoLabels.{dominatesAnswer, strictlyDominatesAnswer, mergeAnswer};
+use codes::rows_code;
 use dominance::merging::Merged;
 use encoding::answers::checked_code;
 use encoding::answers::refused;
@@ -19,7 +22,6 @@ use labels::answers::Parsed;
 use printing::answers::Printed;
 use refusals::Refusal;
 use refusals::answers::Checked;
-use rows::answers::RowsRead;
 use sessions::answers::Opened;
 
 // Is the image accepted? Done: 0.
@@ -47,7 +49,7 @@ pub extern "C" fn brawnesk_name(image: &[u8], class: u8, place: u8) -> u64
 }
 
 // The refusal of the image, and of an accepted one that refusal.
-fn after_check(image: &[u8], refusal: Refusal) -> u64
+pub(crate) fn after_check(image: &[u8], refusal: Refusal) -> u64
     requires { ⌜ PlaceFits (refusalGiven refusal) ⌝ }
     ensures { λ r. ⌜ r ≡ answerOf (afterCheck (now (image .entry)) refusal) ⌝ }
 {
@@ -152,17 +154,6 @@ pub extern "C" fn brawnesk_may_write(image: &[u8], session: &[u8; 104], tag: u32
         return after_check(image, Refusal::SessionRules);
     }
     verdict_code(bytes104::session_in(session).may_write(image, tag))
-}
-
-// How many rows, or the refusal.
-fn rows_code(answer: RowsRead) -> u64
-    requires { ⌜ PlaceFits (rowsGiven answer) ⌝ }
-    ensures { λ r. ⌜ r ≡ codeOf (rowsGiven answer) ⌝ }
-{
-    match answer {
-        RowsRead::Done(count) => count as u64,
-        RowsRead::Refused(r) => refused(r),
-    }
 }
 
 // Copies the rows that the session may read to the front of `out`. Done: how many.

@@ -102,10 +102,13 @@ abbrev pub unknownRule : Edition → Bool → Bool
 unknownRule One all = all
 unknownRule Two all = false
 
+-- rows of such tags may be read with those rights
+abbrev pub unknownRead : List ℕ → Rights → Bool
+unknownRead im rights = unknownRule (editionOf im) (readsAll rights)
+
 -- the label that the tag names decides; where none carries it, the edition
 unfoldable pub mayRead : List ℕ → Rights → ℕ → Bool
-mayRead im rights tag =
-    cond (knownTag im tag) (readsLabel rights (labelAt im (labelOfTag im tag))) (unknownRule (editionOf im) (readsAll rights))
+mayRead im rights tag = cond (knownTag im tag) (readsLabel rights (labelAt im (labelOfTag im tag))) (unknownRead im rights)
 
 unfoldable pub mayWrite : List ℕ → Rights → ℕ → Bool
 mayWrite im rights tag =

@@ -7,7 +7,7 @@ ghost use Rattle.header.specs.Limits.{Counted};
 ghost use Rattle.image.specs.Check.{IsAccepted};
 ghost use Rattle.labels.specs.Label.{marksOf, labelAt};
 ghost use Rattle.access.specs.Rights.{rightsOf};
-ghost use Rattle.access.specs.Verdicts.{readsAll, writesAll, holdsCompaccess, readLevelRule, readGroupsRule, readTests, readsLabel, treeSetsRule, releaseSetsRule, writeSetsRule, writeTests, writesLabel, unknownRule, mayRead, mayWrite};
+ghost use Rattle.access.specs.Verdicts.{readsAll, writesAll, holdsCompaccess, readLevelRule, readGroupsRule, readTests, readsLabel, treeSetsRule, releaseSetsRule, writeSetsRule, writeTests, writesLabel, unknownRule, unknownRead, mayRead, mayWrite};
 use crate::rights::View;
 use crate::rights::is_between;
 use fields::numbers::number8;
@@ -23,7 +23,7 @@ use records::group_sets::group_set;
 use sets::word;
 
 // Is READ or FULL held?
-fn reads_all(view: View) -> bool
+pub(crate) fn reads_all(view: View) -> bool
     ensures { λ r. ⌜ r ≡ readsAll (rightsOf view) ⌝ }
 {
     let privileges = view.privileges as u64;
@@ -37,7 +37,7 @@ fn writes_all(view: View) -> bool
     word::has(view.privileges as u64, 1)
 }
 
-fn holds_compaccess(view: View) -> bool
+pub(crate) fn holds_compaccess(view: View) -> bool
     ensures { λ r. ⌜ r ≡ holdsCompaccess (rightsOf view) ⌝ }
 {
     word::has(view.privileges as u64, 2)
@@ -150,6 +150,14 @@ fn is_unknown_seen(image: &[u8], all: bool) -> bool
     }
 }
 
+// May the session read rows of such tags?
+pub fn unknown_read(image: &[u8], view: View) -> bool
+    requires { ⌜ 512 ≤ length (now image) ⌝ }
+    ensures { λ r. ⌜ r ≡ unknownRead (now (image .entry)) (rightsOf view) ⌝ }
+{
+    is_unknown_seen(image, reads_all(view))
+}
+
 // The tag's label decides; where none carries it, the edition.
 pub fn may_read(image: &[u8], view: View, tag: u32) -> bool
     requires { ⌜ IsAccepted (now image) ⌝ }
@@ -159,7 +167,7 @@ pub fn may_read(image: &[u8], view: View, tag: u32) -> bool
     if k < layout::labels(image) {
         return reads_label(view, label_at(image, k));
     }
-    is_unknown_seen(image, reads_all(view))
+    unknown_read(image, view)
 }
 
 // The tag's label decides; where none carries it, the edition.

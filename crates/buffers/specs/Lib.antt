@@ -1,2 +1,3 @@
 -- Bytes written over those of a lent buffer.
 pub mod Pasting
+pub mod Filling

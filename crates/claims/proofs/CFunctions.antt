@@ -14,6 +14,7 @@ use Rattle.sessions.specs.Session.{SessionMarks}
 use Rattle.sessions.specs.Opening.{Opening, session, refused, openOf}
 use Rattle.sessions.specs.Changes.{setLabelOf, setRowLabelOf}
 use Rattle.rows.specs.Reading.{readRowsOf}
+use Rattle.rows.specs.Mapped.{readMappedOf}
 use Rattle.rows.specs.Updating.{updateRowOf}
 use Rattle.rows.specs.declared.answers.RowsRead.{RowsRead}
 use Rattle.rows.specs.declared.answers.RowsRead.the-variants.{Done, Refused}
@@ -21,14 +22,15 @@ use Rattle.encoding.specs.Sessions.{changedInto}
 use Rattle.abi.specs.Sessions.{openedGiven, openedInto, openAnswer}
 use Rattle.abi.specs.Tables.{rowsGiven}
 use Rattle.abi.proofs.InBytes.{open-holds}
-use Rattle.isolation.specs.Calls.{LentAs, last, other, Call, opening, settingLabel, settingRowLabel, onRows, reading, updating}
+use Rattle.isolation.specs.Calls.{LentAs, last, other, Call, opening, settingLabel, settingRowLabel, onRows, reading, readingMapped, updating}
 use Rattle.isolation.specs.Calls.{lentSession, sessionAfter, bytesRead, rowStep, step, run}
 use Rattle.isolation.specs.Calls.{Answer, opened, labelSet, rowsHanded, rowDone, State}
 use Rattle.isolation.specs.Claim.{bufferZeroed, started, ownWidth, ownCall, ownCalls, listAtMaximum, Premises, HiddenKept}
 use Rattle.isolation.proofs.HiddenRows.{run-step, hidden-rows}
-use Rattle.claims.specs.CFunctions.{BytesLent, lastBytes, otherBytes, CCall, cOpen, cSetLabel, cSetRowLabel, cRead, cUpdate, CState, cStarted}
+use Rattle.claims.specs.CFunctions.{BytesLent, lastBytes, otherBytes, CCall, cOpen, cSetLabel, cSetRowLabel, cRead, cReadMapped, cUpdate, CState, cStarted}
 use Rattle.claims.specs.CFunctions.{bytesLent, whenDone, bytesHanded, cStep, cRun, cOwnCall, cOwnCalls, cBufferZeroed, CHiddenRows}
-use Rattle.claims.proofs.Held.{heldAs, held-user, holds-held, read-as, update-as, set-label-as, set-label-left, set-row-label-as, set-row-label-left}
+use Rattle.claims.proofs.Held.{heldAs, held-user, holds-held, read-as, read-mapped-as, update-as, set-label-as, set-label-left, set-row-label-as, set-row-label-left}
+use Rattle.claims.proofs.Held.{refusal-handed, opened-handed, opened-held}
 
 -- ---- the calls by value
 abbrev pub lentValued : BytesLent → LentAs
@@ -40,6 +42,7 @@ valued (cOpen old name) = opening name
 valued (cSetLabel lent text) = settingLabel (lentValued lent) text
 valued (cSetRowLabel lent text) = settingRowLabel (lentValued lent) text
 valued (cRead lent width buffer) = onRows (lentValued lent) width (reading buffer)
+valued (cReadMapped lent width bits buffer) = onRows (lentValued lent) width (readingMapped bits buffer)
 valued (cUpdate lent width n payload) = onRows (lentValued lent) width (updating n payload)
 
 -- and what stands between two of them
@@ -57,6 +60,7 @@ lentTo lately (cOpen old name) = []
 lentTo lately (cSetLabel lent text) = bytesLent lately lent
 lentTo lately (cSetRowLabel lent text) = bytesLent lately lent
 lentTo lately (cRead lent width buffer) = bytesLent lately lent
+lentTo lately (cReadMapped lent width bits buffer) = bytesLent lately lent
 lentTo lately (cUpdate lent width n payload) = bytesLent lately lent
 
 -- the number and the bytes, of a call that was lent those bytes
@@ -87,24 +91,6 @@ pub record Simulated (im : List ℕ) (state : CState) (call : CCall) : Type 0 wh
   pub by-value : step im (stateValued state) (valued call) ≡ (stateValued (cStep im state call .0), answer)
   pub bytes : cStep im state call .0 .bytes ≡ lastAfter (state .bytes) (lentTo (state .bytes) call) answer
   pub seen : cStep im state call .1 ≡ seenOf (lentTo (state .bytes) call) answer
-
--- a refusal's number hands nothing out
-refusal-handed : (r : Refusal) (out otherwise : List ℕ) → whenDone (answerOf r) out otherwise ≡ otherwise
-refusal-handed r out otherwise = rw (le-ltb (answerOf r) (2 ^ 63) (omega arith))
-
--- an opening that is done hands its session out, and its number tells it
-opened-handed : (answer : Opening) (old otherwise : List ℕ)
-    → whenDone (codeOf (openedGiven answer)) (openedInto answer old) otherwise ≡ openedInto answer otherwise
-opened-handed (session s) old otherwise = refl
-opened-handed (refused r) old otherwise = refusal-handed r old otherwise
-
--- and leaves bytes that stand for it
-opened-held : (im name lately : List ℕ) → heldAs (openedInto (openOf im name) lately) ≡ sessionAfter (openOf im name) (heldAs lately)
-opened-held im name lately = at (openOf im name) refl
-  where
-    at : (answer : Opening) → openOf im name ≡ answer → heldAs (openedInto answer lately) ≡ sessionAfter answer (heldAs lately)
-    at (session t) e = let done = open-holds im name lately t e in holds-held (openedInto (session t) lately) t (rw e at done)
-    at (refused r) e = refl
 
 -- the bytes that a read hands out by its number are those that it hands out by its answer
 rows-seen : (width : ℕ) (answer : RowsRead) (buffer : List ℕ)
@@ -157,6 +143,19 @@ module _ (im : List ℕ) (state : CState) where
             ap
             (λ (s : SessionMarks).
             let r = readRowsOf im s (state .table) width buffer in (stateValued state, rowsHanded (r .0) (bytesRead (r .0) width (r .1))))
+            (lent-valued state lent);
+        bytes = refl;
+        seen = ap (λ (p : ℕ × List ℕ). (p .0, bytesHanded (p .0) width (p .1))) after ∙ rows-seen width (result .0) (result .1);
+      }
+  step-simulated (cReadMapped lent width bits buffer) =
+      let result = readMappedOf im (heldAs (bytesLent (state .bytes) lent)) (state .table) width bits buffer in
+      let after = read-mapped-as im (bytesLent (state .bytes) lent) (state .table) width bits buffer in
+      record {
+        answer = rowsHanded (result .0) (bytesRead (result .0) width (result .1));
+        by-value =
+            ap
+            (λ (s : SessionMarks).
+            let r = readMappedOf im s (state .table) width bits buffer in (stateValued state, rowsHanded (r .0) (bytesRead (r .0) width (r .1))))
             (lent-valued state lent);
         bytes = refl;
         seen = ap (λ (p : ℕ × List ℕ). (p .0, bytesHanded (p .0) width (p .1))) after ∙ rows-seen width (result .0) (result .1);
@@ -219,6 +218,8 @@ own-valued im u width (call ∷ calls) state =
     same (cSetRowLabel lent text) = ap (λ (k : ℕ). eqb k u) (sym (held-user (bytesLent (state .bytes) lent))) ∙ user lent
     same (cRead lent named buffer) =
         ap (λ (b : Bool). b && ownWidth width named) (ap (λ (k : ℕ). eqb k u) (sym (held-user (bytesLent (state .bytes) lent))) ∙ user lent)
+    same (cReadMapped lent named bits buffer) =
+        ap (λ (b : Bool). b && ownWidth width named) (ap (λ (k : ℕ). eqb k u) (sym (held-user (bytesLent (state .bytes) lent))) ∙ user lent)
     same (cUpdate lent named n payload) =
         ap (λ (b : Bool). b && ownWidth width named) (ap (λ (k : ℕ). eqb k u) (sym (held-user (bytesLent (state .bytes) lent))) ∙ user lent)
 
@@ -237,6 +238,7 @@ seen-zeroed (call ∷ calls) lately (answer ∷ answers) =
     lent-zeroed (cSetLabel lent text) = refl
     lent-zeroed (cSetRowLabel lent text) = refl
     lent-zeroed (cRead lent width buffer) = refl
+    lent-zeroed (cReadMapped lent width bits buffer) = refl
     lent-zeroed (cUpdate lent width n payload) = refl
 
 -- by value they are alike too
@@ -249,6 +251,7 @@ valued-zeroed (call ∷ calls) = rw (same call, valued-zeroed calls)
     same (cSetLabel lent text) = refl
     same (cSetRowLabel lent text) = refl
     same (cRead lent width buffer) = refl
+    same (cReadMapped lent width bits buffer) = refl
     same (cUpdate lent width n payload) = refl
 
 -- ---- hidden rows stay hidden

@@ -7,7 +7,7 @@ use native.Mathlib.Nat.{lt-of-lt-of-le}
 use lib.ListN.{replicate}
 use lib.Pow.{pow-mono}
 use Rattle.sets.specs.Groups.{width}
-use Rattle.refusals.specs.declared.Refusal.the-variants.{NoUser, RowLabelOutside, TableShape, NoRow, RowNotWritable, SessionRules}
+use Rattle.refusals.specs.declared.Refusal.the-variants.{NoUser, RowLabelOutside, TableShape, NoRow, RowNotWritable, SessionRules, WrongMap}
 use Rattle.refusals.specs.Answers.{answerOf}
 use Rattle.sessions.specs.Session.{SessionMarks}
 use Rattle.encoding.specs.Sessions.{sessionBytes, SessionPartsFit}
@@ -17,9 +17,9 @@ use Rattle.isolation.specs.Claim.{started}
 use Rattle.sample.specs.Pieces.{mara}
 use Rattle.labels.specs.Label.{marks}
 use Rattle.sample.specs.Cooperative.{cooperative}
-use Rattle.sample.specs.TwoTables.{noSession, tooLow, nameMark, textVault, textGlaze, textCrew, calls, table1, table2}
+use Rattle.sample.specs.TwoTables.{noSession, tooLow, nameMark, textVault, textGlaze, textCrew, maraMap, glazedMap, calls, table1, table2}
 use Rattle.sample.proofs.HiddenInstance.{premises, second-answers}
-use Rattle.claims.specs.CFunctions.{lastBytes, otherBytes, CCall, cOpen, cSetLabel, cSetRowLabel, cRead, cUpdate}
+use Rattle.claims.specs.CFunctions.{lastBytes, otherBytes, CCall, cOpen, cSetLabel, cSetRowLabel, cRead, cReadMapped, cUpdate}
 use Rattle.claims.specs.CFunctions.{cStarted, cRun, CPremises, CClaim}
 use Rattle.claims.proofs.Held.{heldAs, holds-held}
 use Rattle.claims.proofs.CFunctions.{valued, own-valued, seenAll, run-simulated, c-hidden-rows}
@@ -37,6 +37,7 @@ cCalls byte =
     cOpen (replicate 104 byte) mara
     ∷ cOpen (replicate 104 byte) nameMark
     ∷ cRead lastBytes 6 (replicate 20 byte)
+    ∷ cReadMapped lastBytes 6 maraMap (replicate 20 byte)
     ∷ cUpdate lastBytes 6 2 (88 ∷ 89 ∷ [])
     ∷ cUpdate lastBytes 6 1 (88 ∷ 89 ∷ [])
     ∷ cSetLabel lastBytes textVault
@@ -47,6 +48,8 @@ cCalls byte =
     ∷ cSetRowLabel lastBytes textCrew
     ∷ cSetLabel lastBytes textGlaze
     ∷ cRead lastBytes 6 (replicate 20 byte)
+    ∷ cReadMapped lastBytes 6 maraMap (replicate 20 byte)
+    ∷ cReadMapped lastBytes 6 glazedMap (replicate 20 byte)
     ∷ cUpdate lastBytes 6 1 (88 ∷ 89 ∷ [])
     ∷ []
 
@@ -91,8 +94,8 @@ c-instance = c-hidden-rows cooperative 0 table1 table2 6 noneHeld (cCalls 1) (cC
 
 -- the numbers that she sees on the second table, known from the answers by value on the first
 pub second-numbers : map (λ (seen : ℕ × List ℕ). seen .0) (cRun cooperative (cStarted table2 noneHeld) (cCalls 255) .1)
-    ≡ 0 ∷ answerOf NoUser ∷ 3 ∷ 0 ∷ answerOf RowNotWritable ∷ 0 ∷ answerOf RowLabelOutside ∷ answerOf TableShape ∷ answerOf SessionRules ∷ 3 ∷ 0 ∷ 0 ∷ 1
-    ∷ answerOf NoRow ∷ []
+    ≡ 0 ∷ answerOf NoUser ∷ 3 ∷ 3 ∷ 0 ∷ answerOf RowNotWritable ∷ 0 ∷ answerOf RowLabelOutside ∷ answerOf TableShape ∷ answerOf SessionRules ∷ 3 ∷ 0 ∷ 0 ∷ 1
+    ∷ answerOf WrongMap ∷ 1 ∷ answerOf NoRow ∷ []
 unfolding seenAll
 second-numbers =
     let ran = run-simulated cooperative (cCalls 255) (cStarted table2 noneHeld) in

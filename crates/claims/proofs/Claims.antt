@@ -1,6 +1,6 @@
 -- The main theorems of the library, each stated in full over definitions of specs (and `EveryRule`, which says the image's rules in places,
 -- `withCompaccess`, and `MovedBy` and `ClearedBy`, which say what a move keeps), and proved by citing where it is proved. A reader who wants to know what
--- is claimed can begin here. Assumes nothing.
+-- is claimed can begin here; those on maps stand in MapClaims. Assumes nothing.
 use Prim.Native.Nat.{ℕ, suc, _≤_, _<_}
 use mathlib.Core.Path.{_≡_, refl, sym, _∙_}
 use mathlib.Core.Bool.{true, false}
@@ -54,7 +54,7 @@ use Rattle.sessions.proofs.Accepting.{lent-accepted}
 use Rattle.sessions.proofs.Existing.{session-labels-exist}
 use Rattle.sessions.proofs.Passing as passing
 use Rattle.sessions.proofs.Bounded as bounded
-use Rattle.moves.specs.declared.answers.Moved.the-variants as moved
+use Rattle.buffers.specs.declared.answers.Filled.the-variants as filled
 use Rattle.moves.specs.declared.target.Move.the-variants.{Up, Clear}
 use Rattle.moves.specs.Moved.{newImage}
 use Rattle.moves.specs.Holders.{isHolder, holders}
@@ -214,28 +214,28 @@ release-narrows = shown-no-more
 -- Where the call is done, the front of the buffer is an image, of the length that is told, and later bytes stay as they were. The image is accepted,
 -- of edition 2, and holds the same components, labels and users, by the field readers of both editions; the same session opens for each name, the same
 -- sessions are accepted, and their verdicts on every known tag are the same.
-pub move-up-keeps : (im buffer after : List ℕ) (n : ℕ) → moveUpOf im buffer ≡ (moved.Done n, after) → MovedBy im buffer after n
+pub move-up-keeps : (im buffer after : List ℕ) (n : ℕ) → moveUpOf im buffer ≡ (filled.Done n, after) → MovedBy im buffer after n
 move-up-keeps = moved-by-call
 
 -- An accepted image of edition 1 is moved if edition 2 has room for its labels and users, nobody holds COMPACCESS and the buffer has room for the new
 -- image, for which 65,536 bytes are always enough. If edition 2 has no room, that is 37; then, if somebody holds COMPACCESS, 36 with how many do; both
 -- before any look at the buffer.
 pub move-up-done : (im buffer : List ℕ) → IsAccepted im → editionOf im ≡ One → labels im ≤ 800 → users im ≤ 32 → holders im ≡ []
-    → 65536 ≤ length buffer → moveUpOf im buffer ≡ (moved.Done (length (newImage Up im)), atFront (newImage Up im) buffer)
+    → 65536 ≤ length buffer → moveUpOf im buffer ≡ (filled.Done (length (newImage Up im)), atFront (newImage Up im) buffer)
 move-up-done = moves.done-if-few
 
 pub move-up-limited : (im buffer : List ℕ) → IsAccepted im → editionOf im ≡ One → (800 < labels im) ⊎ (32 < users im)
-    → moveUpOf im buffer ≡ (moved.Refused MoveLimits, buffer)
+    → moveUpOf im buffer ≡ (filled.Refused MoveLimits, buffer)
 move-up-limited = moves.limited-if-many
 
 pub move-up-held : (im buffer : List ℕ) → IsAccepted im → editionOf im ≡ One → labels im ≤ 800 → users im ≤ 32 → (length (holders im) ≡ 0 → ⊥)
-    → moveUpOf im buffer ≡ (moved.Refused (CompaccessHolders (length (holders im))), buffer)
+    → moveUpOf im buffer ≡ (filled.Refused (CompaccessHolders (length (holders im))), buffer)
 move-up-held = moves.held-if-some
 
 -- An image of edition 2 that neither 1 nor 2 refuses is given 31 by the move up, the list and the clearing move, whatever else is wrong with it.
 pub moved-once : (im buffer : List ℕ) → Framed im → editionOf im ≡ Two
-    → (moveUpOf im buffer ≡ (moved.Refused ImageLayout, buffer))
-    × ((compaccessUsersOf im buffer ≡ (moved.Refused ImageLayout, buffer)) × (clearCompaccessOf im buffer ≡ (moved.Refused ImageLayout, buffer)))
+    → (moveUpOf im buffer ≡ (filled.Refused ImageLayout, buffer))
+    × ((compaccessUsersOf im buffer ≡ (filled.Refused ImageLayout, buffer)) × (clearCompaccessOf im buffer ≡ (filled.Refused ImageLayout, buffer)))
 moved-once = moves.framed-once
 
 -- ---- COMPACCESS
@@ -254,19 +254,19 @@ pub release-nobody : (im : List ℕ) → IsAccepted im → profileOf im ≡ Rele
 release-nobody = moves.release-nobody
 
 pub list-done : (im buffer : List ℕ) → IsAccepted im → editionOf im ≡ One → length (holders im) ≤ length buffer
-    → compaccessUsersOf im buffer ≡ (moved.Done (length (holders im)), atFront (holders im) buffer)
+    → compaccessUsersOf im buffer ≡ (filled.Done (length (holders im)), atFront (holders im) buffer)
 list-done = moves.list-done
 
 -- Where the clearing move is done, the front of the buffer is an image, of the length that is told, and later bytes stay as they were. The image is
 -- accepted; nobody in it holds COMPACCESS, so that a move up is not refused 36; each byte outside the privileges of those who held it and the checks of
 -- their blocks is the old one; the same sessions open and are accepted; users without the bit keep every verdict, and the others lose none but what
 -- COMPACCESS gave.
-pub clear-keeps : (im buffer after : List ℕ) (n : ℕ) → clearCompaccessOf im buffer ≡ (moved.Done n, after) → ClearedBy im buffer after n
+pub clear-keeps : (im buffer after : List ℕ) (n : ℕ) → clearCompaccessOf im buffer ≡ (filled.Done n, after) → ClearedBy im buffer after n
 clear-keeps = cleared-by-call
 
 -- It is done for every accepted image of edition 1 that the buffer has room for; where nobody holds COMPACCESS it writes the image as it is.
 pub clear-done : (im buffer : List ℕ) → IsAccepted im → editionOf im ≡ One → length im ≤ length buffer
-    → clearCompaccessOf im buffer ≡ (moved.Done (length im), atFront (newImage Clear im) buffer)
+    → clearCompaccessOf im buffer ≡ (filled.Done (length im), atFront (newImage Clear im) buffer)
 clear-done = moves.clear-done
 
 pub clear-nobody : (im : List ℕ) → IsAccepted im → editionOf im ≡ One → ((i : ℕ) → byteAt im i < 256) → holders im ≡ [] → newImage Clear im ≡ im
@@ -282,7 +282,7 @@ pub report-whole : (im : List ℕ) (parts : List (List ℕ)) → PartsOf im (out
 report-whole im parts run = output-joined run
 
 -- ---- demand 3: hidden rows stay hidden
--- Over any sequence of openings, label changes, reads and updates by one user, two tables that agree on what that user could ever read
+-- Over any sequence of openings, label changes, reads, mapped reads and updates by one user, two tables that agree on what that user could ever read
 -- give equal answers and agree on it again at the end, and every other row keeps its bytes and its place.
 pub hidden-rows : (im : List ℕ) (u : ℕ) (table1 table2 : List ℕ) (width : ℕ) (start : SessionMarks) (calls1 calls2 : List Call)
     → Premises im u table1 table2 width start calls1 calls2 → Claim im u table1 table2 width start calls1 calls2

@@ -1,31 +1,38 @@
 -- Any bytes stand for a session by value: that which they hold, or, where they name two users, one that 19 refuses as it refuses them. Each
 -- C function on the bytes answers what the call on that session answers. Assumes nothing.
-use Prim.Native.Nat.{ℕ}
+use Prim.Native.Nat.{ℕ, _^_}
 use mathlib.Core.Path.{_≡_, refl, sym, ap, _∙_}
 use mathlib.Core.Bool.{Bool, true, false, cond}
 use mathlib.Core.List.{List}
 use native.Mathlib.Omega.{arith}
+use borrow.Author.Tests.{le-ltb}
 use Rattle.fields.specs.Bytes.{byteAt}
 use Rattle.refusals.specs.declared.Refusal.{Refusal}
 use Rattle.refusals.specs.declared.Refusal.the-variants.{SessionRules}
 use Rattle.refusals.specs.declared.answers.Checked.{Checked}
 use Rattle.refusals.specs.declared.answers.Checked.the-variants.{Accepted, Refused}
-use Rattle.refusals.specs.Answers.{onChecked, orRefuse, checkedGiven}
+use Rattle.refusals.specs.Answers.{onChecked, orRefuse, checkedGiven, codeOf, answerOf}
 use Rattle.image.specs.Check.{checkOf, IsAccepted}
 use Rattle.labels.specs.Label.{marks}
 use Rattle.access.specs.NewLabels.{sessionRule}
 use Rattle.sessions.specs.Session.{SessionMarks, sessionMarks, lentAnswer}
+use Rattle.sessions.specs.Opening as opening
+use Rattle.sessions.specs.Opening.{Opening, openOf}
 use Rattle.sessions.specs.Changes.{setLabelOf, setRowLabelOf}
 use Rattle.rows.specs.Reading.{readRowsOf}
+use Rattle.rows.specs.Mapped.{readMappedOf}
 use Rattle.rows.specs.Updating.{updateRowOf}
 use Rattle.rows.specs.declared.answers.RowsRead.the-variants as read
 use Rattle.encoding.specs.Sessions.{sessionIn, oneUser, Holds, changedInto}
 use Rattle.abi.specs.Answers.{coded, afterCheck, withSession}
-use Rattle.abi.specs.Sessions.{changeAnswer, setLabelAnswer, setRowLabelAnswer}
+use Rattle.abi.specs.Sessions.{openedGiven, openedInto, changeAnswer, setLabelAnswer, setRowLabelAnswer}
 use Rattle.abi.specs.Tables.{rowsGiven, readAnswer, updateAnswer}
+use Rattle.abi.specs.Maps.{readMappedAnswer}
 use Rattle.abi.proofs.Widths.{rule-widths}
-use Rattle.abi.proofs.Refusing.{set-label-refused, set-row-label-refused, read-refused, update-refused}
-use Rattle.abi.proofs.InBytes.{set-label-holds, set-row-label-holds}
+use Rattle.abi.proofs.Refusing.{set-label-refused, set-row-label-refused, read-refused, read-mapped-refused, update-refused}
+use Rattle.abi.proofs.InBytes.{open-holds, set-label-holds, set-row-label-holds}
+use Rattle.claims.specs.CFunctions.{whenDone}
+use Rattle.isolation.specs.Calls.{sessionAfter}
 
 -- a session of that user with a level past the 255th, which no image has
 abbrev pub unfitOf : ℕ → SessionMarks
@@ -83,6 +90,12 @@ module _ (im bytes : List ℕ) where
       ap (coded rowsGiven)
       (with-held (λ r. (read.Refused r, buffer)) (λ s. readRowsOf im s table w buffer) (λ s r e. read-refused im s r e table w buffer))
 
+  pub read-mapped-as : (table : List ℕ) (w : ℕ) (bits buffer : List ℕ)
+      → _≡_ {A = ℕ × List ℕ} (readMappedAnswer im bytes table w bits buffer) (coded rowsGiven (readMappedOf im (heldAs bytes) table w bits buffer))
+  read-mapped-as table w bits buffer =
+      ap (coded rowsGiven)
+      (with-held (λ r. (read.Refused r, buffer)) (λ s. readMappedOf im s table w bits buffer) (λ s r e. read-mapped-refused im s r e table w bits buffer))
+
   pub update-as : (table : List ℕ) (w n : ℕ) (payload : List ℕ)
       → _≡_ {A = ℕ × List ℕ} (updateAnswer im bytes table w n payload) (coded checkedGiven (updateRowOf im (heldAs bytes) table w n payload))
   update-as table w n payload =
@@ -135,3 +148,22 @@ module _ (im bytes : List ℕ) where
   set-row-label-left text =
       change-left (λ s. setRowLabelOf im s text) (λ s r e. set-row-label-refused im s r e text)
       (λ h. set-row-label-holds im bytes (sessionIn bytes) h text)
+
+-- ---- what is handed out
+-- a refusal's number hands nothing out
+pub refusal-handed : (r : Refusal) (out otherwise : List ℕ) → whenDone (answerOf r) out otherwise ≡ otherwise
+refusal-handed r out otherwise = rw (le-ltb (answerOf r) (2 ^ 63) (omega arith))
+
+-- an opening that is done hands its session out, and its number tells it
+pub opened-handed : (answer : Opening) (old otherwise : List ℕ)
+    → whenDone (codeOf (openedGiven answer)) (openedInto answer old) otherwise ≡ openedInto answer otherwise
+opened-handed (opening.session s) old otherwise = refl
+opened-handed (opening.refused r) old otherwise = refusal-handed r old otherwise
+
+-- and leaves bytes that stand for it
+pub opened-held : (im name lately : List ℕ) → heldAs (openedInto (openOf im name) lately) ≡ sessionAfter (openOf im name) (heldAs lately)
+opened-held im name lately = at (openOf im name) refl
+  where
+    at : (answer : Opening) → openOf im name ≡ answer → heldAs (openedInto answer lately) ≡ sessionAfter answer (heldAs lately)
+    at (opening.session t) e = let done = open-holds im name lately t e in holds-held (openedInto (opening.session t) lately) t (rw e at done)
+    at (opening.refused r) e = refl

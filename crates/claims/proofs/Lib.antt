@@ -2,6 +2,7 @@
 --     ReadsDominated  a session without privileges reads what its label dominates
 --     MaraDominates   an instance of that on the sample
 --     Moves           when a move up is done or refused, and the sample moved up
+--     MapClaims       the main theorems on maps
 --     Held            the session that any bytes stand for, and the C functions on them
 --     CFunctions      hidden rows stay hidden from who calls the C functions
 --     CInstance       an instance of that on the sample
@@ -9,6 +10,7 @@ pub mod Claims
 pub mod ReadsDominated
 pub mod MaraDominates
 pub mod Moves
+pub mod MapClaims
 pub mod Held
 pub mod CFunctions
 pub mod CInstance

@@ -35,7 +35,7 @@ use Rattle.image.proofs.EveryRule.{accepted-keeps}
 use Rattle.image.proofs.Policy.{label-carries}
 use Rattle.access.specs.Verdicts.{knownTag}
 use Rattle.sessions.specs.Session.{lentAnswer}
-use Rattle.moves.specs.declared.answers.Moved.the-variants as moved
+use Rattle.buffers.specs.declared.answers.Filled.the-variants as filled
 use Rattle.moves.specs.declared.target.Move.the-variants.{Up, Clear}
 use Rattle.moves.specs.Moved.{newImage}
 use Rattle.moves.specs.Holders.{isHolder, holders}
@@ -66,23 +66,23 @@ zero-unknown im acc = at (ltb (labelOfTag im 0) (labels im)) refl
 module _ (im buffer : List ℕ) where
   -- an image of edition 2
   pub framed-once : Framed im → editionOf im ≡ Two
-      → (moveUpOf im buffer ≡ (moved.Refused ImageLayout, buffer))
-      × ((compaccessUsersOf im buffer ≡ (moved.Refused ImageLayout, buffer)) × (clearCompaccessOf im buffer ≡ (moved.Refused ImageLayout, buffer)))
+      → (moveUpOf im buffer ≡ (filled.Refused ImageLayout, buffer))
+      × ((compaccessUsersOf im buffer ≡ (filled.Refused ImageLayout, buffer)) × (clearCompaccessOf im buffer ≡ (filled.Refused ImageLayout, buffer)))
   unfolding moveUpOf compaccessUsersOf clearCompaccessOf
   framed-once f e = (rw (framed-refused im f e), (rw (framed-refused im f e), rw (framed-refused im f e)))
 
   module _ (acc : IsAccepted im) (one : editionOf im ≡ One) where
-    pub over-limits : moveLimitsRule im ≡ false → moveUpOf im buffer ≡ (moved.Refused MoveLimits, buffer)
+    pub over-limits : moveLimitsRule im ≡ false → moveUpOf im buffer ≡ (filled.Refused MoveLimits, buffer)
     unfolding moveUpOf
     over-limits many = rw (accepted-old im acc one, many)
 
     pub holders-refused : moveLimitsRule im ≡ true → (length (holders im) ≡ 0 → ⊥)
-        → moveUpOf im buffer ≡ (moved.Refused (CompaccessHolders (length (holders im))), buffer)
+        → moveUpOf im buffer ≡ (filled.Refused (CompaccessHolders (length (holders im))), buffer)
     unfolding moveUpOf
     holders-refused few some = rw (accepted-old im acc one, few, ne-eqb (length (holders im)) 0 some)
 
     pub within-limits : takenRule Up im ≡ true → length (newImage Up im) ≤ length buffer
-        → moveUpOf im buffer ≡ (moved.Done (length (newImage Up im)), atFront (newImage Up im) buffer)
+        → moveUpOf im buffer ≡ (filled.Done (length (newImage Up im)), atFront (newImage Up im) buffer)
     unfolding moveUpOf
     within-limits taken room =
         let q = parts (moveLimitsRule im) (eqb (length (holders im)) 0) taken in
@@ -100,16 +100,16 @@ module _ (im buffer : List ℕ) where
     few-rule l u = rw (le-leb (labels im) 800 l, le-leb (users im) 32 u)
 
     pub done-if-few : labels im ≤ 800 → users im ≤ 32 → holders im ≡ [] → 65536 ≤ length buffer
-        → moveUpOf im buffer ≡ (moved.Done (length (newImage Up im)), atFront (newImage Up im) buffer)
+        → moveUpOf im buffer ≡ (filled.Done (length (newImage Up im)), atFront (newImage Up im) buffer)
     done-if-few l u none long =
         let taken : takenRule Up im ≡ true = both _ _ (few-rule l u) (eq-eqb (length (holders im)) 0 (ap length none)) in
         within-limits taken (room-enough taken long)
 
     pub held-if-some : labels im ≤ 800 → users im ≤ 32 → (length (holders im) ≡ 0 → ⊥)
-        → moveUpOf im buffer ≡ (moved.Refused (CompaccessHolders (length (holders im))), buffer)
+        → moveUpOf im buffer ≡ (filled.Refused (CompaccessHolders (length (holders im))), buffer)
     held-if-some l u some = holders-refused (few-rule l u) some
 
-    pub limited-if-many : (800 < labels im) ⊎ (32 < users im) → moveUpOf im buffer ≡ (moved.Refused MoveLimits, buffer)
+    pub limited-if-many : (800 < labels im) ⊎ (32 < users im) → moveUpOf im buffer ≡ (filled.Refused MoveLimits, buffer)
     unfolding moveLimitsRule
     limited-if-many many = over-limits (at many)
       where
@@ -119,7 +119,7 @@ module _ (im buffer : List ℕ) where
 
     -- ---- the list of holders
     pub list-done : length (holders im) ≤ length buffer
-        → compaccessUsersOf im buffer ≡ (moved.Done (length (holders im)), atFront (holders im) buffer)
+        → compaccessUsersOf im buffer ≡ (filled.Done (length (holders im)), atFront (holders im) buffer)
     unfolding compaccessUsersOf
     list-done room = rw (accepted-old im acc one, le-leb (length (holders im)) (length buffer) room)
 
@@ -129,7 +129,7 @@ module _ (im buffer : List ℕ) where
     cleared-long = moved-length Clear im (accepted-counted im acc .fitted) one ∙ sym (accepted-counted im acc .fitted ∙ rw one)
 
     pub clear-done : length im ≤ length buffer
-        → clearCompaccessOf im buffer ≡ (moved.Done (length im), atFront (newImage Clear im) buffer)
+        → clearCompaccessOf im buffer ≡ (filled.Done (length im), atFront (newImage Clear im) buffer)
     unfolding clearCompaccessOf
     clear-done room =
         let fits : length (newImage Clear im) ≤ length buffer = rw cleared-long room in
@@ -189,7 +189,7 @@ sample-few : (editionOf cooperative ≡ One) × (takenRule Up cooperative ≡ tr
 sample-few = (sample-counts .0, both _ _ (sample-counts .1 .0) (eq-eqb (length (holders cooperative)) 0 (ap length sample-nobody)))
 
 pub sample-moved : moveUpOf cooperative (replicate 65536 0)
-    ≡ (moved.Done (length (newImage Up cooperative)), atFront (newImage Up cooperative) (replicate 65536 0))
+    ≡ (filled.Done (length (newImage Up cooperative)), atFront (newImage Up cooperative) (replicate 65536 0))
 sample-moved =
     within-limits cooperative (replicate 65536 0) sample-accepted (sample-few .0) (sample-few .1)
     (room-enough cooperative (replicate 65536 0) sample-accepted (sample-few .0) (sample-few .1) (omega (arith, length-replicate {A = ℕ} 65536 0)))
@@ -203,6 +203,6 @@ mara-in-edition-two = (sample-kept .edition, sample-kept .sessions mara ∙ mara
 
 -- ---- the sample, cleared: the call is done
 pub sample-cleared : clearCompaccessOf cooperative (replicate 65536 0)
-    ≡ (moved.Done (length cooperative), atFront (newImage Clear cooperative) (replicate 65536 0))
+    ≡ (filled.Done (length cooperative), atFront (newImage Clear cooperative) (replicate 65536 0))
 sample-cleared =
     clear-done cooperative (replicate 65536 0) sample-accepted (sample-few .0) (omega (arith, sample-length, length-replicate {A = ℕ} 65536 0))

@@ -11,6 +11,7 @@ use Rattle.refusals.specs.declared.answers.Checked.the-variants.{Accepted}
 use Rattle.rows.specs.Table.{tableShape}
 use Rattle.abi.specs.Sessions.{openAnswer, setLabelAnswer, setRowLabelAnswer}
 use Rattle.abi.specs.Tables.{readAnswer, updateAnswer}
+use Rattle.abi.specs.Maps.{readMappedAnswer}
 use Rattle.isolation.specs.Claim.{listAtMaximum, ownWidth, HiddenKept}
 
 -- ---- what is called
@@ -21,12 +22,13 @@ pub data BytesLent : Type 0 where
   otherBytes : List ℕ → BytesLent
 
 -- an opening with the bytes for its session as they were before and a user name; a change of either label with a text; a read with a
--- width and its buffer as it was before; an update with a width, n and a payload
+-- width and its buffer as it was before; a mapped read with a map too; an update with a width, n and a payload
 pub data CCall : Type 0 where
   cOpen : List ℕ → List ℕ → CCall
   cSetLabel : BytesLent → List ℕ → CCall
   cSetRowLabel : BytesLent → List ℕ → CCall
   cRead : BytesLent → ℕ → List ℕ → CCall
+  cReadMapped : BytesLent → ℕ → List ℕ → List ℕ → CCall
   cUpdate : BytesLent → ℕ → ℕ → List ℕ → CCall
 
 -- what stands between two calls: the table, and the last bytes, those that an opening that was done or a change left last. Before any
@@ -66,6 +68,9 @@ cStep im state (cSetRowLabel lent text) =
 cStep im state (cRead lent width buffer) =
     let result = readAnswer im (bytesLent (state .bytes) lent) (state .table) width buffer in
     (state, (result .0, bytesHanded (result .0) width (result .1)))
+cStep im state (cReadMapped lent width bits buffer) =
+    let result = readMappedAnswer im (bytesLent (state .bytes) lent) (state .table) width bits buffer in
+    (state, (result .0, bytesHanded (result .0) width (result .1)))
 cStep im state (cUpdate lent width n payload) =
     let result = updateAnswer im (bytesLent (state .bytes) lent) (state .table) width n payload in
     (cStarted (result .1) (state .bytes), (result .0, []))
@@ -89,6 +94,7 @@ cOwnCall u state width (cOpen old name) = true
 cOwnCall u state width (cSetLabel lent text) = ownBytes u (bytesLent (state .bytes) lent)
 cOwnCall u state width (cSetRowLabel lent text) = ownBytes u (bytesLent (state .bytes) lent)
 cOwnCall u state width (cRead lent named buffer) = ownBytes u (bytesLent (state .bytes) lent) && ownWidth width named
+cOwnCall u state width (cReadMapped lent named bits buffer) = ownBytes u (bytesLent (state .bytes) lent) && ownWidth width named
 cOwnCall u state width (cUpdate lent named n payload) = ownBytes u (bytesLent (state .bytes) lent) && ownWidth width named
 
 -- each call of the sequence is that user's, on what stands before it
@@ -96,13 +102,14 @@ unfoldable pub cOwnCalls : List ℕ → ℕ → CState → ℕ → List CCall �
 cOwnCalls im u state width [] = true
 cOwnCalls im u state width (call ∷ calls) = cOwnCall u state width call && cOwnCalls im u (cStep im state call .0) width calls
 
--- ---- two sequences are alike: equal but for what the openings' bytes and the reads' buffers held before. Bytes lent to a change are
+-- ---- two sequences are alike: equal, maps too, but for what the openings' bytes and the reads' buffers held before. Bytes lent to a change are
 -- equal throughout, as a refused change shows them as they were, also those that are not looked at
 abbrev pub cBufferZeroed : CCall → CCall
 cBufferZeroed (cOpen old name) = cOpen (replicate (length old) 0) name
 cBufferZeroed (cSetLabel lent text) = cSetLabel lent text
 cBufferZeroed (cSetRowLabel lent text) = cSetRowLabel lent text
 cBufferZeroed (cRead lent width buffer) = cRead lent width (replicate (length buffer) 0)
+cBufferZeroed (cReadMapped lent width bits buffer) = cReadMapped lent width bits (replicate (length buffer) 0)
 cBufferZeroed (cUpdate lent width n payload) = cUpdate lent width n payload
 
 -- equal with every buffer zeroed

@@ -12,7 +12,7 @@ use lib.Dec.{eqb, ltb}
 use lib.ListN.{length, getD, take, drop, drop-of-length-le, length-take, length-drop}
 use lib.Seq.{take-nil, take-all, drop-cons, getD-take, getD-drop}
 use Rattle.fields.specs.Bytes.{all, part, byteAt}
-use Rattle.fields.specs.Names.{sameName, nameBefore}
+use Rattle.fields.specs.Names.{sameBytes, nameBefore}
 
 -- ---- the first n of a list, without the first m
 pub drop-take : (m n : ℕ) (s : List ℕ) → drop m (take n s) ≡ take (n - m) (drop m s)
@@ -60,31 +60,31 @@ module _ (test : ℕ → Bool) (s : List ℕ) (i : ℕ) where
 -- ---- the same name
 module _ (a b : List ℕ) (i : ℕ) where
   same-at : i < length a → i < length b
-      → sameName (drop i a) (drop i b) ≡ (eqb (getD a i 0) (getD b i 0) && sameName (drop (i + 1) a) (drop (i + 1) b))
-  unfolding sameName
+      → sameBytes (drop i a) (drop i b) ≡ (eqb (getD a i 0) (getD b i 0) && sameBytes (drop (i + 1) a) (drop (i + 1) b))
+  unfolding sameBytes
   same-at ha hb = rw (drop-cons a i 0, drop-cons b i 0, add-one)
 
-  pub same-stop : i < length a → i < length b → sameName (drop i a) (drop i b) ≡ sameName a b
-      → (getD a i 0 ≡ getD b i 0 → ⊥) → false ≡ sameName a b
+  pub same-stop : i < length a → i < length b → sameBytes (drop i a) (drop i b) ≡ sameBytes a b
+      → (getD a i 0 ≡ getD b i 0 → ⊥) → false ≡ sameBytes a b
   same-stop ha hb inv e = sym (sym inv ∙ same-at ha hb ∙ rw (ne-eqb (getD a i 0) (getD b i 0) e))
 
-  pub same-step : i < length a → i < length b → sameName (drop i a) (drop i b) ≡ sameName a b
-      → getD a i 0 ≡ getD b i 0 → sameName (drop (i + 1) a) (drop (i + 1) b) ≡ sameName a b
+  pub same-step : i < length a → i < length b → sameBytes (drop i a) (drop i b) ≡ sameBytes a b
+      → getD a i 0 ≡ getD b i 0 → sameBytes (drop (i + 1) a) (drop (i + 1) b) ≡ sameBytes a b
   same-step ha hb inv e = sym (sym inv ∙ same-at ha hb ∙ rw (eq-eqb (getD a i 0) (getD b i 0) e))
 
-  pub same-done : length a ≤ i → length b ≤ i → sameName (drop i a) (drop i b) ≡ sameName a b → true ≡ sameName a b
-  unfolding sameName
+  pub same-done : length a ≤ i → length b ≤ i → sameBytes (drop i a) (drop i b) ≡ sameBytes a b → true ≡ sameBytes a b
+  unfolding sameBytes
   same-done ha hb inv = rw (drop-of-length-le a ha, drop-of-length-le b hb) at inv
 
 -- names of different lengths differ
-pub same-length : (a b : List ℕ) → (length a ≡ length b → ⊥) → false ≡ sameName a b
-unfolding sameName
+pub same-length : (a b : List ℕ) → (length a ≡ length b → ⊥) → false ≡ sameBytes a b
+unfolding sameBytes
 same-length [] [] h = absurd (h refl)
 same-length [] (y ∷ ys) h = refl
 same-length (x ∷ xs) [] h = refl
 same-length (x ∷ xs) (y ∷ ys) h = go (eqb x y) (same-length xs ys (λ e. h (ap suc e)))
   where
-    go : (t : Bool) → false ≡ sameName xs ys → false ≡ (t && sameName xs ys)
+    go : (t : Bool) → false ≡ sameBytes xs ys → false ≡ (t && sameBytes xs ys)
     go true e = e
     go false e = refl
 

@@ -1,4 +1,4 @@
--- What the tests of bytes and names mean, both ways: a test is true exactly if this holds of places and bytes. `sameName` is equality,
+-- What the tests of bytes and names mean, both ways: a test is true exactly if this holds of places and bytes. `sameBytes` is equality,
 -- `nameBefore` a strict order, and `firstWhere` the first place that passes. Assumes nothing.
 use Prim.Native.Nat.{ℕ, zero, suc, _+_, _-_, _≤_, _<_}
 use mathlib.Core.Path.{_≡_, refl, sym, ap, ap₂, _∙_}
@@ -11,7 +11,7 @@ use lib.Dec.{eqb, leb, ltb}
 use lib.ListN.{length, getD, drop}
 use lib.Seq.{getD-drop}
 use Rattle.fields.specs.Bytes.{byteAt, part, all, allZero}
-use Rattle.fields.specs.Names.{nameByte, nameIn, nameRule, sameName, nameBefore}
+use Rattle.fields.specs.Names.{nameByte, nameIn, nameRule, sameBytes, nameBefore}
 use Rattle.fields.specs.Scan.{firstWhere}
 use Rattle.fields.proofs.Both.{both-left, both-right, parts, both, either, or-left, or-right}
 use Rattle.fields.proofs.Laws.{part-byte, part-length, part-short}
@@ -125,22 +125,22 @@ unfolding nameIn
 name-byte-at field i h = part-byte field 1 (byteAt field 0) i h
 
 -- ---- the same name
-pub same-means : (a b : List ℕ) → sameName a b ≡ true → a ≡ b
-unfolding sameName
+pub same-means : (a b : List ℕ) → sameBytes a b ≡ true → a ≡ b
+unfolding sameBytes
 same-means [] [] e = refl
 same-means [] (y ∷ ys) e = absurd (true≢false (sym e))
 same-means (x ∷ xs) [] e = absurd (true≢false (sym e))
 same-means (x ∷ xs) (y ∷ ys) e =
-    ap₂ (λ (z : ℕ) (zs : List ℕ). z ∷ zs) (eqb-true x y (both-left (eqb x y) (sameName xs ys) e))
-    (same-means xs ys (both-right (eqb x y) (sameName xs ys) e))
+    ap₂ (λ (z : ℕ) (zs : List ℕ). z ∷ zs) (eqb-true x y (both-left (eqb x y) (sameBytes xs ys) e))
+    (same-means xs ys (both-right (eqb x y) (sameBytes xs ys) e))
 
-pub same-refl : (a : List ℕ) → sameName a a ≡ true
-unfolding sameName
+pub same-refl : (a : List ℕ) → sameBytes a a ≡ true
+unfolding sameBytes
 same-refl [] = refl
-same-refl (x ∷ xs) = both (eqb x x) (sameName xs xs) (eq-eqb x x refl) (same-refl xs)
+same-refl (x ∷ xs) = both (eqb x x) (sameBytes xs xs) (eq-eqb x x refl) (same-refl xs)
 
-pub differ-means : (a b : List ℕ) → sameName a b ≡ false → a ≡ b → ⊥
-differ-means a b e q = true≢false (sym (same-refl b) ∙ ap (λ (s : List ℕ). sameName s b) (sym q) ∙ e)
+pub differ-means : (a b : List ℕ) → sameBytes a b ≡ false → a ≡ b → ⊥
+differ-means a b e q = true≢false (sym (same-refl b) ∙ ap (λ (s : List ℕ). sameBytes s b) (sym q) ∙ e)
 
 -- ---- byte order is a strict order
 -- two names that begin with a byte each: the bytes decide, or are equal and the rests decide

@@ -2,7 +2,7 @@
 use Prim.Native.Nat.{ℕ, zero, suc, _+_, _-_, _≤_, _<_}
 use mathlib.Core.Path.{_≡_, refl, sym, ap, _∙_, subst}
 use mathlib.Core.Bool.{Bool, true, false, cond}
-use mathlib.Core.List.{List, []}
+use mathlib.Core.List.{List, [], _∷_}
 use mathlib.Core.Logic.{⊎-elim}
 use native.Mathlib.Nat.{add-zero, zero-add, add-suc, suc-add, le-refl, eq-or-lt-of-le}
 use native.Mathlib.Numerals.{add-one}
@@ -170,3 +170,17 @@ module _ {A : Type 0} (f : ℕ → A) where
   list-at zero k i d h = absurd (omega arith)
   list-at (suc n) k zero d h = rw add-zero
   list-at (suc n) k (suc i) d h = rw (add-suc, ← suc-add) (list-at n (suc k) i d (omega arith))
+
+  -- what a loop that stands at place k of n has left: a place more, or nothing
+  pub list-turn : (n k : ℕ) → k < n → listFrom f (n - k) k ≡ f k ∷ listFrom f (n - (k + 1)) (k + 1)
+  unfolding listFrom
+  list-turn n k h =
+      let left : n - k ≡ suc (n - (k + 1)) = omega arith in
+      let next : suc k ≡ k + 1 = omega arith in
+      ap (λ (m : ℕ). listFrom f m k) left ∙ ap (λ (m : ℕ). f k ∷ listFrom f (n - (k + 1)) m) next
+
+  pub list-end : (n k : ℕ) → n ≤ k → listFrom f (n - k) k ≡ []
+  unfolding listFrom
+  list-end n k h =
+      let none : n - k ≡ 0 = omega arith in
+      ap (λ (m : ℕ). listFrom f m k) none

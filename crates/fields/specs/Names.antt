@@ -22,12 +22,12 @@ nameRule field =
     leb 1 (byteAt field 0) && leb (byteAt field 0) 30 && allNameBytes (nameIn field)
     && allZero (part field (1 + byteAt field 0) (30 - byteAt field 0))
 
--- two names are the same, byte for byte
-unfoldable pub sameName : List ℕ → List ℕ → Bool
-sameName [] [] = true
-sameName [] (y ∷ ys) = false
-sameName (x ∷ xs) [] = false
-sameName (x ∷ xs) (y ∷ ys) = eqb x y && sameName xs ys
+-- two names, or any runs of bytes, are the same, byte for byte
+unfoldable pub sameBytes : List ℕ → List ℕ → Bool
+sameBytes [] [] = true
+sameBytes [] (y ∷ ys) = false
+sameBytes (x ∷ xs) [] = false
+sameBytes (x ∷ xs) (y ∷ ys) = eqb x y && sameBytes xs ys
 
 -- the first name comes before the second in byte order; of two names of which one begins the other, the shorter is lower
 unfoldable pub nameBefore : List ℕ → List ℕ → Bool

@@ -2,7 +2,7 @@
 ghost use Prim.Native.Nat.{_+_, _<_};
 ghost use mathlib.Core.Path.{_≡_};
 ghost use lib.ListN.{length};
-ghost use Rattle.fields.specs.Names.{nameByte, allNameBytes, nameIn, nameRule, sameName, nameBefore};
+ghost use Rattle.fields.specs.Names.{nameByte, allNameBytes, nameIn, nameRule, sameBytes, nameBefore};
 use crate::numbers::all_zero;
 
 // A..Z, 0..9 and underscore; most are letters, so those leave first.
@@ -56,7 +56,7 @@ pub fn name_in(field: &[u8]) -> &[u8]
 }
 
 pub fn same_name(a: &[u8], b: &[u8]) -> bool
-    ensures { λ r. ⌜ r ≡ sameName (now (a .entry)) (now (b .entry)) ⌝ }
+    ensures { λ r. ⌜ r ≡ sameBytes (now (a .entry)) (now (b .entry)) ⌝ }
 {
     if a.len() != b.len() {
         return false;

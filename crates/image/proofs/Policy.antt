@@ -7,7 +7,7 @@ use native.Mathlib.Omega.{arith}
 use borrow.Author.Tests.{eqb-true, eq-eqb, ltb-true, ltb-false}
 use lib.Dec.{eqb, ltb}
 use lib.ListN.{length}
-use Rattle.fields.specs.Names.{sameName, nameBefore}
+use Rattle.fields.specs.Names.{sameBytes, nameBefore}
 use Rattle.fields.proofs.Both.{parts}
 use Rattle.fields.proofs.Meaning.{same-means, same-refl, found-at, found-first, found-unique}
 use Rattle.sets.specs.Sets.{within}
@@ -198,12 +198,12 @@ module _ (im : List ℕ) where
 
   pub user-carries : (name : List ℕ) → userOfName im name < users im → userName (userRecord im (userOfName im name)) ≡ name
   unfolding userOfName
-  user-carries name h = same-means _ name (found-at (λ u. sameName (userName (userRecord im u)) name) (users im) 0 (omega arith))
+  user-carries name h = same-means _ name (found-at (λ u. sameBytes (userName (userRecord im u)) name) (users im) 0 (omega arith))
 
   pub user-missing : (name : List ℕ) → userOfName im name ≡ users im → (u : ℕ) → u < users im
-      → sameName (userName (userRecord im u)) name ≡ false
+      → sameBytes (userName (userRecord im u)) name ≡ false
   unfolding userOfName
-  user-missing name e u h = found-first (λ u. sameName (userName (userRecord im u)) name) (users im) 0 u zero-le (omega arith)
+  user-missing name e u h = found-first (λ u. sameBytes (userName (userRecord im u)) name) (users im) 0 u zero-le (omega arith)
 
 -- a tag that no label may carry, as 0 or any over 99,999,999, is unknown in an accepted image
 pub tag-outside : (im : List ℕ) → IsAccepted im → (tag : ℕ) → (1 ≤ tag → 99999999 < tag) → labels im ≤ labelOfTag im tag

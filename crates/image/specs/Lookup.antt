@@ -5,7 +5,7 @@ use mathlib.Core.List.{List}
 use denote.Ref.{RefT}
 use lib.Dec.{eqb, ltb}
 use Rattle.fields.specs.Bytes.{part}
-use Rattle.fields.specs.Names.{sameName}
+use Rattle.fields.specs.Names.{sameBytes}
 use Rattle.fields.specs.Scan.{firstWhere}
 use Rattle.header.specs.Layout.{levels, compartments, groups, users, labels, countsOf, classFirst, componentNameOffset, componentRecord, labelRecord, userRecord}
 use Rattle.records.specs.Fields.{componentNameLength, tagOf, userName}
@@ -56,4 +56,4 @@ labelOfTag im tag = firstWhere (λ k. eqb (tagOf (labelRecord im k)) tag) (label
 
 -- the user record that has the name; the number of users where none has
 unfoldable pub userOfName : List ℕ → List ℕ → ℕ
-userOfName im name = firstWhere (λ u. sameName (userName (userRecord im u)) name) (users im) 0
+userOfName im name = firstWhere (λ u. sameBytes (userName (userRecord im u)) name) (users im) 0

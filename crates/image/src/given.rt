@@ -2,7 +2,7 @@
 // `records`, ancestors and below of `hierarchy`.
 ghost use Prim.Native.Nat.{_<_};
 ghost use mathlib.Core.Path.{_≡_};
-ghost use Rattle.fields.specs.Names.{sameName};
+ghost use Rattle.fields.specs.Names.{sameBytes};
 ghost use Rattle.header.specs.Layout.{users, userRecord};
 ghost use Rattle.records.specs.Fields.{userName};
 ghost use Rattle.header.specs.Limits.{Counted};
@@ -51,7 +51,7 @@ pub fn label_of_tag(image: &[u8], tag: u32) -> usize
 
 fn is_user(image: &[u8], u: usize, name: &[u8]) -> bool
     requires { ⌜ Counted (now image) × (u < users (now image)) ⌝ }
-    ensures { λ r. ⌜ r ≡ sameName (userName (userRecord (now (image .entry)) u)) (now (name .entry)) ⌝ }
+    ensures { λ r. ⌜ r ≡ sameBytes (userName (userRecord (now (image .entry)) u)) (now (name .entry)) ⌝ }
 {
     same_name(users::name(image, u), name)
 }

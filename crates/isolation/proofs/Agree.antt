@@ -14,10 +14,13 @@ use Rattle.refusals.specs.Answers.{onChecked}
 use Rattle.sessions.specs.Session.{SessionMarks, sessionRights}
 use Rattle.rows.specs.Table.{readableRows, widthRule, tableRule, tableAnswer}
 use Rattle.rows.specs.Reading.{handedOut, readRowsOf}
+use Rattle.maps.specs.Calls.{mapAnswer}
+use Rattle.rows.specs.Mapped.{readMappedOf}
 use Rattle.rows.specs.Updating.{nthRowAnswer, updateWith, updateRowOf}
 use Rattle.rows.specs.declared.answers.RowsRead.the-variants as rowsRead
 use Rattle.isolation.specs.Claim.{listAtMaximum, ownWidth}
 use Rattle.rows.proofs.Giving.{table-accepted, seen-of, answers-agree}
+use Rattle.rows.proofs.ByMap.{mapped-plain}
 use Rattle.isolation.proofs.Reach.{readable-equal}
 
 -- ---- tables that are alike for a user
@@ -72,6 +75,13 @@ module _ (im : List ℕ) (u : ℕ) (table1 table2 : List ℕ) (width : ℕ) (pai
   pub read-agrees : (buffer : List ℕ) → readRowsOf im s table1 w buffer ≡ readRowsOf im s table2 w buffer
   unfolding readRowsOf
   read-agrees buffer = calls-agree (λ r. (rowsRead.Refused r, buffer)) (λ rows. handedOut rows buffer)
+
+  pub read-mapped-agrees : (bits buffer : List ℕ) → readMappedOf im s table1 w bits buffer ≡ readMappedOf im s table2 w bits buffer
+  read-mapped-agrees bits buffer =
+      mapped-plain im s table1 w bits buffer
+      ∙ calls-agree (λ r. (rowsRead.Refused r, buffer))
+      (λ rows. onChecked (mapAnswer im (sessionRights im s) bits) (λ r. (rowsRead.Refused r, buffer)) (handedOut rows buffer))
+      ∙ sym (mapped-plain im s table2 w bits buffer)
 
   pub update-agrees : (n : ℕ) (payload : List ℕ) → updateRowOf im s table1 w n payload .0 ≡ updateRowOf im s table2 w n payload .0
   unfolding updateRowOf updateWith

@@ -8,10 +8,10 @@ use Rattle.fields.proofs.Both.{both-left, both-right}
 use Rattle.sessions.specs.Session.{SessionMarks}
 use Rattle.rows.specs.Updating.{updateRowOf}
 use Rattle.isolation.specs.Calls.{LentAs, last, other, lentSession, rowStep, step}
-use Rattle.isolation.specs.Calls.{Call, opening, settingLabel, settingRowLabel, onRows, reading, updating}
+use Rattle.isolation.specs.Calls.{Call, opening, settingLabel, settingRowLabel, onRows, reading, readingMapped, updating}
 use Rattle.isolation.specs.Calls.{Answer, rowDone}
 use Rattle.isolation.specs.Claim.{ownSession, ownWidth, ownCall, HiddenKept, started}
-use Rattle.isolation.proofs.Agree.{Paired, read-agrees, update-agrees}
+use Rattle.isolation.proofs.Agree.{Paired, read-agrees, read-mapped-agrees, update-agrees}
 use Rattle.isolation.proofs.Alike.{kept-refl, update-hidden, update-paired}
 
 -- the states after the call, made on either table with one session, and its one answer
@@ -59,6 +59,12 @@ module _ (im : List ℕ) (u : ℕ) (table1 table2 : List ℕ) (width : ℕ) (pai
       let named = both-right (ownSession u x) (ownWidth width w) e in
       tables-stay (onRows lent w (reading buffer)) s _ refl
       (rw (lent-same lent, read-agrees im u table1 table2 width pair x own w named buffer))
+  next (onRows lent w (readingMapped bits buffer)) e =
+      let x = lentSession (started table1 s) lent in
+      let own = eqb-true (x .user) u (both-left (ownSession u x) (ownWidth width w) e) in
+      let named = both-right (ownSession u x) (ownWidth width w) e in
+      tables-stay (onRows lent w (readingMapped bits buffer)) s _ refl
+      (rw (lent-same lent, read-mapped-agrees im u table1 table2 width pair x own w named bits buffer))
   next (onRows lent w (updating n payload)) e =
       let x = lentSession (started table1 s) lent in
       let own = eqb-true (x .user) u (both-left (ownSession u x) (ownWidth width w) e) in

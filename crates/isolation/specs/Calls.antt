@@ -1,4 +1,4 @@
--- A sequence of calls on one table: openings, label changes, reads and updates, all lent the one image. Each step is what the public
+-- A sequence of calls on one table: openings, label changes, reads, mapped reads and updates, all lent the one image. Each step is what the public
 -- call of that kind answers.
 use Prim.Native.Nat.{ℕ, _*_}
 use mathlib.Core.List.{List, [], _∷_}
@@ -8,6 +8,7 @@ use Rattle.sessions.specs.Session.{SessionMarks}
 use Rattle.sessions.specs.Opening.{Opening, session, refused, openOf}
 use Rattle.sessions.specs.Changes.{setLabelOf, setRowLabelOf}
 use Rattle.rows.specs.Reading.{readRowsOf}
+use Rattle.rows.specs.Mapped.{readMappedOf}
 use Rattle.rows.specs.Updating.{updateRowOf}
 use Rattle.rows.specs.declared.answers.RowsRead.{RowsRead}
 use Rattle.rows.specs.declared.answers.RowsRead.the-variants.{Done, Refused}
@@ -18,9 +19,10 @@ pub data LentAs : Type 0 where
   last : LentAs
   other : SessionMarks → LentAs
 
--- a read with its buffer as it was before; an update with n and a payload
+-- a read with its buffer as it was before; a mapped read with a map, any bytes, and its buffer; an update with n and a payload
 pub data RowCall : Type 0 where
   reading : List ℕ → RowCall
+  readingMapped : List ℕ → List ℕ → RowCall
   updating : ℕ → List ℕ → RowCall
 
 -- an opening with a user name; a change of either label with a text; a row call with a width
@@ -31,7 +33,7 @@ pub data Call : Type 0 where
   onRows : LentAs → ℕ → RowCall → Call
 
 -- ---- what a caller sees of it
--- an opening's or a label change's session; a read's count with the first count times width bytes of its buffer; whether another row
+-- an opening's or a label change's session; a read's count, mapped or not, with the first count times width bytes of its buffer; whether another row
 -- call was done; each refusal, which has its number and offset
 pub data Answer : Type 0 where
   opened : Opening → Answer
@@ -64,6 +66,8 @@ bytesRead (Refused r) width buffer = []
 unfoldable pub rowStep : List ℕ → SessionMarks → List ℕ → ℕ → RowCall → List ℕ × Answer
 rowStep im s table width (reading buffer) =
     let result = readRowsOf im s table width buffer in (table, rowsHanded (result .0) (bytesRead (result .0) width (result .1)))
+rowStep im s table width (readingMapped bits buffer) =
+    let result = readMappedOf im s table width bits buffer in (table, rowsHanded (result .0) (bytesRead (result .0) width (result .1)))
 rowStep im s table width (updating n payload) =
     let result = updateRowOf im s table width n payload in (result .1, rowDone (result .0))
 

@@ -1,5 +1,5 @@
 -- Demand 3, whole: hidden rows stay hidden. Two tables that agree on what a user could ever read give that user equal answers over any
--- sequence of openings, label changes, reads and updates, and agree on it again at the end; every other row keeps its bytes and place.
+-- sequence of openings, label changes, reads, mapped reads and updates, and agree on it again at the end; every other row keeps its bytes and place.
 use Prim.Native.Nat.{ℕ, _<_}
 use mathlib.Core.Path.{_≡_}
 use mathlib.Core.Bool.{Bool, true, false, not, _&&_, _||_}
@@ -11,7 +11,7 @@ use Rattle.access.specs.Verdicts.{readableAtMaximum}
 use Rattle.sessions.specs.Session.{SessionMarks}
 use Rattle.rows.specs.Run.{kept}
 use Rattle.rows.specs.Table.{rowsOf, rowTag, widthRule, tableShape}
-use Rattle.isolation.specs.Calls.{RowCall, reading, updating, Call, opening, settingLabel, settingRowLabel, onRows, State, lentSession, step, run}
+use Rattle.isolation.specs.Calls.{RowCall, reading, readingMapped, updating, Call, opening, settingLabel, settingRowLabel, onRows, State, lentSession, step, run}
 
 -- ---- what the user at place u could ever read
 abbrev pub everReadable : List ℕ → ℕ → List ℕ → Bool
@@ -42,9 +42,10 @@ unfoldable pub ownCalls : List ℕ → ℕ → State → ℕ → List Call → B
 ownCalls im u state width [] = true
 ownCalls im u state width (call ∷ calls) = ownCall u state width call && ownCalls im u (step im state call .0) width calls
 
--- ---- two sequences are alike: equal but for what the reads' buffers held before
+-- ---- two sequences are alike: equal, maps too, but for what the reads' buffers held before
 abbrev pub rowBufferZeroed : RowCall → RowCall
 rowBufferZeroed (reading buffer) = reading (replicate (length buffer) 0)
+rowBufferZeroed (readingMapped bits buffer) = readingMapped bits (replicate (length buffer) 0)
 rowBufferZeroed (updating n payload) = updating n payload
 
 -- the call with a read's buffer zeroed

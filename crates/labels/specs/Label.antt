@@ -5,6 +5,7 @@ use mathlib.Core.List.{List}
 use lib.Dec.{ltb}
 use Rattle.sets.specs.Sets.{within, allBelow}
 use Rattle.sets.specs.Groups.{placesOf}
+use Rattle.header.specs.declared.edition.Edition.{Edition}
 use Rattle.header.specs.Layout.{editionOf, levels, compartments, groups, labelRecord}
 use Rattle.records.specs.Fields.{labelLevel, labelCompartments, labelGroups}
 use Rattle.labels.specs.declared.label.Label.{Label}
@@ -21,10 +22,13 @@ marks level compartments groups = record { level = level; compartments = compart
 abbrev pub marksOf : Label → Marks
 marksOf l = marks (l .level) (l .compartments) (placesOf (l .groups))
 
+-- the label in a label record of that edition
+abbrev pub recordLabel : Edition → List ℕ → Marks
+recordLabel edition rec = marks (labelLevel rec) (labelCompartments rec) (labelGroups edition rec)
+
 -- the label of the k-th label record
 unfoldable pub labelAt : List ℕ → ℕ → Marks
-labelAt im k =
-    let rec = labelRecord im k in marks (labelLevel rec) (labelCompartments rec) (labelGroups (editionOf im) rec)
+labelAt im k = recordLabel (editionOf im) (labelRecord im k)
 
 -- the policy has every component that the label names
 unfoldable pub labelExists : List ℕ → Marks → Bool

@@ -4,7 +4,7 @@ use mathlib.Core.Bool.{Bool, cond}
 use mathlib.Core.List.{List, [], _∷_}
 use lib.Dec.{eqb, ltb}
 use lib.ListN.{length}
-use Rattle.fields.specs.Names.{sameName}
+use Rattle.fields.specs.Names.{sameBytes}
 use Rattle.fields.specs.Scan.{firstWhere}
 use Rattle.sets.specs.Sets.{has, none, one, union}
 use Rattle.refusals.specs.declared.Refusal.{Refusal}
@@ -28,7 +28,7 @@ use Rattle.labels.specs.Text.{comma, colon, split, shapeRule}
 -- ---- names
 -- how a name in a text matches a component's name
 unfoldable pub matches : List ℕ → List ℕ → Bool
-matches component name = sameName component name
+matches component name = sameBytes component name
 
 -- how many components a class has
 abbrev pub classCount : List ℕ → ℕ → ℕ

@@ -29,12 +29,13 @@ use Rattle.access.specs.Verdicts.{knownTag, mayRead, mayWrite}
 use Rattle.sessions.specs.Session.{SessionMarks, lentAnswer, sessionRights}
 use Rattle.sessions.specs.Opening.{openOf}
 use Rattle.sessions.specs.Asking.{mayReadOf, mayWriteOf}
-use Rattle.moves.specs.declared.answers.Moved.{Moved}
-use Rattle.moves.specs.declared.answers.Moved.the-variants as moved
+use Rattle.buffers.specs.declared.answers.Filled.{Filled}
+use Rattle.buffers.specs.declared.answers.Filled.the-variants as filled
 use Rattle.moves.specs.declared.target.Move.the-variants.{Up, Clear}
 use Rattle.moves.specs.Moved.{withoutCompaccess, newImage}
 use Rattle.moves.specs.Holders.{isHolder, holders}
-use Rattle.moves.specs.Moving.{oldCheckOf, moveLimitsRule, unmoved, writtenTo, moveUpOf, clearCompaccessOf}
+use Rattle.buffers.specs.Filling.{unfilled, writtenTo}
+use Rattle.moves.specs.Moving.{oldCheckOf, moveLimitsRule, moveUpOf, clearCompaccessOf}
 use Rattle.moves.proofs.RecordsAlike.{heldAfter}
 use Rattle.moves.proofs.HoldsSame.{HoldsTheSame}
 use Rattle.moves.proofs.NewImage.{moved-edition}
@@ -45,7 +46,7 @@ use Rattle.moves.proofs.OldAccepted.{old-accepted, accepted-old}
 use Rattle.moves.proofs.CompaccessBits.{bit-gone, none-gone}
 use Rattle.moves.proofs.ClearedBytes.{ClearedOnly, cleared-only}
 use Rattle.moves.proofs.LessPrivileges.{cleared, addsReading, addsWriting, less-reads, less-writes}
-use Rattle.moves.proofs.FrontWritten.{FrontDone, checked-done}
+use Rattle.buffers.proofs.FrontWritten.{FrontDone, checked-done}
 
 pub record KeptByClearing (im new : List ℕ) : Type 0 where
   -- the new image is accepted, and of edition 1
@@ -53,7 +54,7 @@ pub record KeptByClearing (im new : List ℕ) : Type 0 where
   pub edition : editionOf new ≡ One
   -- nobody holds COMPACCESS, so that a move up is not refused 36
   pub list : holders new ≡ []
-  pub movable : (buffer after : List ℕ) (count : ℕ) → moveUpOf new buffer ≡ (moved.Refused (CompaccessHolders count), after) → ⊥
+  pub movable : (buffer after : List ℕ) (count : ℕ) → moveUpOf new buffer ≡ (filled.Refused (CompaccessHolders count), after) → ⊥
   -- the same components, labels and users, but for that privilege
   pub holds : HoldsTheSame (heldAfter Clear) im new
   -- the same session opens for each name, the same sessions are accepted, and the others refused in the same way; the same tags are known
@@ -131,19 +132,19 @@ module _ (im : List ℕ) (acc : IsAccepted im) (one : editionOf im ≡ One) wher
   lost-writes s tag h = rw (rights-cleared s h, write-same (cleared (sessionRights im s)) tag) (less-writes (sessionRights im s) im tag)
 
   -- ---- a move up afterwards
-  numberAfter : Moved × List ℕ → ℕ
-  numberAfter (moved.Done n, after) = 0
-  numberAfter (moved.Refused r, after) = numberOf r
+  numberAfter : Filled × List ℕ → ℕ
+  numberAfter (filled.Done n, after) = 0
+  numberAfter (filled.Refused r, after) = numberOf r
 
-  not-refused : (buffer after : List ℕ) (count : ℕ) → moveUpOf new buffer ≡ (moved.Refused (CompaccessHolders count), after) → ⊥
+  not-refused : (buffer after : List ℕ) (count : ℕ) → moveUpOf new buffer ≡ (filled.Refused (CompaccessHolders count), after) → ⊥
   unfolding moveUpOf numberAfter
   not-refused buffer after count q =
       at (moveLimitsRule new) (leb (length (newImage Up new)) (length buffer))
       (sym (rw (accepted-old new acc-new new-one, eq-eqb (length (holders new)) 0 (ap length no-holders)) at q))
     where
-      at : (s t : Bool) → (moved.Refused (CompaccessHolders count), after)
-          ≡ cond {A = Moved × List ℕ} s (cond t (moved.Done (length (newImage Up new)), atFront (newImage Up new) buffer) (unmoved buffer Room))
-          (unmoved buffer MoveLimits) → ⊥
+      at : (s t : Bool) → (filled.Refused (CompaccessHolders count), after)
+          ≡ cond {A = Filled × List ℕ} s (cond t (filled.Done (length (newImage Up new)), atFront (newImage Up new) buffer) (unfilled buffer Room))
+          (unfilled buffer MoveLimits) → ⊥
       at true true e = let z : _≡_ {A = ℕ} 36 0 = ap numberAfter e in omega arith
       at true false e = let z : _≡_ {A = ℕ} 36 13 = ap numberAfter e in omega arith
       at false t e = let z : _≡_ {A = ℕ} 36 37 = ap numberAfter e in omega arith
@@ -173,10 +174,10 @@ pub record ClearedBy (im buffer after : List ℕ) (n : ℕ) : Type 0 where
   pub only : ((i : ℕ) → byteAt im i < 256) → ClearedOnly im (take n after)
   pub later : drop n after ≡ drop n buffer
 
-pub cleared-by-call : (im buffer after : List ℕ) (n : ℕ) → clearCompaccessOf im buffer ≡ (moved.Done n, after) → ClearedBy im buffer after n
+pub cleared-by-call : (im buffer after : List ℕ) (n : ℕ) → clearCompaccessOf im buffer ≡ (filled.Done n, after) → ClearedBy im buffer after n
 unfolding clearCompaccessOf
 cleared-by-call im buffer after n q =
-    let told = checked-done im buffer (newImage Clear im) after n q in
+    let told = checked-done buffer (newImage Clear im) after n (oldCheckOf im) q in
     let acc = old-accepted im (told .0) .0 in
     let one = old-accepted im (told .0) .1 in
     record {

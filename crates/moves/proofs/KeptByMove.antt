@@ -23,9 +23,10 @@ use Rattle.sessions.specs.Asking.{mayReadOf, mayWriteOf}
 use Rattle.moves.specs.declared.target.Move.the-variants.{Up}
 use Rattle.moves.specs.Moved.{newImage}
 use Rattle.moves.specs.Holders.{holders}
-use Rattle.moves.specs.Moving.{moveLimitsRule, oldCheckOf, unmoved, writtenTo, moveUpOf}
-use Rattle.moves.specs.declared.answers.Moved.{Moved}
-use Rattle.moves.specs.declared.answers.Moved.the-variants as moved
+use Rattle.buffers.specs.Filling.{unfilled, writtenTo}
+use Rattle.moves.specs.Moving.{moveLimitsRule, oldCheckOf, moveUpOf}
+use Rattle.buffers.specs.declared.answers.Filled.{Filled}
+use Rattle.buffers.specs.declared.answers.Filled.the-variants as filled
 use Rattle.moves.proofs.HoldsSame.{HoldsTheSame}
 use Rattle.moves.proofs.RecordsAlike.{heldAfter}
 use Rattle.moves.proofs.NewImage.{takenRule, moved-edition}
@@ -33,7 +34,7 @@ use Rattle.moves.proofs.MovedAccepted.{accepted-holds, moved-accepted}
 use Rattle.moves.proofs.SameVerdicts.{known-alike, lent-alike, may-read-alike, may-write-alike}
 use Rattle.moves.proofs.SameOpening.{open-alike}
 use Rattle.moves.proofs.OldAccepted.{old-accepted, new-refused}
-use Rattle.moves.proofs.FrontWritten.{FrontDone, refused-done, front-done}
+use Rattle.buffers.proofs.FrontWritten.{FrontDone, refused-done, front-done}
 
 -- in edition 2 a tag that no label carries is denied to all
 module _ (im : List ℕ) (two : editionOf im ≡ Two) (rights : Rights) (tag : ℕ) (unknown : knownTag im tag ≡ false) where
@@ -96,15 +97,15 @@ module _ (im buffer after : List ℕ) (n : ℕ) where
   laid : KeptByMove im (newImage Up im) → FrontDone buffer (newImage Up im) after n → MovedBy im buffer after n
   laid kept done = record { room = done .room; kept = rw (done .front) kept; later = done .later }
 
-  pub moved-by-call : moveUpOf im buffer ≡ (moved.Done n, after) → MovedBy im buffer after n
+  pub moved-by-call : moveUpOf im buffer ≡ (filled.Done n, after) → MovedBy im buffer after n
   unfolding moveUpOf
   moved-by-call = at (oldCheckOf im) refl (moveLimitsRule im) refl (eqb (length (holders im)) 0) refl
     where
       at : (c : Checked) → oldCheckOf im ≡ c → (s : Bool) → moveLimitsRule im ≡ s → (h : Bool) → eqb (length (holders im)) 0 ≡ h
-          → onChecked {A = Moved × List ℕ} c (unmoved buffer)
-          (cond s (cond h (writtenTo buffer (newImage Up im)) (unmoved buffer (CompaccessHolders (length (holders im))))) (unmoved buffer MoveLimits))
-          ≡ (moved.Done n, after) → MovedBy im buffer after n
-      at Accepted e true s true h q = laid (kept-by-move im e (both _ _ s h)) (front-done im buffer (newImage Up im) after n q)
-      at Accepted e true s false h q = absurd (refused-done (ap (λ (p : Moved × List ℕ). p .0) q))
-      at Accepted e false s h g q = absurd (refused-done (ap (λ (p : Moved × List ℕ). p .0) q))
-      at (Refused r) e s f h g q = absurd (refused-done (ap (λ (p : Moved × List ℕ). p .0) q))
+          → onChecked {A = Filled × List ℕ} c (unfilled buffer)
+          (cond s (cond h (writtenTo buffer (newImage Up im)) (unfilled buffer (CompaccessHolders (length (holders im))))) (unfilled buffer MoveLimits))
+          ≡ (filled.Done n, after) → MovedBy im buffer after n
+      at Accepted e true s true h q = laid (kept-by-move im e (both _ _ s h)) (front-done buffer (newImage Up im) after n q)
+      at Accepted e true s false h q = absurd (refused-done (ap (λ (p : Filled × List ℕ). p .0) q))
+      at Accepted e false s h g q = absurd (refused-done (ap (λ (p : Filled × List ℕ). p .0) q))
+      at (Refused r) e s f h g q = absurd (refused-done (ap (λ (p : Filled × List ℕ). p .0) q))

@@ -14,7 +14,6 @@ pub mod MovedAccepted
 pub mod OldAccepted
 pub mod KeptByMove
 pub mod Steps
-pub mod FrontWritten
 pub mod SameBytes
 pub mod SameHeader
 pub mod ClearedBytes

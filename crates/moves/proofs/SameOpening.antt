@@ -6,7 +6,7 @@ use mathlib.Core.List.{List}
 use native.Mathlib.Omega.{arith}
 use borrow.Author.Tests.{ltb-true}
 use lib.Dec.{ltb}
-use Rattle.fields.specs.Names.{nameIn, sameName}
+use Rattle.fields.specs.Names.{nameIn, sameBytes}
 use Rattle.fields.specs.Scan.{firstBad}
 use Rattle.fields.proofs.Scan.{bad-same-on}
 use Rattle.header.specs.Layout.{users, userRecord}
@@ -22,9 +22,9 @@ module _ {change : ℕ → ℕ} (im new : List ℕ) (same : HoldsTheSame change 
   pub name-alike : (name : List ℕ) → userOfName new name ≡ userOfName im name
   unfolding userOfName
   name-alike name =
-      ap (λ (n : ℕ). firstBad (λ u. not (sameName (userName (userRecord new u)) name)) n 0) (same .sameUsers)
-      ∙ bad-same-on (λ u. not (sameName (userName (userRecord new u)) name)) (λ u. not (sameName (userName (userRecord im u)) name)) (users im) 0
-      (λ u low high. ap (λ (field : List ℕ). not (sameName (nameIn field) name)) (same .user u (omega arith) .name))
+      ap (λ (n : ℕ). firstBad (λ u. not (sameBytes (userName (userRecord new u)) name)) n 0) (same .sameUsers)
+      ∙ bad-same-on (λ u. not (sameBytes (userName (userRecord new u)) name)) (λ u. not (sameBytes (userName (userRecord im u)) name)) (users im) 0
+      (λ u low high. ap (λ (field : List ℕ). not (sameBytes (nameIn field) name)) (same .user u (omega arith) .name))
 
   -- the user's default label and default row label are the same
   pub default-alike : (u : ℕ) → u < users im → defaultSession new u ≡ defaultSession im u

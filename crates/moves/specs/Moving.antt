@@ -4,12 +4,12 @@ use mathlib.Core.Bool.{Bool, true, false, cond, _&&_}
 use mathlib.Core.List.{List}
 use lib.Dec.{eqb, leb}
 use lib.ListN.{length}
-use Rattle.buffers.specs.Pasting.{atFront}
-use Rattle.refusals.specs.declared.Refusal.{Refusal}
-use Rattle.refusals.specs.declared.Refusal.the-variants.{ImageLayout, Room, CompaccessHolders, MoveLimits}
+use Rattle.refusals.specs.declared.Refusal.the-variants.{ImageLayout, CompaccessHolders, MoveLimits}
 use Rattle.refusals.specs.declared.answers.Checked.{Checked}
 use Rattle.refusals.specs.declared.answers.Checked.the-variants.{Refused}
 use Rattle.refusals.specs.Answers.{onChecked}
+use Rattle.buffers.specs.Filling.{unfilled, writtenTo}
+use Rattle.buffers.specs.declared.answers.Filled.{Filled}
 use Rattle.blocks.specs.Blocks.{lengthRule, blockCount, firstBadBlock}
 use Rattle.header.specs.declared.edition.Edition.{Edition}
 use Rattle.header.specs.declared.edition.Edition.the-variants.{One, Two}
@@ -19,8 +19,6 @@ use Rattle.image.specs.Check.{checkOf}
 use Rattle.moves.specs.declared.target.Move.the-variants.{Up, Clear}
 use Rattle.moves.specs.Moved.{newImage}
 use Rattle.moves.specs.Holders.{holders}
-use Rattle.moves.specs.declared.answers.Moved.{Moved}
-use Rattle.moves.specs.declared.answers.Moved.the-variants as moved
 
 -- ---- calls that take an image of edition 1 only
 abbrev pub isTwo : Edition → Bool
@@ -35,35 +33,26 @@ framedTwo im = lengthRule im && isTwo (editionOf im) && eqb (firstBadBlock im) (
 unfoldable pub oldCheckOf : List ℕ → Checked
 oldCheckOf im = cond (framedTwo im) (Refused ImageLayout) (checkOf im)
 
--- a refusal leaves the buffer as it was
-abbrev pub unmoved : List ℕ → Refusal → Moved × List ℕ
-unmoved buffer r = (moved.Refused r, buffer)
-
--- the bytes at the buffer's front, and how many; 13 where it is shorter. Later bytes stay
-abbrev pub writtenTo : List ℕ → List ℕ → Moved × List ℕ
-writtenTo buffer bytes =
-    cond (leb (length bytes) (length buffer)) (moved.Done (length bytes), atFront bytes buffer) (unmoved buffer Room)
-
 -- ---- `move_up`
 -- edition 2 has room for the labels and the users
 unfoldable pub moveLimitsRule : List ℕ → Bool
 moveLimitsRule im = leb (labels im) (limitsIn Two .labels) && leb (users im) (limitsIn Two .users)
 
 -- 37, then 36 with the number of those who hold COMPACCESS, then 13
-abbrev pub moveAccepted : List ℕ → List ℕ → Moved × List ℕ
+abbrev pub moveAccepted : List ℕ → List ℕ → Filled × List ℕ
 moveAccepted im buffer =
     let count = length (holders im) in
     cond (moveLimitsRule im)
-    (cond (eqb count 0) (writtenTo buffer (newImage Up im)) (unmoved buffer (CompaccessHolders count)))
-    (unmoved buffer MoveLimits)
+    (cond (eqb count 0) (writtenTo buffer (newImage Up im)) (unfilled buffer (CompaccessHolders count)))
+    (unfilled buffer MoveLimits)
 
-unfoldable pub moveUpOf : List ℕ → List ℕ → Moved × List ℕ
-moveUpOf im buffer = onChecked (oldCheckOf im) (unmoved buffer) (moveAccepted im buffer)
+unfoldable pub moveUpOf : List ℕ → List ℕ → Filled × List ℕ
+moveUpOf im buffer = onChecked (oldCheckOf im) (unfilled buffer) (moveAccepted im buffer)
 
 -- ---- `compaccess_users`: their places, one byte each
-unfoldable pub compaccessUsersOf : List ℕ → List ℕ → Moved × List ℕ
-compaccessUsersOf im buffer = onChecked (oldCheckOf im) (unmoved buffer) (writtenTo buffer (holders im))
+unfoldable pub compaccessUsersOf : List ℕ → List ℕ → Filled × List ℕ
+compaccessUsersOf im buffer = onChecked (oldCheckOf im) (unfilled buffer) (writtenTo buffer (holders im))
 
 -- ---- `clear_compaccess`
-unfoldable pub clearCompaccessOf : List ℕ → List ℕ → Moved × List ℕ
-clearCompaccessOf im buffer = onChecked (oldCheckOf im) (unmoved buffer) (writtenTo buffer (newImage Clear im))
+unfoldable pub clearCompaccessOf : List ℕ → List ℕ → Filled × List ℕ
+clearCompaccessOf im buffer = onChecked (oldCheckOf im) (unfilled buffer) (writtenTo buffer (newImage Clear im))

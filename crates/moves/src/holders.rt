@@ -6,8 +6,8 @@ ghost use Rattle.buffers.specs.Pasting.{Written};
 ghost use Rattle.header.specs.Layout.{users};
 ghost use Rattle.header.specs.Limits.{Counted};
 ghost use Rattle.moves.specs.Holders.{isHolder, holderAt, holders};
-ghost use Rattle.moves.specs.Moving.{writtenTo};
-use crate::answers::Moved;
+ghost use Rattle.buffers.specs.Filling.{writtenTo};
+use buffers::answers::Filled;
 use buffers::given::put;
 use header::layout;
 use records::users::privileges;
@@ -68,13 +68,13 @@ fn put_holders(image: &[u8], buffer: &mut [u8]) -> usize
 }
 
 // Refusal: 13.
-pub(crate) fn list_accepted(image: &[u8], buffer: &mut [u8]) -> Moved
+pub(crate) fn list_accepted(image: &[u8], buffer: &mut [u8]) -> Filled
     requires { ⌜ Counted (now image) ⌝ }
     ensures { λ r. ⌜ (r, now (buffer .exit)) ≡ writtenTo (now (buffer .entry)) (holders (now (image .entry))) ⌝ }
 {
     if buffer.len() < holder_count(image) {
-        return Moved::Refused(Refusal::Room);
+        return Filled::Refused(Refusal::Room);
     }
     let count = put_holders(image, buffer);
-    Moved::Done(count)
+    Filled::Done(count)
 }

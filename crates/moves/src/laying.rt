@@ -8,12 +8,12 @@ ghost use Rattle.header.specs.Layout.{editionOf, groups, Fitted};
 ghost use Rattle.header.specs.Limits.{Counted};
 ghost use Rattle.moves.specs.Moved.{newImage};
 ghost use Rattle.moves.specs.Parts.{newHeader};
-ghost use Rattle.moves.specs.Moving.{writtenTo};
-use crate::answers::Moved;
+ghost use Rattle.buffers.specs.Filling.{writtenTo};
 use crate::packing::blocks_for;
 use crate::packing::move_kind;
 use crate::target::Move;
 use crate::target::edition_after;
+use buffers::answers::Filled;
 use header::layout;
 use header::layout::Kind;
 use header::profile::profile_of;
@@ -69,13 +69,13 @@ pub(crate) fn put_image(which: Move, image: &[u8], buffer: &mut [u8]) -> usize
 }
 
 // Refusal: 13.
-pub(crate) fn write_image(which: Move, image: &[u8], buffer: &mut [u8]) -> Moved
+pub(crate) fn write_image(which: Move, image: &[u8], buffer: &mut [u8]) -> Filled
     requires { ⌜ Counted (now image) × (editionOf (now image) ≡ One) ⌝ }
     ensures { λ r. ⌜ (r, now (buffer .exit)) ≡ writtenTo (now (buffer .entry)) (newImage which (now (image .entry))) ⌝ }
 {
     if buffer.len() < new_length(which, image) {
-        return Moved::Refused(Refusal::Room);
+        return Filled::Refused(Refusal::Room);
     }
     let length = put_image(which, image, buffer);
-    Moved::Done(length)
+    Filled::Done(length)
 }

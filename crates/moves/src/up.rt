@@ -6,10 +6,10 @@ ghost use Rattle.header.specs.declared.edition.Edition.the-variants.{One};
 ghost use Rattle.header.specs.Layout.{editionOf};
 ghost use Rattle.header.specs.Limits.{Counted};
 ghost use Rattle.moves.specs.Moving.{moveLimitsRule, moveAccepted};
-use crate::answers::Moved;
 use crate::holders::holder_count;
 use crate::laying::write_image;
 use crate::target::Move;
+use buffers::answers::Filled;
 use header::edition::Edition;
 use header::layout;
 use header::limits::limits_in;
@@ -25,16 +25,16 @@ fn limits_ok(image: &[u8]) -> bool
 }
 
 // Refusals: 37, 36, 13.
-pub(crate) fn move_accepted(image: &[u8], buffer: &mut [u8]) -> Moved
+pub(crate) fn move_accepted(image: &[u8], buffer: &mut [u8]) -> Filled
     requires { ⌜ Counted (now image) × (editionOf (now image) ≡ One) ⌝ }
     ensures { λ r. ⌜ (r, now (buffer .exit)) ≡ moveAccepted (now (image .entry)) (now (buffer .entry)) ⌝ }
 {
     if !limits_ok(image) {
-        return Moved::Refused(Refusal::MoveLimits);
+        return Filled::Refused(Refusal::MoveLimits);
     }
     let count = holder_count(image);
     if count != 0 {
-        return Moved::Refused(Refusal::CompaccessHolders(count));
+        return Filled::Refused(Refusal::CompaccessHolders(count));
     }
     write_image(Move::Up, image, buffer)
 }

@@ -10,7 +10,7 @@ use borrow.Author.Tests.{leb-true, eqb-true, ltb-true, ltb-false, le-leb, eq-eqb
 use lib.Dec.{ltb, eqb}
 use lib.ListN.{length}
 use Rattle.fields.specs.Bytes.{byteAt}
-use Rattle.fields.specs.Names.{sameName}
+use Rattle.fields.specs.Names.{sameBytes}
 use Rattle.fields.proofs.Both.{parts, either, both, or-left, or-right}
 use Rattle.fields.proofs.Meaning.{zero-rest, rest-zero, NameKept, name-means, name-holds, differ-means, same-means}
 use Rattle.fields.proofs.Scan.{everywhere-at, all-good}
@@ -150,20 +150,20 @@ module _ (n : Counts) (records : List (List ℕ)) (i : ℕ) where
   new-name-means e j low high =
       let name : List ℕ = componentName (recordIn records i) in
       differ-means (componentName (recordIn records j)) name
-      (not-true (sameName (componentName (recordIn records j)) name)
-      (everywhere-at (λ j. not (sameName (componentName (recordIn records j)) name)) (i - classStart n i) (classStart n i) j e low (omega arith)))
+      (not-true (sameBytes (componentName (recordIn records j)) name)
+      (everywhere-at (λ j. not (sameBytes (componentName (recordIn records j)) name)) (i - classStart n i) (classStart n i) j e low (omega arith)))
 
   pub new-name-holds : NameNew → newNameRule n records i ≡ true
   unfolding newNameRule otherName
   new-name-holds f =
       let name : List ℕ = componentName (recordIn records i) in
-      eq-eqb _ _ (all-good (λ j. not (sameName (componentName (recordIn records j)) name)) (i - classStart n i) (classStart n i)
+      eq-eqb _ _ (all-good (λ j. not (sameBytes (componentName (recordIn records j)) name)) (i - classStart n i) (classStart n i)
       (λ j low high. differs (componentName (recordIn records j)) name (f j low (omega (arith, class-begun n i)))))
     where
-      differs : (a b : List ℕ) → (a ≡ b → ⊥) → not (sameName a b) ≡ true
-      differs a b g = at (sameName a b) refl
+      differs : (a b : List ℕ) → (a ≡ b → ⊥) → not (sameBytes a b) ≡ true
+      differs a b g = at (sameBytes a b) refl
         where
-          at : (t : Bool) → sameName a b ≡ t → not t ≡ true
+          at : (t : Bool) → sameBytes a b ≡ t → not t ≡ true
           at true e = absurd (g (same-means a b e))
           at false e = refl
 

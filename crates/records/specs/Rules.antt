@@ -6,7 +6,7 @@ use mathlib.Core.List.{List, []}
 use lib.Dec.{eqb, leb, ltb}
 use lib.ListN.{drop, getD}
 use Rattle.fields.specs.Bytes.{byteAt, part, allZero}
-use Rattle.fields.specs.Names.{nameRule, sameName, nameBefore}
+use Rattle.fields.specs.Names.{nameRule, sameBytes, nameBefore}
 use Rattle.fields.specs.Scan.{firstBad, everywhere}
 use Rattle.sets.specs.Sets.{within, allBelow}
 use Rattle.header.specs.declared.edition.Edition.{Edition}
@@ -47,7 +47,7 @@ numericRule n records i =
 
 -- the component has another name
 unfoldable pub otherName : List ℕ → List ℕ → Bool
-otherName name rec = not (sameName (componentName rec) name)
+otherName name rec = not (sameBytes (componentName rec) name)
 
 -- the same of the component at place j of an image
 abbrev pub othersNamed : List ℕ → List ℕ → ℕ → Bool

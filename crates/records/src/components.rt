@@ -2,7 +2,7 @@
 ghost use Prim.Native.Nat.{_-_, _<_, _≤_};
 ghost use mathlib.Core.Path.{_≡_};
 ghost use lib.ListN.{length};
-ghost use Rattle.fields.specs.Names.{sameName};
+ghost use Rattle.fields.specs.Names.{sameBytes};
 ghost use Rattle.fields.specs.Scan.{firstBad};
 ghost use Rattle.header.specs.declared.layout.Kind.the-variants.{Component};
 ghost use Rattle.header.specs.Layout.{editionOf, countsOf, countOf, recordSize, Fitted, recordAt, recordsOf, OneBlock};
@@ -107,7 +107,7 @@ fn numeric_ok(image: &[u8], i: usize) -> bool
 // byte alone tells only of names shorter than that.
 fn is_named(rec: &[u8], name: &[u8]) -> bool
     requires { ⌜ length (now rec) ≡ 40 ⌝ }
-    ensures { λ r. ⌜ r ≡ sameName (componentName (now (rec .entry))) (now (name .entry)) ⌝ }
+    ensures { λ r. ⌜ r ≡ sameBytes (componentName (now (rec .entry))) (now (name .entry)) ⌝ }
 {
     let n = rec[1] as usize;
     if (n != name.len()) & (name.len() < 30) {

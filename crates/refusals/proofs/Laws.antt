@@ -15,19 +15,19 @@ use Rattle.refusals.specs.declared.answers.Checked.the-variants.{Accepte
 use Rattle.refusals.specs.declared.Refusal.{Refusal}
 use Rattle.refusals.specs.declared.Refusal.the-variants.{ImageLength, BlockCheck, ImageLayout, ComponentRecord, LabelRecord, UserRecord, ParentRing, NoUser, TextShape, UnknownName, RepeatedName}
 use Rattle.refusals.specs.declared.Refusal.the-variants.{LevelNotAllowed, CompartmentsNotAllowed, GroupsNotAllowed, RowLabelOutside, TableShape, Room}
-use Rattle.refusals.specs.declared.Refusal.the-variants.{NoRow, RowNotWritable, PayloadLength, MergeLetters, NoComponent, SessionRules, CompaccessHolders, MoveLimits}
+use Rattle.refusals.specs.declared.Refusal.the-variants.{NoRow, RowNotWritable, PayloadLength, MergeLetters, NoComponent, SessionRules, WrongMap, CompaccessHolders, MoveLimits}
 
--- the refusals by their numbers, 1 to 19 and then 31 to 37, each with the values p and q where it has them. No refusal has the number 3
+-- the refusals by their numbers, 1 to 20 and then 31 to 37, each with the values p and q where it has them. No refusal has the number 3
 abbrev table : ℕ → ℕ → List Refusal
 table p q =
     ImageLength ∷ BlockCheck p ∷ ImageLength ∷ NoUser ∷ TextShape ∷ UnknownName p ∷ RepeatedName p ∷ LevelNotAllowed
     ∷ CompartmentsNotAllowed ∷ GroupsNotAllowed ∷ RowLabelOutside ∷ TableShape ∷ Room ∷ NoRow ∷ RowNotWritable
-    ∷ PayloadLength ∷ MergeLetters ∷ NoComponent ∷ SessionRules
+    ∷ PayloadLength ∷ MergeLetters ∷ NoComponent ∷ SessionRules ∷ WrongMap
     ∷ ImageLayout ∷ ComponentRecord p q ∷ LabelRecord p q ∷ UserRecord p q ∷ ParentRing p ∷ CompaccessHolders p ∷ MoveLimits ∷ []
 
 -- the refusal with a number and values: the way back from `numberOf` and `valuesOf`
 abbrev pub refusalOf : ℕ → List ℕ → Refusal
-refusalOf n values = getD (table (getD values 0 0) (getD values 1 0)) (cond (ltb n 31) (n - 1) (n - 12)) ImageLength
+refusalOf n values = getD (table (getD values 0 0) (getD values 1 0)) (cond (ltb n 31) (n - 1) (n - 11)) ImageLength
 
 abbrev inRange : ℕ → Bool
 inRange n = leb 1 n && leb n 37
@@ -57,6 +57,7 @@ line PayloadLength = (refl, refl)
 line MergeLetters = (refl, refl)
 line NoComponent = (refl, refl)
 line SessionRules = (refl, refl)
+line WrongMap = (refl, refl)
 line (CompaccessHolders count) = (refl, refl)
 line MoveLimits = (refl, refl)
 

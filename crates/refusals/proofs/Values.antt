@@ -8,12 +8,12 @@ use Rattle.refusals.specs.Refusals.{valuesOf}
 use Rattle.refusals.specs.declared.Refusal.{Refusal}
 use Rattle.refusals.specs.declared.Refusal.the-variants.{ImageLength, BlockCheck, ImageLayout, ComponentRecord, LabelRecord, UserRecord, ParentRing, NoUser, TextShape, UnknownName, RepeatedName}
 use Rattle.refusals.specs.declared.Refusal.the-variants.{LevelNotAllowed, CompartmentsNotAllowed, GroupsNotAllowed, RowLabelOutside, TableShape, Room}
-use Rattle.refusals.specs.declared.Refusal.the-variants.{NoRow, RowNotWritable, PayloadLength, MergeLetters, NoComponent, SessionRules, CompaccessHolders, MoveLimits}
+use Rattle.refusals.specs.declared.Refusal.the-variants.{NoRow, RowNotWritable, PayloadLength, MergeLetters, NoComponent, SessionRules, WrongMap, CompaccessHolders, MoveLimits}
 use Rattle.refusals.proofs.Refusal.{the-type}
 
 -- the places, in the order of the declaration, of the cases that hold no value
 abbrev pub others : List ℕ
-others = 0 ∷ 2 ∷ 7 ∷ 8 ∷ 11 ∷ 12 ∷ 13 ∷ 14 ∷ 15 ∷ 16 ∷ 17 ∷ 18 ∷ 19 ∷ 20 ∷ 21 ∷ 22 ∷ 24 ∷ []
+others = 0 ∷ 2 ∷ 7 ∷ 8 ∷ 11 ∷ 12 ∷ 13 ∷ 14 ∷ 15 ∷ 16 ∷ 17 ∷ 18 ∷ 19 ∷ 20 ∷ 21 ∷ 22 ∷ 23 ∷ 25 ∷ []
 
 pub others-none : (r : Refusal) → OneOf others (tagOf the-type r) → valuesOf r ≡ []
 others-none ImageLength h = refl
@@ -39,5 +39,6 @@ others-none PayloadLength h = refl
 others-none MergeLetters h = refl
 others-none NoComponent h = refl
 others-none SessionRules h = refl
-others-none (CompaccessHolders count) h = absurd (miss others 23 tt h)
+others-none WrongMap h = refl
+others-none (CompaccessHolders count) h = absurd (miss others 24 tt h)
 others-none MoveLimits h = refl

@@ -1,12 +1,12 @@
--- The table "Numbers given back" of the scope document, with 31 to 35 of request R-2 in place of 3, 36 of request R-12 and 37 of
--- request R-11: each refusal's number, and the values that are returned with it.
+-- The table "Numbers given back" of the scope document, with 31 to 35 of request R-2 in place of 3, 20 of request R-4, 36 of
+-- request R-12 and 37 of request R-11: each refusal's number, and the values that are returned with it.
 -- Assumes nothing.
 use Prim.Native.Nat.{ℕ, _+_, _*_}
 use mathlib.Core.List.{List, [], _∷_}
 use Rattle.refusals.specs.declared.Refusal.{Refusal}
 use Rattle.refusals.specs.declared.Refusal.the-variants.{ImageLength, BlockCheck, ImageLayout, ComponentRecord, LabelRecord, UserRecord, ParentRing, NoUser, TextShape, UnknownName, RepeatedName}
 use Rattle.refusals.specs.declared.Refusal.the-variants.{LevelNotAllowed, CompartmentsNotAllowed, GroupsNotAllowed, RowLabelOutside, TableShape, Room}
-use Rattle.refusals.specs.declared.Refusal.the-variants.{NoRow, RowNotWritable, PayloadLength, MergeLetters, NoComponent, SessionRules, CompaccessHolders, MoveLimits}
+use Rattle.refusals.specs.declared.Refusal.the-variants.{NoRow, RowNotWritable, PayloadLength, MergeLetters, NoComponent, SessionRules, WrongMap, CompaccessHolders, MoveLimits}
 
 -- the table's first column
 abbrev pub numberOf : Refusal → ℕ
@@ -33,6 +33,7 @@ numberOf PayloadLength = 16
 numberOf MergeLetters = 17
 numberOf NoComponent = 18
 numberOf SessionRules = 19
+numberOf WrongMap = 20
 numberOf (CompaccessHolders count) = 36
 numberOf MoveLimits = 37
 
@@ -62,6 +63,7 @@ valuesOf PayloadLength = []
 valuesOf MergeLetters = []
 valuesOf NoComponent = []
 valuesOf SessionRules = []
+valuesOf WrongMap = []
 valuesOf (CompaccessHolders count) = count ∷ []
 valuesOf MoveLimits = []
 

@@ -1,6 +1,6 @@
 // What every call answers when it does not do what was asked: one case for each number of the scope
-// document's table "Numbers given back", in the table's order, with 31 to 35 of request R-2 in place of 3, 36 of
-// request R-12 and 37 of request R-11. A case holds what the papers say is returned with the number, and nothing else.
+// document's table "Numbers given back", in the table's order, with 31 to 35 of request R-2 in place of 3, 20 of
+// request R-4, 36 of request R-12 and 37 of request R-11. A case holds what the papers say is returned with the number, and nothing else.
 pub mod answers;
 
 ghost use mathlib.Core.Path.{_≡_};
@@ -49,6 +49,8 @@ pub enum Refusal {
     NoComponent,
     // 19: a lent session breaks its rules for that image.
     SessionRules,
+    // 20: a lent map is not that of the image and session.
+    WrongMap,
     // 36: a move up of an image whose users hold COMPACCESS; how many of them do.
     CompaccessHolders(usize),
     // 37: a move up of over 800 labels or 32 users.
@@ -83,6 +85,7 @@ pub fn number(r: Refusal) -> u8
         Refusal::MergeLetters => 17,
         Refusal::NoComponent => 18,
         Refusal::SessionRules => 19,
+        Refusal::WrongMap => 20,
         Refusal::CompaccessHolders(_) => 36,
         Refusal::MoveLimits => 37,
     }

@@ -73,6 +73,10 @@ module _ (test : List ℕ → Bool) where
     pub part-step : (at : ℕ) → Rest run w at → at < length run → left at ≡ rowBytes test (row at) ++ left (at + w)
     part-step at r h = rw (row-part run w whole at) (left-step at r h)
 
+    -- a row that passes adds the width
+    pub adds-width : (at : ℕ) → Rest run w at → at < length run → test (row at) ≡ true → length (rowBytes test (row at)) ≡ w
+    adds-width at r h e = ap length (adds-all (row at) e ∙ row-part run w whole at) ∙ row-wide run w whole at r h
+
     pub count-fits : (at n : ℕ) → Count run w at n → at < length run → n + length (rowBytes test (row at)) ≤ length run
     count-fits at n c h =
         let s = ap length (part-step at (c .rest) h) ∙ length-append (rowBytes test (row at)) (left (at + w)) in

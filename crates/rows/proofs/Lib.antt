@@ -9,3 +9,4 @@ pub mod Replacing
 pub mod Answered
 pub mod Giving
 pub mod Nth
+pub mod ByMap

@@ -1,7 +1,8 @@
--- Tables: row reads, row updates, masked reads.
+-- Tables: row reads, row updates, masked reads, reads with a map.
 pub mod Run
 pub mod Table
 pub mod Reading
 pub mod Updating
 pub mod Masked
+pub mod Mapped
 pub mod Scan

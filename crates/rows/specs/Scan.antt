@@ -1,8 +1,10 @@
 -- What the parts of the row calls do, one row at a time.
-use Prim.Native.Nat.{ℕ}
+use Prim.Native.Nat.{ℕ, _*_, _≤_}
 use mathlib.Core.Path.{_≡_}
 use mathlib.Core.Bool.{Bool, true, cond}
 use mathlib.Core.List.{List, [], flatten}
+use lib.ListN.{length}
+use Rattle.header.specs.Layout.{labels}
 use Rattle.access.specs.Rights.{Rights, rightsOf}
 use Rattle.image.specs.Check.{IsAccepted}
 use Rattle.refusals.specs.declared.answers.Checked.the-variants as checked
@@ -31,6 +33,16 @@ pub record Usable (im run : List ℕ) (width : ℕ) : Type 0 where
 pub record UsableTable (im table : List ℕ) (width : ℕ) : Type 0 where
   pub accepted : IsAccepted im
   pub rule : tableRule table width ≡ true
+
+-- bytes that have a bit for each label record of an accepted image; whether they are the map does not count
+pub record Mapping (im bits : List ℕ) : Type 0 where
+  pub accepted : IsAccepted im
+  pub enough : labels im ≤ 8 * length bits
+
+-- and a run to be read by them
+pub record MappedRun (im bits run : List ℕ) (width : ℕ) : Type 0 where
+  pub mapping : Mapping im bits
+  pub whole : IsRun run width
 
 -- what the code finds of a lent session and table: what the session gives its user, or the refusal
 abbrev pub TableGives : List ℕ → SessionMarks → List ℕ → ℕ → Lent → Type 0

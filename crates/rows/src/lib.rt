@@ -1,5 +1,6 @@
 // A table's rows under a session: reads, updates and masked reads. Every call checks the image, the session and the table's shape.
 pub mod answers;
+mod mapped;
 mod masking;
 mod reading;
 mod run;
@@ -10,11 +11,14 @@ ghost use mathlib.Core.Path.{_≡_};
 ghost use Rattle.sessions.specs.Session.{sessionOf};
 ghost use Rattle.rows.specs.Table.{tableRule};
 ghost use Rattle.rows.specs.Reading.{readRowsOf};
+ghost use Rattle.rows.specs.Mapped.{readMappedOf};
 ghost use Rattle.rows.specs.Updating.{updateRowOf};
 ghost use Rattle.rows.specs.Masked.{maskedVerdictOf, maskedPart};
 ghost use Rattle.rows.specs.Scan.{TableGives};
+use access::verdicts::unknown_read;
 use answers::RowsRead;
 use hierarchy::table;
+use maps::given::is_map;
 use refusals::Refusal;
 use refusals::answers::Checked;
 use refusals::answers::Verdict;
@@ -65,6 +69,31 @@ pub fn read(
     let found = table_rights(image, session, table, width);
     match found {
         Lent::At(view) => reading::read_accepted(image, view, run_of(table, width), width, buffer),
+        Lent::Refused(refusal) => RowsRead::Refused(refusal),
+    }
+}
+
+// The same by a map of the session, which is judged before any row is looked at. Refusals: 1, 2, 31 to 35, 19, 12, 20, 13; the buffer is then as
+// it was.
+pub fn read_mapped(
+    image: &[u8],
+    session: Session,
+    table: &[u8],
+    width: usize,
+    bits: &[u8],
+    buffer: &mut [u8],
+) -> RowsRead
+    ensures { λ r. ⌜ (r, now (buffer .exit)) ≡ readMappedOf (now (image .entry)) (sessionOf session) (now (table .entry)) width (now (bits .entry)) (now (buffer .entry)) ⌝ }
+{
+    let found = table_rights(image, session, table, width);
+    match found {
+        Lent::At(view) => {
+            if !is_map(image, view, bits) {
+                return RowsRead::Refused(Refusal::WrongMap);
+            }
+            let unknown = unknown_read(image, view);
+            mapped::read_by_map(image, bits, unknown, run_of(table, width), width, buffer)
+        }
         Lent::Refused(refusal) => RowsRead::Refused(refusal),
     }
 }

@@ -5,7 +5,7 @@ use mathlib.Core.Bool.{true, not}
 use mathlib.Core.List.{List, [], _∷_, flatten}
 use lib.ListN.{replicate}
 use Rattle.fields.specs.Bytes.{number2, number4}
-use Rattle.refusals.specs.declared.Refusal.the-variants.{NoUser, RowLabelOutside, TableShape, NoRow, RowNotWritable, SessionRules}
+use Rattle.refusals.specs.declared.Refusal.the-variants.{NoUser, RowLabelOutside, TableShape, NoRow, RowNotWritable, SessionRules, WrongMap}
 use Rattle.refusals.specs.declared.answers.Checked.the-variants.{Accepted, Refused}
 use Rattle.sessions.specs.Session.{sessionRights}
 use Rattle.sessions.specs.Opening.{session, refused}
@@ -14,13 +14,15 @@ use Rattle.rows.specs.Table.{tableRun, withRun, rowsOf, withRows, tableChanged,
 use Rattle.rows.specs.Reading.{handedOut, readRowsOf}
 use Rattle.rows.specs.Updating.{nthRowAnswer, tableUpdated, updateWith, updateRowOf}
 use Rattle.rows.specs.declared.answers.RowsRead.the-variants as rowsRead
-use Rattle.isolation.specs.Calls.{last, other, reading, updating, Call, opening, settingLabel, settingRowLabel, onRows, Answer, opened, labelSet, rowsHanded, rowDone, State, rowStep, step, run}
+use Rattle.rows.proofs.ByMap.{mapped-plain}
+use Rattle.isolation.specs.Calls.{last, other, reading, readingMapped, updating, Call, opening, settingLabel, settingRowLabel, onRows, Answer, opened, labelSet, rowsHanded, rowDone, State, rowStep, step, run}
 use Rattle.isolation.specs.Claim.{everReadable, listAtMaximum, ownCall, ownCalls, started, tableAfter, Premises, Claim}
 use Rattle.isolation.proofs.HiddenRows.{run-step, hidden-rows}
 use Rattle.sample.specs.Pieces.{mara as name}
 use Rattle.sample.specs.Cooperative.{cooperative}
-use Rattle.sample.specs.TwoTables.{rowOf, seen, rows1, rows2, table1, table2, vaulted, bare, glazed, tooLow, noSession, nameMark, textVault, textGlaze, textCrew, calls}
+use Rattle.sample.specs.TwoTables.{rowOf, seen, rows1, rows2, table1, table2, vaulted, bare, glazed, tooLow, noSession, nameMark, textVault, textGlaze, textCrew, maraMap, glazedMap, calls}
 use Rattle.sample.proofs.Mara.{mara, mara-opens, mara-passes, p10}
+use Rattle.sample.proofs.MaraMaps.{mara-right, glazed-right, glazed-wrong}
 use Rattle.sample.proofs.MaraReads.{ever, mara-verdicts, vaulted-passes, vaulted-verdicts, glazed-passes, glazed-verdicts, mark-refused, glaze-refused, crew-accepted, glaze-accepted, too-low-refused}
 
 -- ---- the tables' rows
@@ -127,6 +129,10 @@ reads : step cooperative (started table1 mara) (onRows last 6 (reading (replicat
 unfolding step rowStep readRowsOf handedOut tableAnswer tableRule table1 flatten
 reads = rw (mara-passes, readable-before)
 
+reads-mapped : step cooperative (started table1 mara) (onRows last 6 (readingMapped maraMap (replicate 20 1))) ≡ (started table1 mara, rowsHanded (rowsRead.Done 3) bytesBefore)
+unfolding step rowStep handedOut tableAnswer tableRule table1 flatten
+reads-mapped = rw (mapped-plain cooperative mara table1 6 maraMap (replicate 20 1), mara-passes, mara-right, readable-before)
+
 updates : step cooperative (started table1 mara) (onRows last 6 (updating 2 (88 ∷ 89 ∷ []))) ≡ (started tableAfter1 mara, rowDone Accepted)
 unfolding step rowStep updateRowOf updateWith nthRowAnswer tableUpdated tableChanged withRows withRun tableAnswer tableRule table1 tableAfter1 flatten number4 number2
 updates =
@@ -169,6 +175,15 @@ reads-less : step cooperative (started tableAfter1 glazed) (onRows last 6 (readi
 unfolding step rowStep readRowsOf handedOut tableAnswer tableRule tableAfter1 flatten
 reads-less = rw (glazed-passes, readable-now)
 
+-- the map that she had before she gave KILN up
+old-map : step cooperative (started tableAfter1 glazed) (onRows last 6 (readingMapped maraMap (replicate 20 1))) ≡ (started tableAfter1 glazed, rowsHanded (rowsRead.Refused WrongMap) [])
+unfolding step rowStep tableAnswer tableRule tableAfter1 flatten
+old-map = rw (mapped-plain cooperative glazed tableAfter1 6 maraMap (replicate 20 1), glazed-passes, glazed-wrong)
+
+new-map : step cooperative (started tableAfter1 glazed) (onRows last 6 (readingMapped glazedMap (replicate 20 1))) ≡ (started tableAfter1 glazed, rowsHanded (rowsRead.Done 1) bytesNow)
+unfolding step rowStep handedOut tableAnswer tableRule tableAfter1 flatten
+new-map = rw (mapped-plain cooperative glazed tableAfter1 6 glazedMap (replicate 20 1), glazed-passes, glazed-right, readable-now)
+
 no-row : step cooperative (started tableAfter1 glazed) (onRows last 6 (updating 1 (88 ∷ 89 ∷ []))) ≡ (started tableAfter1 glazed, rowDone (Refused NoRow))
 unfolding step rowStep updateRowOf updateWith nthRowAnswer tableAnswer tableRule tableAfter1 flatten
 no-row = rw (glazed-passes, readable-now)
@@ -178,6 +193,7 @@ abbrev pub answers : List Answer
 answers =
     opened (session mara)
     ∷ opened (refused NoUser)
+    ∷ rowsHanded (rowsRead.Done 3) bytesBefore
     ∷ rowsHanded (rowsRead.Done 3) bytesBefore
     ∷ rowDone Accepted
     ∷ rowDone (Refused RowNotWritable)
@@ -189,6 +205,8 @@ answers =
     ∷ labelSet bare Accepted
     ∷ labelSet glazed Accepted
     ∷ rowsHanded (rowsRead.Done 1) bytesNow
+    ∷ rowsHanded (rowsRead.Refused WrongMap) []
+    ∷ rowsHanded (rowsRead.Done 1) bytesNow
     ∷ rowDone (Refused NoRow)
     ∷ []
 
@@ -198,6 +216,7 @@ first-run =
     first-call _ _ _ _ _ _ _ refl opens
     (first-call _ _ _ _ _ _ _ refl opens-not
     (first-call _ _ _ _ _ _ _ refl reads
+    (first-call _ _ _ _ _ _ _ refl reads-mapped
     (first-call _ _ _ _ _ _ _ refl updates
     (first-call _ _ _ _ _ _ _ refl updates-not
     (first-call _ _ _ _ _ _ _ refl relabels
@@ -208,8 +227,10 @@ first-run =
     (first-call _ _ _ _ _ _ _ refl sets-row-label
     (first-call _ _ _ _ _ _ _ refl relabels-now
     (first-call _ _ _ _ _ _ _ refl reads-less
+    (first-call _ _ _ _ _ _ _ refl old-map
+    (first-call _ _ _ _ _ _ _ refl new-map
     (first-call _ _ _ _ _ _ _ refl no-row
-    (done _))))))))))))))
+    (done _)))))))))))))))))
 
 -- ---- what is hidden
 -- the rows of a table that she could never read

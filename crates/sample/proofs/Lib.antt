@@ -6,4 +6,5 @@ pub mod Reported
 pub mod Cases
 pub mod Dominated
 pub mod MaraReads
+pub mod MaraMaps
 pub mod HiddenInstance

@@ -6,7 +6,7 @@ use lib.ListN.{length}
 use Rattle.sets.specs.Words.{joined}
 use Rattle.records.specs.Fields.{groupsAt}
 use Rattle.fields.specs.Bytes.{number2, number4, number8, all}
-use Rattle.fields.specs.Names.{nameByte, nameIn, nameRule, sameName, nameBefore}
+use Rattle.fields.specs.Names.{nameByte, nameIn, nameRule, sameBytes, nameBefore}
 use Rattle.fields.specs.Scan.{firstBad, listFrom}
 use Rattle.sets.specs.Sets.{has, allBelow, within, meets, collect}
 use Rattle.blocks.specs.Blocks.{lengthRule, blockAt, sumA, sumB, checkRule, placeRule, blockRule, blockCount, firstBadBlock}
@@ -28,7 +28,7 @@ sample-length = refl
 
 -- the walk over each finds no fault, so there is none
 both-sound : (foundFault cooperative ≡ Sound) × (foundFault casesImage ≡ Sound)
-unfolding cooperative casesImage number2 number4 number8 all nameByte nameIn nameRule sameName nameBefore firstBad has allBelow within meets collect lengthRule blockAt sumA sumB checkRule placeRule blockRule blockCount firstBadBlock levels compartments groups users labels components firstBlock blocksFor blocksNeeded recordOffset recordAt contentsOf kindAt headerRule fitRule classAt classFirst parentRule componentShape numericRule otherName newNameRule componentRule labelShape tagRule labelRule userLevelsRule userCompartmentsRule userGroupsRule privilegesRule userShape userNameRule userRule ruleOf recordsOf listFrom layoutRule firstBadRecord contentRule parent hasParent endsWithin endsRule firstRing lineageWithin lineage below belowRule firstBadBelow firstBadContent contentFault countedFault foundFault editionOf countsRule groupsAt joined groupSetsRule profileOf reach
+unfolding cooperative casesImage number2 number4 number8 all nameByte nameIn nameRule sameBytes nameBefore firstBad has allBelow within meets collect lengthRule blockAt sumA sumB checkRule placeRule blockRule blockCount firstBadBlock levels compartments groups users labels components firstBlock blocksFor blocksNeeded recordOffset recordAt contentsOf kindAt headerRule fitRule classAt classFirst parentRule componentShape numericRule otherName newNameRule componentRule labelShape tagRule labelRule userLevelsRule userCompartmentsRule userGroupsRule privilegesRule userShape userNameRule userRule ruleOf recordsOf listFrom layoutRule firstBadRecord contentRule parent hasParent endsWithin endsRule firstRing lineageWithin lineage below belowRule firstBadBelow firstBadContent contentFault countedFault foundFault editionOf countsRule groupsAt joined groupSetsRule profileOf reach
 both-sound = (refl, refl)
 
 pub sound-accepted : (im : List ℕ) → foundFault im ≡ Sound → checkOf im ≡ Accepted

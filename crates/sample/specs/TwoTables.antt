@@ -4,7 +4,7 @@ use Prim.Native.Nat.{ℕ}
 use mathlib.Core.List.{List, [], _∷_, flatten}
 use lib.ListN.{replicate}
 use Rattle.sessions.specs.Session.{SessionMarks, sessionMarks}
-use Rattle.isolation.specs.Calls.{last, other, reading, updating, Call, opening, settingLabel, settingRowLabel, onRows}
+use Rattle.isolation.specs.Calls.{last, other, reading, readingMapped, updating, Call, opening, settingLabel, settingRowLabel, onRows}
 use Rattle.sample.specs.Pieces.{mara}
 use Rattle.labels.specs.Label.{marks}
 
@@ -52,6 +52,15 @@ tooLow = sessionMarks 0 (marks 0 0 0) (marks 1 1 4)
 abbrev pub noSession : SessionMarks
 noSession = sessionMarks 9 (marks 0 0 0) (marks 0 0 0)
 
+-- ---- her maps: bits of the labels with tags 10, 20, 30
+-- of the session that opens, and with VAULT:KILN:DOCK
+abbrev pub maraMap : List ℕ
+maraMap = 5 ∷ []
+
+-- with CREW:GLAZE:NORTH
+abbrev pub glazedMap : List ℕ
+glazedMap = 4 ∷ []
+
 -- ---- her calls
 -- MARK: no user has that name
 abbrev pub nameMark : List ℕ
@@ -75,6 +84,7 @@ calls byte =
     opening mara
     ∷ opening nameMark
     ∷ onRows last 6 (reading (replicate 20 byte))
+    ∷ onRows last 6 (readingMapped maraMap (replicate 20 byte))
     ∷ onRows last 6 (updating 2 (88 ∷ 89 ∷ []))
     ∷ onRows last 6 (updating 1 (88 ∷ 89 ∷ []))
     ∷ settingLabel last textVault
@@ -85,5 +95,7 @@ calls byte =
     ∷ settingRowLabel last textCrew
     ∷ settingLabel last textGlaze
     ∷ onRows last 6 (reading (replicate 20 byte))
+    ∷ onRows last 6 (readingMapped maraMap (replicate 20 byte))
+    ∷ onRows last 6 (readingMapped glazedMap (replicate 20 byte))
     ∷ onRows last 6 (updating 1 (88 ∷ 89 ∷ []))
     ∷ []

@@ -30,19 +30,15 @@ returns c =
     let h : labelOfTag (a .image .now) (a .tag) < labels (a .image .now) = omega arith in
     rw (lt-ltb _ _ h, c .reads-label .ensures, c .before .label-at .ensures, looked .label-of-tag .ensures)
 
-reads-all-requires : tie.Need-reads-all-requires
-reads-all-requires c κs = search needs
-
-is-unknown-seen-requires : tie.Need-is-unknown-seen-requires
-is-unknown-seen-requires c κs = header-inside _ (accepted-counted _ (c .before .before .before .before .before .pre) .fitted)
+unknown-read-requires : tie.Need-unknown-read-requires
+unknown-read-requires c κs = header-inside _ (accepted-counted _ (c .before .before .before .before .pre) .fitted)
 
 returns-2 : tie.Need-returns-2
 unfolding mayRead knownTag
 returns-2 c =
-    let all = c .before in
-    let a = all .before .before .before .before .before .args in
+    let a = c .before .before .before .before .before .args in
     let h : labels (a .image .now) ≤ labelOfTag (a .image .now) (a .tag) = omega arith in
-    rw (le-ltb _ _ h, ← all .reads-all .ensures) (c .is-unknown-seen .ensures)
+    rw (le-ltb _ _ h) (c .unknown-read .ensures)
 
 pub may-read-spec : {M : Type 1} → statement M
 may-read-spec =
@@ -53,6 +49,5 @@ may-read-spec =
     label-at-requires
     reads-label-requires
     returns
-    reads-all-requires
-    is-unknown-seen-requires
+    unknown-read-requires
     returns-2)

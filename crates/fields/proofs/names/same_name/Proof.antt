@@ -2,13 +2,13 @@ use Prim.Native.Nat.{_≤_, _-_}
 use mathlib.Core.Path.{_≡_, refl}
 use native.Mathlib.Omega.{arith}
 use lib.ListN.{length, drop}
-use Rattle.fields.specs.Names.{sameName}
+use Rattle.fields.specs.Names.{sameBytes}
 use Rattle.fields.proofs.Laws.{same-stop, same-step, same-done, same-length}
 use Rattle.fields.proofs.names.same_name.Statement.{statement}
 use Rattle.fields.proofs.names.same_name.Tie as tie
 
 abbrev Inv-loop : tie.InvT-loop
-Inv-loop a b i₀ i = (i ≤ length a) × ((length a ≡ length b) × (sameName (drop i a) (drop i b) ≡ sameName a b))
+Inv-loop a b i₀ i = (i ≤ length a) × ((length a ≡ length b) × (sameBytes (drop i a) (drop i b) ≡ sameBytes a b))
 
 abbrev μ-loop : tie.MeasureT-loop
 μ-loop a b i₀ i = length a - i

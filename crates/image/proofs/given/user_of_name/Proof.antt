@@ -2,7 +2,7 @@ use Prim.Native.Nat.{_-_}
 use mathlib.Core.Path.{_≡_}
 use native.Mathlib.Nat.{sub-zero}
 use native.Mathlib.Omega.{arith}
-use Rattle.fields.specs.Names.{sameName}
+use Rattle.fields.specs.Names.{sameBytes}
 use Rattle.fields.specs.Scan.{firstWhere}
 use Rattle.fields.proofs.Scan.{loop-bad, loop-good, loop-end}
 use Rattle.header.specs.Layout.{users, userRecord}
@@ -13,7 +13,7 @@ use Rattle.image.proofs.given.user_of_name.Statement.{statement}
 use Rattle.image.proofs.given.user_of_name.Tie as tie
 
 abbrev Inv-loop : tie.InvT-loop
-Inv-loop image name count u₀ u = (count ≡ users image) × (firstWhere (λ u. sameName (userName (userRecord image u)) name) (count - u) u ≡ userOfName image name)
+Inv-loop image name count u₀ u = (count ≡ users image) × (firstWhere (λ u. sameBytes (userName (userRecord image u)) name) (count - u) u ≡ userOfName image name)
 
 abbrev μ-loop : tie.MeasureT-loop
 μ-loop image name count u₀ u = count - u

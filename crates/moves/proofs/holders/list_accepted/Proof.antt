@@ -1,5 +1,5 @@
 use Rattle.moves.specs.Holders.{holders}
-use Rattle.moves.proofs.FrontWritten.{answer-room, answer-done}
+use Rattle.buffers.proofs.FrontWritten.{answer-room, answer-done}
 use borrow.Author.Needs.{needs}
 use Rattle.moves.proofs.holders.list_accepted.Statement.{statement}
 use Rattle.moves.proofs.holders.list_accepted.Tie as tie

@@ -1,5 +1,5 @@
 use Rattle.moves.specs.Moved.{newImage}
-use Rattle.moves.proofs.FrontWritten.{answer-room, answer-done}
+use Rattle.buffers.proofs.FrontWritten.{answer-room, answer-done}
 use borrow.Author.Needs.{needs}
 use Rattle.moves.proofs.laying.write_image.Statement.{statement}
 use Rattle.moves.proofs.laying.write_image.Tie as tie

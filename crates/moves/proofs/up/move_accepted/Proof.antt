@@ -6,25 +6,26 @@ use borrow.Author.Tests.{not-true, not-false, eq-eqb, ne-eqb}
 use lib.ListN.{length}
 use Rattle.refusals.specs.declared.Refusal.the-variants.{CompaccessHolders, MoveLimits}
 use Rattle.header.proofs.Inside.{header-inside}
-use Rattle.moves.specs.declared.answers.Moved.{Moved}
-use Rattle.moves.specs.declared.answers.Moved.the-variants as moved
+use Rattle.buffers.specs.declared.answers.Filled.{Filled}
+use Rattle.buffers.specs.declared.answers.Filled.the-variants as filled
 use Rattle.moves.specs.declared.target.Move.the-variants.{Up}
 use Rattle.moves.specs.Moved.{newImage}
 use Rattle.moves.specs.Holders.{holders}
-use Rattle.moves.specs.Moving.{moveLimitsRule, writtenTo, moveAccepted}
+use Rattle.buffers.specs.Filling.{writtenTo}
+use Rattle.moves.specs.Moving.{moveLimitsRule, moveAccepted}
 use borrow.Author.Needs.{needs}
 use Rattle.moves.proofs.up.move_accepted.Statement.{statement}
 use Rattle.moves.proofs.up.move_accepted.Tie as tie
 
 -- ---- the answer
 module _ (im b : List ℕ) where
-  answer-limits : moveLimitsRule im ≡ false → (moved.Refused MoveLimits, b) ≡ moveAccepted im b
+  answer-limits : moveLimitsRule im ≡ false → (filled.Refused MoveLimits, b) ≡ moveAccepted im b
   answer-limits e = rw e
 
-  answer-held : (n : ℕ) → n ≡ length (holders im) → moveLimitsRule im ≡ true → (n ≡ 0 → ⊥) → (moved.Refused (CompaccessHolders n), b) ≡ moveAccepted im b
-  answer-held n is e some = rw (e, ne-eqb (length (holders im)) 0 (λ q. some (is ∙ q))) (ap (λ (k : ℕ). (moved.Refused (CompaccessHolders k), b)) is)
+  answer-held : (n : ℕ) → n ≡ length (holders im) → moveLimitsRule im ≡ true → (n ≡ 0 → ⊥) → (filled.Refused (CompaccessHolders n), b) ≡ moveAccepted im b
+  answer-held n is e some = rw (e, ne-eqb (length (holders im)) 0 (λ q. some (is ∙ q))) (ap (λ (k : ℕ). (filled.Refused (CompaccessHolders k), b)) is)
 
-  answer-written : (n : ℕ) → n ≡ length (holders im) → moveLimitsRule im ≡ true → n ≡ 0 → {answer : Moved × List ℕ}
+  answer-written : (n : ℕ) → n ≡ length (holders im) → moveLimitsRule im ≡ true → n ≡ 0 → {answer : Filled × List ℕ}
       → answer ≡ writtenTo b (newImage Up im) → answer ≡ moveAccepted im b
   answer-written n is e none q = rw (e, eq-eqb (length (holders im)) 0 (sym is ∙ none)) q
 

@@ -5,7 +5,7 @@ use native.Mathlib.Nat.{add-sub-cancel-left}
 use native.Mathlib.Omega.{arith}
 use borrow.Author.Needs.{needs}
 use lib.ListN.{take, drop, length-take, length-drop}
-use Rattle.fields.specs.Names.{sameName}
+use Rattle.fields.specs.Names.{sameBytes}
 use Rattle.fields.specs.Scan.{firstBad}
 use Rattle.fields.proofs.Scan.{loop-bad, loop-good, loop-end}
 use Rattle.header.specs.declared.layout.Kind.the-variants.{Component}
@@ -26,7 +26,7 @@ abbrev μ-loop : tie.MeasureT-loop
 
 -- the part that code takes is the record
 part-is : (im name : List ℕ) (at size j : ℕ) → at ≡ recordOffset (shapeOf im Component) j → size ≡ recordSize (editionOf im) Component
-    → sameName (componentName (take (at + size - at) (drop at im))) name ≡ sameName (componentName (recordAt im Component j)) name
+    → sameBytes (componentName (take (at + size - at) (drop at im))) name ≡ sameBytes (componentName (recordAt im Component j)) name
 unfolding recordAt
 part-is im name at size j e s = rw (e, s, add-sub-cancel-left)
 

@@ -8,7 +8,7 @@ use borrow.Author.Tests.{eqb-false, ltb-true, not-true}
 use lib.Dec.{eqb, ltb}
 use lib.ListN.{length, length-take, length-drop}
 use Rattle.fields.specs.Bytes.{byteAt, part}
-use Rattle.fields.specs.Names.{nameIn, sameName}
+use Rattle.fields.specs.Names.{nameIn, sameBytes}
 use Rattle.fields.proofs.Both.{parts}
 use Rattle.fields.proofs.Laws.{part-length, part-byte, same-length}
 use Rattle.records.specs.Fields.{componentNameField, componentName}
@@ -17,7 +17,7 @@ use Rattle.records.proofs.components.is_named.Tie as tie
 
 -- a name of fewer than 30 bytes, of another length than the record stores, is another
 other-length : (rec name : List ℕ) → length rec ≡ 40 → (not (eqb (byteAt rec 1) (length name)) && ltb (length name) 30) ≡ true
-    → false ≡ sameName (componentName rec) name
+    → false ≡ sameBytes (componentName rec) name
 unfolding nameIn
 other-length rec name l t =
     let q = parts _ _ t in

@@ -1,10 +1,10 @@
 use mathlib.Core.Path.{subst}
 use Rattle.refusals.specs.Answers.{PlaceFits}
-use Rattle.moves.specs.declared.answers.Moved.{Moved}
-use Rattle.abi.specs.Moves.{movedGiven}
+use Rattle.buffers.specs.declared.answers.Filled.{Filled}
+use Rattle.abi.specs.Answers.{filledGiven}
 use borrow.Author.Needs.{needs}
-use Rattle.abi.proofs.moving.moved_code.Statement.{statement}
-use Rattle.abi.proofs.moving.moved_code.Tie as tie
+use Rattle.abi.proofs.codes.filled_code.Statement.{statement}
+use Rattle.abi.proofs.codes.filled_code.Tie as tie
 
 enum-known-answer : tie.Need-enum-known-answer
 enum-known-answer c = search needs
@@ -13,7 +13,7 @@ enum-known-answer-2 : tie.Need-enum-known-answer-2
 enum-known-answer-2 c = search needs
 
 refused-requires : tie.Need-refused-requires
-refused-requires c κs = subst (λ (a : Moved). PlaceFits (movedGiven a)) (c .before .answer2 .given .1) (c .before .before .before .pre)
+refused-requires c κs = subst (λ (a : Filled). PlaceFits (filledGiven a)) (c .before .answer2 .given .1) (c .before .before .before .pre)
 
 returns : tie.Need-returns
 returns c = search needs
@@ -21,6 +21,6 @@ returns c = search needs
 returns-2 : tie.Need-returns-2
 returns-2 c = rw (c .before .before .answer2 .given .1) (c .refused .ensures)
 
-pub moved-code-spec : {M : Type 1} → statement M
-moved-code-spec =
+pub filled-code-spec : {M : Type 1} → statement M
+filled-code-spec =
     tie.close (tie.spec enum-known-answer enum-known-answer-2 refused-requires returns returns-2)

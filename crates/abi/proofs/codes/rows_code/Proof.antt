@@ -3,8 +3,8 @@ use borrow.Author.Needs.{needs}
 use Rattle.refusals.specs.Answers.{PlaceFits}
 use Rattle.rows.specs.declared.answers.RowsRead.{RowsRead}
 use Rattle.abi.specs.Tables.{rowsGiven}
-use Rattle.abi.proofs.rows_code.Statement.{statement}
-use Rattle.abi.proofs.rows_code.Tie as tie
+use Rattle.abi.proofs.codes.rows_code.Statement.{statement}
+use Rattle.abi.proofs.codes.rows_code.Tie as tie
 
 enum-known-answer : tie.Need-enum-known-answer
 enum-known-answer c = search needs

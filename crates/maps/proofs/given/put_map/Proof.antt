@@ -1,0 +1,97 @@
+use Prim.Native.Nat.{ℕ, _+_, _-_, _≤_, _<_}
+use mathlib.Core.Path.{_≡_, sym, ap, _∙_}
+use mathlib.Core.List.{[], _∷_}
+use native.Mathlib.Nat.{sub-zero, zero-add}
+use native.Mathlib.Omega.{arith}
+use lib.ListN.{length}
+use Rattle.fields.specs.Scan.{listFrom}
+use Rattle.fields.proofs.Scan.{list-turn, list-end}
+use Rattle.header.proofs.Inside.{header-inside}
+use Rattle.buffers.proofs.Left.{Left, left-start, left-room, left-turn, left-end, byte-alone}
+use Rattle.access.specs.Rights.{rightsOf}
+use Rattle.maps.specs.Map.{mapLength, mapByte, mapOf}
+use Rattle.maps.proofs.Bits.{map-long}
+use Rattle.maps.proofs.given.put_map.Statement.{statement}
+use Rattle.maps.proofs.given.put_map.Tie as tie
+
+abbrev Inv-loop : tie.InvT-loop
+Inv-loop image view buffer₀ shape edition count k₀ buffer k =
+    Left buffer₀ 0 (mapOf image (rightsOf view)) buffer k (listFrom (mapByte image (rightsOf view)) (count - k) k)
+
+abbrev μ-loop : tie.MeasureT-loop
+μ-loop image view buffer₀ shape edition count k₀ buffer k = count - k
+
+shape-of-requires : tie.Need-shape-of-requires Inv-loop μ-loop
+shape-of-requires c κs = header-inside _ (c .before .before .pre .0 .fitted)
+
+edition-of-requires : tie.Need-edition-of-requires Inv-loop μ-loop
+edition-of-requires c κs = header-inside _ (c .before .before .before .pre .0 .fitted)
+
+map-length-requires : tie.Need-map-length-requires Inv-loop μ-loop
+map-length-requires c κs = c .before .before .before .before .pre .0
+
+loop-holds : tie.Need-loop-holds Inv-loop μ-loop
+unfolding mapOf
+loop-holds c = left-start _ _ _ _ (rw (sub-zero, c .map-length .ensures .0))
+
+map-byte-requires : tie.Need-map-byte-requires Inv-loop μ-loop
+map-byte-requires c κs =
+    let long = c .before .before in
+    let edition = long .before in
+    let shaped = edition .before in
+    let start = shaped .before .before .before in
+    ((start .pre .0, (shaped .shape-of .ensures, edition .edition-of .ensures)), omega (arith, c .loop-test .taken, long .map-length .ensures .1))
+
+slice-write-buffer : tie.Need-slice-write-buffer Inv-loop μ-loop
+slice-write-buffer c =
+    let turn = c .before in
+    let long = turn .before .before in
+    let start = long .before .before .before .before .before in
+    omega (arith, turn .before .loop .inv .long, turn .loop-test .taken, long .map-length .ensures .0, start .pre .1)
+
+add-k : tie.Need-add-k Inv-loop μ-loop
+add-k c = omega arith
+
+loop-less : tie.Need-loop-less Inv-loop μ-loop
+loop-less c = omega arith
+
+loop-again : tie.Need-loop-again Inv-loop μ-loop
+loop-again c =
+    let turn = c .before in
+    let long = turn .before .before in
+    let start = long .before .before .before .before .before in
+    let a = start .args in
+    let byte = mapByte (a .image .now) (rightsOf (a .view)) in
+    let count = long .map-length .result in
+    let k = turn .before .loop .k in
+    let inv = turn .before .loop .inv in
+    let room : mapLength (a .image .now) ≤ length (a .buffer .now) = start .pre .1 in
+    let here : k < length (turn .before .loop .buffer) = omega (arith, inv .long, turn .loop-test .taken, long .map-length .ensures .0, room) in
+    let step =
+    list-turn byte count k (turn .loop-test .taken)
+    ∙ ap (λ (x : ℕ). x ∷ listFrom byte (count - (k + 1)) (k + 1)) (sym (c .map-byte .ensures)) in
+    left-turn _ _ _ _ _ _ inv _ _ step _ _ (rw (zero-add, map-long) room) (byte-alone _ _ _ here)
+
+same-length : tie.Need-same-length Inv-loop μ-loop
+same-length c = c .before .loop .inv .long
+
+returns : tie.Need-returns Inv-loop μ-loop
+returns c = left-end _ _ _ _ _ _ (c .before .loop .inv) (list-end _ _ _ (c .loop-test .left))
+
+pub put-map-spec : {M : Type 1} → statement M
+put-map-spec =
+    tie.close
+    (tie.spec
+    Inv-loop
+    μ-loop
+    shape-of-requires
+    edition-of-requires
+    map-length-requires
+    loop-holds
+    map-byte-requires
+    slice-write-buffer
+    add-k
+    loop-less
+    loop-again
+    same-length
+    returns)

@@ -1,0 +1,3 @@
+-- Maps of sessions: request R-4.
+pub mod Map
+pub mod Calls

@@ -1,0 +1,82 @@
+// Maps for the crates above, once the image is known to be accepted.
+ghost use Prim.Native.Nat.{_*_, _+_, _<_, _≤_};
+ghost use mathlib.Core.Path.{_≡_};
+ghost use lib.ListN.{length};
+ghost use Rattle.buffers.specs.Filling.{writtenTo};
+ghost use Rattle.buffers.specs.Pasting.{Written};
+ghost use Rattle.header.specs.Limits.{Counted};
+ghost use Rattle.access.specs.Rights.{rightsOf};
+ghost use Rattle.maps.specs.Map.{bitOf, mapLength, mapOf, mapRule};
+use crate::byte::map_byte;
+use access::rights::View;
+use buffers::answers::Filled;
+use header::edition::edition_of;
+use header::layout;
+use header::layout::Kind;
+use refusals::Refusal;
+use sets::word;
+
+// As few bytes as hold a bit for each label record.
+fn map_length(image: &[u8]) -> usize
+    requires { ⌜ Counted (now image) ⌝ }
+    ensures { λ r. ⌜ (r ≡ mapLength (now (image .entry))) × (r < 65536) ⌝ }
+{
+    (layout::labels(image) + 7) / 8
+}
+
+// Bit p of a map.
+pub fn bit_of(bits: &[u8], p: usize) -> bool
+    requires { ⌜ p < 8 * length (now bits) ⌝ }
+    ensures { λ r. ⌜ r ≡ bitOf (now (bits .entry)) p ⌝ }
+{
+    word::has(bits[p / 8] as u64, p % 8)
+}
+
+// Writes the map to the front of the buffer, and tells its length.
+fn put_map(image: &[u8], view: View, buffer: &mut [u8]) -> usize
+    requires { ⌜ Counted (now image) × (mapLength (now image) ≤ length (now buffer)) ⌝ }
+    ensures { λ r. ⌜ Written (now (buffer .entry)) 0 (mapOf (now (image .entry)) (rightsOf view)) (now (buffer .exit)) r ⌝ }
+{
+    let shape = layout::shape_of(image, Kind::Label);
+    let edition = edition_of(image);
+    let count = map_length(image);
+    let mut k = 0;
+    while k < count {
+        buffer[k] = map_byte(image, view, shape, edition, k);
+        k += 1;
+    }
+    k
+}
+
+// Refusal: 13.
+pub fn write_map(image: &[u8], view: View, buffer: &mut [u8]) -> Filled
+    requires { ⌜ Counted (now image) ⌝ }
+    ensures { λ r. ⌜ (r, now (buffer .exit)) ≡ writtenTo (now (buffer .entry)) (mapOf (now (image .entry)) (rightsOf view)) ⌝ }
+{
+    if buffer.len() < map_length(image) {
+        return Filled::Refused(Refusal::Room);
+    }
+    let length = put_map(image, view, buffer);
+    Filled::Done(length)
+}
+
+// Are those bytes the map?
+pub fn is_map(image: &[u8], view: View, bits: &[u8]) -> bool
+    requires { ⌜ Counted (now image) ⌝ }
+    ensures { λ r. ⌜ r ≡ mapRule (now (image .entry)) (rightsOf view) (now (bits .entry)) ⌝ }
+{
+    let count = map_length(image);
+    if bits.len() != count {
+        return false;
+    }
+    let shape = layout::shape_of(image, Kind::Label);
+    let edition = edition_of(image);
+    let mut k = 0;
+    while k < count {
+        if bits[k] != map_byte(image, view, shape, edition, k) {
+            return false;
+        }
+        k += 1;
+    }
+    true
+}
