@@ -1,8 +1,8 @@
 #!/usr/bin/env bash
 # The bindings: the archive exports just what the C header and the Rust crate declare, which say the same of what is lent and of each
-# refusal; the crate's tests pass; both report loops and the other C examples print what is stored; valgrind finds no error in any of
-# these programs; and examples/calls.c calls every function and has every line of the examples in docs/CALLS.md. Needs
-# target/staticlib/libabi.a.
+# refusal; the crate's tests pass; both report loops, both examples of maps and the other C examples print what is stored; valgrind finds no
+# error in any of these programs; examples/calls.c calls every function and has every line of the examples in docs/CALLS.md; and the loop in
+# docs/MAPS.md is the one that is emitted. Needs target/staticlib/libabi.a.
 set -eu -o pipefail
 cd "$(dirname "$0")/.."
 unset BRAWNESK_LIB_DIR
@@ -39,7 +39,7 @@ if [ -n "$valgrind" ]; then
     CARGO_TARGET_X86_64_UNKNOWN_LINUX_GNU_RUNNER="$valgrind --errors-for-leak-kinds=definite --show-leak-kinds=definite" \
         cargo test --release --offline --quiet --tests
 fi
-cargo build --release --offline --quiet --example report_loop --example messages
+cargo build --release --offline --quiet --examples
 cd ../..
 
 # The header and the crate have the same words for each number from 0 to 255. The header is C++ too, which a C++ compiler sees if there is one.
@@ -47,8 +47,8 @@ gcc -std=c99 -Wall -Wextra -Werror -Iinclude bindings/messages.c -o target/messa
 diff <(target/messages) <(target/cargo/release/examples/messages)
 if command -v g++ >/dev/null; then g++ -x c++ -std=c++11 -Wall -Wextra -Werror -fsyntax-only -Iinclude bindings/messages.c; fi
 
-for example in check report_loop calls; do
-    gcc -std=c99 -Wall -Wextra -Werror -Iinclude examples/$example.c target/staticlib/libabi.a -o target/$example
+for example in check report_loop calls maps; do
+    gcc -std=c99 -Wall -Wextra -Wpedantic -Werror -Iinclude examples/$example.c target/staticlib/libabi.a -o target/$example
 done
 # What a program prints under valgrind, and its exit status: 1 is its own, of a refusal, and 9 is valgrind's.
 run() {
@@ -66,6 +66,46 @@ for loop in target/report_loop target/cargo/release/examples/report_loop; do
     test "$(run $loop <(head -c 1000 sample/cooperative.img) sample/table.bin MARA)" = $'refused 1\nexit 1'
     test "$(run $loop sample/cooperative.img <(head -c 95 sample/table.bin) MARA)" = $'refused 12\nexit 1'
 done
+
+# Maps baked into loops. Beside the sample: the same in edition 2, and the largest images, where a user without READ and FULL is asked for and
+# one with either.
+for words in 2 full '2 full'; do
+    (cd tests && cargo run --release --offline --quiet --bin sample_image $words) >"target/maps-${words/ /-}.img"
+done
+# An image as a table of rows of 16 bytes. From byte 4 or 12 on every second label record of edition 1 begins a row, from byte 4 on every one
+# of edition 2. Nearly all other rows have unknown tags.
+as_table() {
+    tail -c +$(($2 + 1)) "$1" | head -c 65008
+}
+# The loops are built in that folder, and nothing is left there.
+folder=$PWD/target/maps-folder
+rm -rf "$folder"
+mkdir "$folder"
+check_maps() {
+    local -x TMPDIR=$folder
+    local maps=$1 image user byte
+    # KILN is given up, which tag 10 has
+    for image in sample/cooperative.img target/maps-2.img; do
+        run $maps $image sample/table.bin MARA CREW::DOCK CREW:GLAZE:NORTH | diff - <(cat sample/maps.out; echo "exit 0")
+    done
+    # GLAZE is given up, which no label has: the old map is still right
+    diff <(run $maps sample/cooperative.img sample/table.bin MARA CREW:KILN:DOCK CREW:KILN:NORTH | tail -n 2) \
+        <(printf 'failed: the old map is not refused 20\nexit 1\n')
+    # of the release profile: STOCK is given up; OLGA has READ
+    $maps sample/partners.img sample/partners.bin HUGO TRADE:PRICES:HARBOUR TRADE:PRICES:HARBOUR >/dev/null
+    $maps sample/partners.img sample/partners.bin OLGA >/dev/null
+    for user in BDCQSV _PP8; do
+        for byte in 4 12; do $maps target/maps-full.img <(as_table target/maps-full.img $byte) $user >/dev/null; done
+    done
+    for user in NZ Y; do $maps target/maps-2-full.img <(as_table target/maps-2-full.img 4) $user >/dev/null; done
+    # refusals: no such user; 1,000 bytes are no whole blocks; 95 bytes are no whole rows
+    test "$(run $maps sample/cooperative.img sample/table.bin NOBODY)" = $'open: refused 4\nexit 1'
+    test "$(run $maps <(head -c 1000 sample/cooperative.img) sample/table.bin MARA)" = $'open: refused 1\nexit 1'
+    test "$(run $maps sample/cooperative.img <(head -c 95 sample/table.bin) MARA | tail -n 2)" = $'read: refused 12\nexit 1'
+}
+check_maps target/maps
+check_maps target/cargo/release/examples/maps
+rmdir "$folder"
 
 target/calls sample/cooperative.img | diff - sample/calls.out
 run target/calls sample/cooperative.img | diff - <(cat sample/calls.out; echo "exit 0")
@@ -97,14 +137,24 @@ with_byte 750 '\0' | refused_image 'refused 35 at group 0'
 
 grep -o 'brawnesk_[a-z0-9_]*(' examples/calls.c | tr -d '(' |
     grep -vx 'brawnesk_\(refused\|number\|place\|block\|record\|message\)' | sort -u | same_names examples/calls.c
-# The lines of the C examples in docs/CALLS.md: indented blocks before the report program that are no declaration and no command.
-quoted=$(sed '/^## The report program/,$d' docs/CALLS.md | awk '
-    !/^    / { block = 0; next }
-    !block { block = 1; skip = /^    (gcc |uint64_t brawnesk_)/ }
-    !skip { sub(/^ */, ""); print }')
-test -n "$quoted"
-if grep -vxF -f <(sed 's/^ *//; /^$/d' examples/calls.c) <<<"$quoted"; then
-    echo "docs/CALLS.md has these lines in its examples, and examples/calls.c has not"
-    exit 1
-fi
+# The lines of a page's C examples: indented blocks that are no declaration and no command.
+quoted() {
+    awk '
+        !/^    / { block = 0; next }
+        !block { block = 1; skip = /^    (gcc |cargo |uint64_t brawnesk_)/ }
+        !skip { sub(/^ */, ""); print }'
+}
+# Compares the lines of a page's examples on standard input with those of the files that they are quoted from.
+same_lines() {
+    local page=$1 lines
+    shift
+    lines=$(quoted)
+    test -n "$lines"
+    if grep -vxF -f <(cat "$@" | sed 's/^ *//; /^$/d') <<<"$lines"; then
+        echo "$page has these lines in its examples, and $* has not"
+        exit 1
+    fi
+}
+sed '/^## The report program/,$d' docs/CALLS.md | same_lines docs/CALLS.md examples/calls.c
+same_lines docs/MAPS.md sample/maps.out examples/maps.c <docs/MAPS.md
 echo "bindings: passed, $how"

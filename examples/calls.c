@@ -130,6 +130,25 @@ static void masked(const uint8_t *session) {
     }
 }
 
+/* Of tags 10, 20 and 30 MARA may read the first and the third: bits 0 and 2. */
+static void maps(const uint8_t *session) {
+    uint8_t map[BRAWNESK_MAP], out[sizeof table];
+    uint64_t bytes = brawnesk_map(image, length, session, map, sizeof map);
+    if (brawnesk_refused(bytes))
+        return;
+    for (size_t n = 0; n < bytes; n++)
+        printf("map: %02x\n", (unsigned)map[n]);
+    tell("map", brawnesk_map(image, length, session, out, 0));
+    uint64_t count = brawnesk_read_mapped(image, length, session, table, sizeof table, 8, map, bytes, out, sizeof out);
+    if (!brawnesk_refused(count))
+        for (size_t n = 0; n < count; n++)
+            printf("read_mapped: %.4s\n", (const char *)out + 8 * n + 4);
+    tell("judge_map", brawnesk_judge_map(image, length, session, map, bytes));
+    map[0] = 7;
+    tell("judge_map", brawnesk_judge_map(image, length, session, map, bytes));
+    tell("read_mapped", brawnesk_read_mapped(image, length, session, table, sizeof table, 8, map, bytes, out, sizeof out));
+}
+
 static void set_label(uint8_t *session) {
     uint64_t answer = brawnesk_set_label(image, length, session, (const uint8_t *)"VAULT:KILN:DOCK", 15);
     if (!brawnesk_refused(answer))
@@ -182,6 +201,7 @@ static void sessions(void) {
     read_rows(session);
     update(session);
     masked(session);
+    maps(session);
     set_label(session);
     set_row_label(session);
     tell("open", brawnesk_open(image, length, (const uint8_t *)"mara", 4, session));

@@ -7,8 +7,8 @@
  *
  * Lending. What a call writes overlaps nothing else that is lent to it; parts that are only read may overlap each other. Nobody changes
  * what is lent during the call. A slice's length is below 2^63. A pointer to an empty slice may not be null. A buffer that a call only
- * writes (label out, session out, text out, rows out, image out, users out) may be uninitialised: a call that is done writes what it
- * reports and reads none of it.
+ * writes (label out, session out, text out, rows out, map out, image out, users out) may be uninitialised: a call that is done writes what
+ * it reports and reads none of it.
  *
  * Editions. Every call that is lent an image takes edition 1 and edition 2; only brawnesk_move_up, which makes 2 of 1, and the two calls on
  * COMPACCESS before it refuse edition 2. An image of edition 1 has up to 64 groups, 1,680 labels and 96 users, one of edition 2 up to 256
@@ -96,6 +96,26 @@ uint64_t brawnesk_update(const uint8_t *image, size_t image_length, const uint8_
 uint64_t brawnesk_masked(const uint8_t *image, size_t image_length, const uint8_t *session, const uint8_t *table, size_t table_length,
                          size_t width, size_t place, const uint8_t *mask, size_t mask_length);
 
+/* A map is one bit for each label record of an image: bit p mod 8 of byte p div 8 is set exactly if the session may read the label of record
+ * p, counted from 0 in the order of the image, and for a user with READ or FULL always. It has as few bytes as hold the bits, spare bits zero:
+ * none where there are no labels, and at most BRAWNESK_MAP. A map is that of an image and a session: after a change of the image or of the
+ * session label judge it again. docs/MAPS.md tells how a compiler bakes one into its loop. */
+enum { BRAWNESK_MAP = 210 };
+
+/* The session's map, at the front of the buffer; later bytes stay. Done: its length. Refusals: 1, 2, 31 to 35, 19, 13 the map is longer
+ * than the buffer. */
+uint64_t brawnesk_map(const uint8_t *image, size_t image_length, const uint8_t *session, uint8_t *out, size_t out_length);
+
+/* Is that the session's map, in each of its bits and in its length? Done: 0, it is. Refusals: 1, 2, 31 to 35, 19, 20 it is not. */
+uint64_t brawnesk_judge_map(const uint8_t *image, size_t image_length, const uint8_t *session, const uint8_t *map, size_t map_length);
+
+/* Judges the map, and then hands out rows by their bits: the same rows as brawnesk_read does, whole and in order, at the front of the buffer;
+ * later bytes stay. A row whose tag no label carries has no bit, and is judged as brawnesk_may_read says. Done: how many rows.
+ * Refusals: 1, 2, 31 to 35, 19, 12, 20 the map is not the session's (also where the table has no rows), 13 the rows are longer than the
+ * buffer. */
+uint64_t brawnesk_read_mapped(const uint8_t *image, size_t image_length, const uint8_t *session, const uint8_t *table,
+                              size_t table_length, size_t width, const uint8_t *map, size_t map_length, uint8_t *out, size_t out_length);
+
 /* Does label 1 dominate label 2: is its level at least as high, has it all compartments of label 2, and has label 2 no groups, or one that
  * is among label 1's or has an ancestor there, at any distance? Under a release image, in place of that: are all groups of label 1 among
  * label 2's? Strictly: and the labels differ. Where a session's user has none of READ, FULL and COMPACCESS, the session may read a row whose
@@ -146,6 +166,7 @@ uint64_t brawnesk_move_up(const uint8_t *image, size_t image_length, uint8_t *ou
     REFUSAL(17, BRAWNESK_MERGE_LETTERS, "the merge letters are not three, or one is not allowed at its place") \
     REFUSAL(18, BRAWNESK_NO_COMPONENT, "the policy lacks a level, compartment or group that the call names") \
     REFUSAL(19, BRAWNESK_SESSION_RULES, "the session breaks its rules for this image") \
+    REFUSAL(20, BRAWNESK_WRONG_MAP, "the map is not that of this image and session") \
     REFUSAL(31, BRAWNESK_IMAGE_LAYOUT, "the header, the length for its counts, or a block's kind, record count or bytes outside records are wrong") \
     REFUSAL(32, BRAWNESK_COMPONENT_RECORD, \
             "the component's class, name, numeric form, parent or unused bytes are wrong, its name repeats, or its numeric form does not rise") \

@@ -10,6 +10,7 @@
 //! | `brawnesk_set_label`, `brawnesk_set_row_label` | [`Session::set_label`], [`Session::set_row_label`] |
 //! | `brawnesk_may_read`, `brawnesk_may_write` | [`Session::may_read`], [`Session::may_write`] |
 //! | `brawnesk_read`, `brawnesk_update`, `brawnesk_masked` | [`Session::read`], [`Session::update`], [`Session::masked`] |
+//! | `brawnesk_map`, `brawnesk_judge_map`, `brawnesk_read_mapped` | [`Session::map`], [`Session::judge_map`], [`Session::read_mapped`] |
 //! | `brawnesk_dominates`, `brawnesk_strictly_dominates` | [`Label::dominates`], [`Label::strictly_dominates`] |
 //! | `brawnesk_merge` | [`Label::merge`] |
 //! | `brawnesk_compaccess_users`, `brawnesk_clear_compaccess` | [`Image::compaccess_users`], [`Image::clear_compaccess`] |
@@ -36,8 +37,8 @@
 //! **Lending.** What a call writes overlaps nothing else that is lent to it; parts that are only read may
 //! overlap each other. Nobody changes what is lent during the call. A slice's length is below 2^63. A
 //! pointer to an empty slice may not be null. A buffer that a call only writes (label out, session out,
-//! text out, rows out, image out, users out) may be uninitialised: a call that is done writes what it
-//! reports and reads none of it. Safe Rust keeps these rules of the C functions: what a call writes is
+//! text out, rows out, map out, image out, users out) may be uninitialised: a call that is done writes what
+//! it reports and reads none of it. Safe Rust keeps these rules of the C functions: what a call writes is
 //! borrowed alone.
 //!
 //! **Sessions.** The library cannot tell who made a session's bytes. Keep sessions where the programs
@@ -62,6 +63,7 @@
 mod answer;
 mod image;
 mod label;
+mod maps;
 mod raw;
 mod refusal;
 mod rows;
@@ -70,5 +72,6 @@ mod session;
 pub use answer::decode;
 pub use image::{Class, Image, TEXT};
 pub use label::{Label, LABEL};
+pub use maps::MAP;
 pub use refusal::Refusal;
 pub use session::{Session, Verdict, SESSION};

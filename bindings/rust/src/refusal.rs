@@ -60,6 +60,8 @@ pub enum Refusal {
     NoComponent,
     /// 19: a lent session breaks its rules for that image.
     SessionRules,
+    /// 20: a lent map is not that of the image and session.
+    WrongMap,
     /// 31: the header, a length unfit for its counts, or a block's kind, record count or bytes
     /// outside records.
     ImageLayout,
@@ -124,6 +126,7 @@ impl Refusal {
             17 => Refusal::MergeLetters,
             18 => Refusal::NoComponent,
             19 => Refusal::SessionRules,
+            20 => Refusal::WrongMap,
             31 => Refusal::ImageLayout,
             32 => Refusal::ComponentRecord { block, record },
             33 => Refusal::LabelRecord { block, record },
@@ -212,6 +215,7 @@ impl Refusal {
                 "the policy lacks a level, compartment or group that the call names",
             ),
             Refusal::SessionRules => (19, "the session breaks its rules for this image"),
+            Refusal::WrongMap => (20, "the map is not that of this image and session"),
             Refusal::ImageLayout => (
                 31,
                 "the header, the length for its counts, or a block's kind, record count or \

@@ -2,8 +2,9 @@
 //! the same arguments in the same order, by name and by type. bindings/check.sh compares the names with
 //! those that the archive exports.
 
-use brawnesk::{LABEL, SESSION, TEXT};
+use brawnesk::{LABEL, MAP, SESSION, TEXT};
 use std::collections::BTreeMap;
+use std::fs::DirEntry;
 
 /// An argument: its name, and its type as C has it.
 type Argument = (String, &'static str);
@@ -86,8 +87,14 @@ fn source(path: &str) -> String {
     std::fs::read_to_string(path).expect("a source")
 }
 
+/// What any file of the library's C functions exports.
 fn exported() -> Declarations {
-    let library = source("../../crates/abi/src/lib.rt") + &source("../../crates/abi/src/moving.rt");
+    let folder = concat!(env!("CARGO_MANIFEST_DIR"), "/../../crates/abi/src");
+    let files = std::fs::read_dir(folder).expect("a folder of sources");
+    let text = |file: std::io::Result<DirEntry>| {
+        std::fs::read_to_string(file.expect("a file").path()).expect("a source")
+    };
+    let library: String = files.map(text).collect();
     declared(&library, "pub extern \"C\" fn", " -> u64", rattle_argument)
 }
 
@@ -99,11 +106,16 @@ fn the_header_declares_the_functions_as_they_are() {
     assert_eq!(header, exported());
 }
 
-/// The header's lengths of a label, a session and a text.
+/// The header's lengths of a label, a session, a text and a map.
 #[test]
 fn the_header_has_the_same_lengths() {
     let header = source("../../include/brawnesk.h");
-    for (name, length) in [("LABEL", LABEL), ("SESSION", SESSION), ("TEXT", TEXT)] {
+    for (name, length) in [
+        ("LABEL", LABEL),
+        ("SESSION", SESSION),
+        ("TEXT", TEXT),
+        ("MAP", MAP),
+    ] {
         let line = format!("\nenum {{ BRAWNESK_{name} = {length} }};\n");
         assert!(header.contains(&line), "{name}");
     }

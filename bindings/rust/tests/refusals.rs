@@ -12,7 +12,7 @@ fn refused(number: u32, place: u32) -> u64 {
 const PLACE: u32 = 3 * 65_536 + 2;
 
 /// Each number, its refusal for that place, and the begin of its line.
-const TABLE: [(u32, Refusal, &str); 25] = [
+const TABLE: [(u32, Refusal, &str); 26] = [
     (1, Refusal::ImageLength, "refused 1"),
     (2, Refusal::BlockCheck(PLACE), "refused 2 at block 196610"),
     (4, Refusal::NoUser, "refused 4"),
@@ -35,6 +35,7 @@ const TABLE: [(u32, Refusal, &str); 25] = [
     (17, Refusal::MergeLetters, "refused 17"),
     (18, Refusal::NoComponent, "refused 18"),
     (19, Refusal::SessionRules, "refused 19"),
+    (20, Refusal::WrongMap, "refused 20"),
     (31, Refusal::ImageLayout, "refused 31"),
     (
         32,
@@ -84,6 +85,11 @@ fn every_number_is_its_refusal() {
 fn whole_lines() {
     let lines = [
         (4, 7, "refused 4: no user has that name"),
+        (
+            20,
+            0,
+            "refused 20: the map is not that of this image and session",
+        ),
         (
             31,
             0,
@@ -166,7 +172,7 @@ fn values_are_below_the_refusals() {
 /// They keep their number and place.
 #[test]
 fn other_numbers_are_unknown() {
-    for number in [0, 3, 20, 30, 38, 99, (1 << 31) - 1] {
+    for number in [0, 3, 21, 30, 38, 99, (1 << 31) - 1] {
         for place in [0, 5, 65_536, u32::MAX] {
             let unknown = Refusal::Unknown { number, place };
             assert_eq!(decode(refused(number, place)), Err(unknown));

@@ -3,6 +3,8 @@
 
 #[allow(dead_code)]
 pub mod images;
+#[allow(dead_code)]
+pub mod thirds;
 
 use brawnesk::{Image, Refusal, Session};
 
