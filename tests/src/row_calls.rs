@@ -6,8 +6,8 @@ use crate::ffi::{self, Answer, SESSION};
 use crate::model::{self, Image, Masked, Refusal, Session};
 use std::fmt::{self, Debug, Formatter};
 
-/// What a row call is lent beside the image and what it is told. A read writes in the buffer and an
-/// update in the table; the session is only looked at.
+/// What a row call is lent beside the image and what it is told. A read, plain or mapped, writes in the buffer
+/// and an update in the table; the session is only looked at.
 #[derive(Clone, PartialEq, Eq)]
 pub struct Lent {
     pub session: [u8; SESSION],
@@ -51,6 +51,10 @@ pub enum RowCall {
         place: usize,
         mask: Vec<u8>,
     },
+    ReadMapped {
+        width: usize,
+        map: Vec<u8>,
+    },
 }
 
 impl RowCall {
@@ -59,6 +63,7 @@ impl RowCall {
             RowCall::Read { .. } => "read",
             RowCall::Update { .. } => "update",
             RowCall::Masked { .. } => "masked",
+            RowCall::ReadMapped { .. } => "read_mapped",
         }
     }
 
@@ -66,19 +71,25 @@ impl RowCall {
         match self {
             RowCall::Read { width }
             | RowCall::Update { width, .. }
-            | RowCall::Masked { width, .. } => *width,
+            | RowCall::Masked { width, .. }
+            | RowCall::ReadMapped { width, .. } => *width,
         }
+    }
+
+    /// Whether it hands rows out in the buffer.
+    pub fn hands_out(&self) -> bool {
+        matches!(self, RowCall::Read { .. } | RowCall::ReadMapped { .. })
     }
 
     /// The kind of an answer: a refusal's number, or what was done.
     pub fn outcome(&self, answer: Answer) -> String {
         let done = match (self, answer) {
             (_, Answer::Refused { number, .. }) => return number.to_string(),
-            (RowCall::Read { .. }, Answer::Done(0)) => "no rows",
-            (RowCall::Read { .. }, _) => "rows",
             (RowCall::Update { .. }, _) => "done",
             (RowCall::Masked { .. }, Answer::Done(0)) => "mask",
             (RowCall::Masked { .. }, _) => "payload",
+            (_, Answer::Done(0)) => "no rows",
+            _ => "rows",
         };
         done.to_string()
     }
@@ -93,6 +104,9 @@ impl RowCall {
             RowCall::Masked { width, place, mask } => {
                 ffi::masked(image, session, table, *width, *place, mask)
             }
+            RowCall::ReadMapped { width, map } => {
+                ffi::read_mapped(image, session, table, *width, map, &mut lent.buffer)
+            }
         }
     }
 
@@ -106,13 +120,11 @@ impl RowCall {
 
     fn value(&self, image: &Image, lent: &mut Lent) -> Result<u64, Refusal> {
         let session = Session::read(&lent.session);
+        let room = lent.buffer.len();
         match self {
             RowCall::Read { width } => {
-                let room = lent.buffer.len();
                 let rows = model::read(image, &session, &lent.table, *width, room)?;
-                let bytes = rows.concat();
-                lent.buffer[..bytes.len()].copy_from_slice(&bytes);
-                Ok(rows.len() as u64)
+                Ok(hand_out(&rows, &mut lent.buffer))
             }
             RowCall::Update { width, n, payload } => {
                 lent.table = model::update(image, &session, &lent.table, *width, *n, payload)?;
@@ -122,8 +134,19 @@ impl RowCall {
                 let part = model::masked(image, &session, &lent.table, *width, *place, mask)?;
                 Ok(u64::from(matches!(part, Masked::Payload(_))))
             }
+            RowCall::ReadMapped { width, map } => {
+                let rows = model::read_mapped(image, &session, &lent.table, *width, map, room)?;
+                Ok(hand_out(&rows, &mut lent.buffer))
+            }
         }
     }
+}
+
+/// Lays rows down at the front of a buffer, and tells how many.
+fn hand_out(rows: &[&[u8]], buffer: &mut [u8]) -> u64 {
+    let bytes = rows.concat();
+    buffer[..bytes.len()].copy_from_slice(&bytes);
+    rows.len() as u64
 }
 
 /// The call and what it is told, for a wrong answer.
@@ -138,6 +161,9 @@ impl Debug for RowCall {
             }
             RowCall::Masked { place, mask, .. } => {
                 write!(formatter, ", place {place}, a mask of {} bytes", mask.len())
+            }
+            RowCall::ReadMapped { map, .. } => {
+                write!(formatter, ", a map of {} bytes", map.len())
             }
         }
     }

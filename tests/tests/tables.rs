@@ -1,4 +1,4 @@
-//! The compiled calls on a table's rows against the model: reading, updating and masked reading.
+//! The compiled calls on a table's rows against the model: reading, updating, masked reading and mapped reading.
 //!
 //! A wrong answer names its seed; `BRAWNESK_SEED=<seed> cargo test --release` compares that seed alone.
 
@@ -8,6 +8,7 @@ use brawnesk_tests::ffi::{self, Answer, SESSION};
 use brawnesk_tests::model;
 use brawnesk_tests::rng::Rng;
 use brawnesk_tests::row_calls::{Lent, RowCall};
+use brawnesk_tests::shifted::Shifted;
 use brawnesk_tests::tables::numbers::bytes;
 use brawnesk_tests::tables::{by_hand, each_row_call, row, RowTally};
 use brawnesk_tests::walk::{policy, spoil_unused, Break};
@@ -31,7 +32,7 @@ in_each_edition! {
     alignment_does_not_matter
 }
 
-/// Asks the library. The image, a payload and a mask have to stay as they are; what else is lent is
+/// Asks the library. The image, a payload, a mask and a map have to stay as they are; what else is lent is
 /// looked at by the caller.
 fn ask(image: &[u8], call: &RowCall, lent: &mut Lent) -> Answer {
     let (own_image, own_call) = (image.to_vec(), call.clone());
@@ -75,7 +76,7 @@ fn answers_by_hand(edition: Edition) {
 }
 
 /// Each call with arguments that are wrong, but which 19 comes before.
-fn wrong_calls() -> [RowCall; 3] {
+fn wrong_calls() -> [RowCall; 4] {
     [
         RowCall::Read { width: 0 },
         RowCall::Update {
@@ -87,6 +88,10 @@ fn wrong_calls() -> [RowCall; 3] {
             width: usize::MAX,
             place: usize::MAX,
             mask: Vec::new(),
+        },
+        RowCall::ReadMapped {
+            width: 4,
+            map: vec![255; 300],
         },
     ]
 }
@@ -145,7 +150,7 @@ fn users(image: &[u8], name: &[u8], tags: &[u32], width: usize) -> Lent {
     }
 }
 
-/// Each call at a width, on rows 0 to 3.
+/// Each call at a width, on rows 0 to 3. A mapped read goes by MARA's map.
 fn calls(width: usize, payload: usize) -> Vec<RowCall> {
     let row_calls = |at: usize| {
         let update = RowCall::Update {
@@ -160,8 +165,12 @@ fn calls(width: usize, payload: usize) -> Vec<RowCall> {
         };
         [update, masked]
     };
-    let read = RowCall::Read { width };
-    (0..4).flat_map(row_calls).chain([read]).collect()
+    let mapped = RowCall::ReadMapped {
+        width,
+        map: vec![5],
+    };
+    let reads = [RowCall::Read { width }, mapped];
+    (0..4).flat_map(row_calls).chain(reads).collect()
 }
 
 /// A user of the sample of a profile, and the tag of 10, 20 and 30 that the user doesn't read.
@@ -223,35 +232,6 @@ fn every_width(edition: Edition) {
                 }
             }
         }
-    }
-}
-
-/// Bytes that begin at any address, with others around them.
-struct Shifted {
-    shift: usize,
-    length: usize,
-    bytes: Vec<u8>,
-}
-
-impl Shifted {
-    fn new(shift: usize, inner: &[u8]) -> Shifted {
-        let mut bytes = vec![0xa5; inner.len() + 8];
-        bytes[shift..shift + inner.len()].copy_from_slice(inner);
-        Shifted {
-            shift,
-            length: inner.len(),
-            bytes,
-        }
-    }
-
-    fn inner(&mut self) -> &mut [u8] {
-        &mut self.bytes[self.shift..][..self.length]
-    }
-
-    fn assert_around(&self) {
-        let (before, rest) = self.bytes.split_at(self.shift);
-        let around = [before, &rest[self.length..]].concat();
-        assert_eq!(around, [0xa5; 8]);
     }
 }
 

@@ -136,6 +136,41 @@ pub fn masked(
     })
 }
 
+/// `brawnesk_map`: when done, the length of the map at the front of `out`.
+pub fn map(image: &[u8], session: &[u8; SESSION], out: &mut [u8]) -> Answer {
+    let (image, length) = (image.as_ptr(), image.len());
+    let (out, room) = (out.as_mut_ptr(), out.len());
+    Answer::decode(unsafe { brawnesk_map(image, length, session.as_ptr(), out, room) })
+}
+
+/// `brawnesk_judge_map`: when done, the map is the session's.
+pub fn judge_map(image: &[u8], session: &[u8; SESSION], map: &[u8]) -> Answer {
+    let (image, length) = (image.as_ptr(), image.len());
+    let (map, size) = (map.as_ptr(), map.len());
+    Answer::decode(unsafe { brawnesk_judge_map(image, length, session.as_ptr(), map, size) })
+}
+
+/// `brawnesk_read_mapped`: when done, the count of the rows at the front of `out`.
+pub fn read_mapped(
+    image: &[u8],
+    session: &[u8; SESSION],
+    table: &[u8],
+    width: usize,
+    map: &[u8],
+    out: &mut [u8],
+) -> Answer {
+    let (image, length) = (image.as_ptr(), image.len());
+    let (table, rows) = (table.as_ptr(), table.len());
+    let (map, size) = (map.as_ptr(), map.len());
+    let (out, room) = (out.as_mut_ptr(), out.len());
+    let session = session.as_ptr();
+    Answer::decode(unsafe {
+        brawnesk_read_mapped(
+            image, length, session, table, rows, width, map, size, out, room,
+        )
+    })
+}
+
 /// `brawnesk_dominates`: when done, 1 for yes and 0 for no.
 pub fn dominates(image: &[u8], first: &[u8; LABEL], second: &[u8; LABEL]) -> Answer {
     let (image, length) = (image.as_ptr(), image.len());

@@ -93,6 +93,32 @@ functions! {
         mask: *const u8,
         mask_length: usize,
     );
+    fn brawnesk_map(
+        image: *const u8,
+        length: usize,
+        session: *const u8,
+        out: *mut u8,
+        out_length: usize,
+    );
+    fn brawnesk_judge_map(
+        image: *const u8,
+        length: usize,
+        session: *const u8,
+        map: *const u8,
+        map_length: usize,
+    );
+    fn brawnesk_read_mapped(
+        image: *const u8,
+        length: usize,
+        session: *const u8,
+        table: *const u8,
+        table_length: usize,
+        width: usize,
+        map: *const u8,
+        map_length: usize,
+        out: *mut u8,
+        out_length: usize,
+    );
     fn brawnesk_dominates(
         image: *const u8,
         length: usize,

@@ -1,6 +1,6 @@
 //! Demand 3, run: a user without READ and FULL, two tables that agree in what this user may read at the
-//! maximum read label, and one sequence of calls on each. What the calls give may not differ, and rows
-//! that are hidden stay as they are.
+//! maximum read label, and one sequence of calls on each: openings, label changes, reads, mapped reads and
+//! updates. What the calls give may not differ, and rows that are hidden stay as they are.
 
 mod leaky;
 mod program;

@@ -58,6 +58,9 @@ impl Debug for HostCall {
 
 /// A program that is lent one image with each call.
 pub trait Program {
+    /// A run begins.
+    fn start(&self) {}
+
     fn ask(&self, call: &HostCall, lent: &mut Lent) -> Answer;
 }
 
@@ -105,7 +108,7 @@ impl Program for Library<'_> {
         assert!(*black_box(&image) == *self.image, "{case}: image changed");
         assert!(
             *black_box(&asked) == *call,
-            "{case}: text or payload changed"
+            "{case}: text, payload or map changed"
         );
         answer
     }

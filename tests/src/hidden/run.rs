@@ -4,11 +4,11 @@ use super::program::{HostCall, Program};
 use super::scene::Scene;
 use super::sequence::Step;
 use crate::ffi::{Answer, SESSION};
-use crate::row_calls::{Lent, RowCall};
+use crate::row_calls::Lent;
 use std::mem;
 
 /// What has to be equal after a call: its answer; an opening's or label change's session; and of a
-/// read the first count times width bytes of the buffer.
+/// read, plain or mapped, the first count times width bytes of the buffer.
 #[derive(Debug, PartialEq, Eq)]
 pub struct Outcome {
     pub answer: Answer,
@@ -44,6 +44,7 @@ fn run(scene: &Scene, steps: &[Step], which: usize, program: &dyn Program) -> Ru
         tables: Vec::new(),
         sessions: Vec::new(),
     };
+    program.start();
     let mut table = scene.tables[which].clone();
     let mut last = [0; SESSION];
     for step in steps {
@@ -66,8 +67,8 @@ fn run(scene: &Scene, steps: &[Step], which: usize, program: &dyn Program) -> Ru
 
 fn outcome(call: &HostCall, answer: Answer, lent: &Lent) -> Outcome {
     let rows = match (call, answer) {
-        (HostCall::Rows(RowCall::Read { width }), Answer::Done(count)) => {
-            let length = (count as usize).saturating_mul(*width);
+        (HostCall::Rows(call), Answer::Done(count)) if call.hands_out() => {
+            let length = (count as usize).saturating_mul(call.width());
             lent.buffer[..length.min(lent.buffer.len())].to_vec()
         }
         _ => Vec::new(),

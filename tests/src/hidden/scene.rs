@@ -2,6 +2,7 @@
 //! maximum read label.
 
 use crate::builder::{to_image, Policy, Variant};
+use crate::maps::bit;
 use crate::model::{accepted, may_read_at_maximum};
 use crate::rng::Rng;
 use crate::tables::row;
@@ -100,9 +101,14 @@ impl Scene {
 
     /// Whether a row isn't readable at the maximum.
     pub fn is_hidden(&self, row: &[u8]) -> bool {
-        let tag = row[..4].iter().rev();
-        let tag = tag.fold(0, |tag, &byte| tag << 8 | u32::from(byte));
-        !self.readable.contains(&tag)
+        !self.readable.contains(&tag(row))
+    }
+
+    /// The bit of a row's label in a map that has one for each label, if the tag is known.
+    pub fn bit_of(&self, row: &[u8], map: &[u8]) -> Option<bool> {
+        let mut labels = self.policy.labels.iter();
+        let place = labels.position(|label| label.tag == tag(row))?;
+        Some(bit(map, place))
     }
 
     /// The list of the rows that are readable at the maximum.
@@ -136,6 +142,11 @@ fn readable(policy: &Policy, image: &[u8], user: usize) -> BTreeSet<u32> {
     assert!(!is_readable(&0) && !is_readable(&u32::MAX));
     let tags = policy.labels.iter().map(|label| label.tag);
     tags.filter(is_readable).collect()
+}
+
+fn tag(row: &[u8]) -> u32 {
+    let tag = row[..4].iter().rev();
+    tag.fold(0, |tag, &byte| tag << 8 | u32::from(byte))
 }
 
 fn any_width(rng: &mut Rng) -> usize {

@@ -5,6 +5,7 @@ use super::scene::Scene;
 use crate::builder::{Label, Policy, Profile};
 use crate::calls::Call;
 use crate::ffi::{Answer, SESSION};
+use crate::maps::{every_bit, map_or_other};
 use crate::model::{self, Image};
 use crate::rng::Rng;
 use crate::row_calls::{Lent, RowCall};
@@ -14,7 +15,7 @@ use crate::texts;
 use crate::walk::{label_at, spoil_unused, Break, Walk, LABEL_AT, ROW_AT};
 use std::mem;
 
-/// A call, what it works on, and what a read's buffer holds before it in each of two runs.
+/// A call, what it works on, and what a read's buffer holds before it in each of two runs. A map is the same in both.
 pub struct Step {
     pub call: HostCall,
     /// A session of the user; without it, the one that was returned last.
@@ -64,7 +65,9 @@ impl Writer<'_> {
         let readable = readable(&self.image, &session, &self.table, width);
         let call = self.call(&session, readable);
         let length = match call {
-            HostCall::Rows(RowCall::Read { .. }) => room(readable * width, &mut self.walk.rng),
+            HostCall::Rows(ref call) if call.hands_out() => {
+                room(readable * width, &mut self.walk.rng)
+            }
             _ => 0,
         };
         let buffers = [0; 2].map(|_| bytes(length, &mut self.walk.rng));
@@ -121,7 +124,7 @@ impl Writer<'_> {
     }
 
     fn call(&mut self, session: &[u8; SESSION], readable: usize) -> HostCall {
-        match self.walk.rng.index(20) {
+        match self.walk.rng.index(25) {
             0 => self.open(),
             1 => HostCall::Session(Call::Open(self.no_users_name())),
             2..=4 => HostCall::Session(self.walk.new_label(session)),
@@ -130,6 +133,10 @@ impl Writer<'_> {
             7..=9 => HostCall::Session(self.walk.new_row_label(session)),
             10..=14 => HostCall::Rows(RowCall::Read {
                 width: self.width(),
+            }),
+            15..=19 => HostCall::Rows(RowCall::ReadMapped {
+                width: self.width(),
+                map: self.map(session),
             }),
             _ => {
                 let width = self.width();
@@ -174,6 +181,15 @@ impl Writer<'_> {
         let (policy, rng) = (&self.scene.policy, &mut self.walk.rng);
         let label = more_than(&self.known[0], policy, rng);
         texts::text_of(policy, &label, rng)
+    }
+
+    /// The session's map, a wrong one, one of another session, or one that would show every row of a known tag.
+    fn map(&mut self, session: &[u8; SESSION]) -> Vec<u8> {
+        let rng = &mut self.walk.rng;
+        match rng.index(4) {
+            0 => every_bit(self.scene.policy.labels.len()),
+            _ => map_or_other(&self.image, session, &self.known, rng),
+        }
     }
 
     /// The scene's width, or one outside the limits.

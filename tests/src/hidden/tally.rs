@@ -10,7 +10,7 @@ use crate::row_calls::{first_difference, RowCall};
 use crate::walk::{label_at, LABEL_AT};
 
 /// For each call the answers that it can give on an image that is accepted.
-const OUTCOMES: [(&str, &[&str]); 5] = [
+const OUTCOMES: [(&str, &[&str]); 6] = [
     ("open", &["done", "4"]),
     (
         "set_label",
@@ -21,16 +21,19 @@ const OUTCOMES: [(&str, &[&str]); 5] = [
         &["done", "19", "5", "6", "7", "8", "9", "10"],
     ),
     ("read", &["rows", "no rows", "19", "12", "13"]),
+    ("read_mapped", &["rows", "no rows", "19", "12", "20", "13"]),
     ("update", &["done", "19", "12", "16", "14", "15"]),
 ];
 
 #[derive(Debug, Default)]
 pub struct HiddenTally {
     answers: CallTally,
-    /// Rows that were read at the maximum read label.
-    at_maximum: usize,
+    /// Rows that were read at the maximum read label, plainly and by a map.
+    at_maximum: [usize; 2],
     /// Reads that gave some rows, but not all that are readable at the maximum.
-    partly: usize,
+    partly: [usize; 2],
+    /// Refused maps in which the bit of a hidden row is set.
+    too_much: usize,
     /// Updates of one row that stands at different places in the two tables.
     apart: usize,
     /// Row calls that were done on a session that was given, and on the one returned last.
@@ -46,25 +49,44 @@ impl HiddenTally {
         for (place, step) in steps.iter().enumerate() {
             let answer = runs[0].outcomes[place].answer;
             self.add_answer(step, answer);
-            let (HostCall::Rows(call), Answer::Done(value)) = (&step.call, answer) else {
+            let HostCall::Rows(call) = &step.call else {
                 continue;
             };
-            self.sessions[usize::from(step.given.is_none())] += 1;
-            match call {
-                RowCall::Read { .. } if is_at_maximum(scene, &runs[0].sessions[place]) => {
-                    self.at_maximum += value as usize;
+            match answer {
+                Answer::Done(value) => {
+                    self.sessions[usize::from(step.given.is_none())] += 1;
+                    self.add_rows(scene, runs, place, call, value);
                 }
-                RowCall::Read { .. } => {
-                    let all = scene.list(&runs[0].tables[place]).len() as u64;
-                    self.partly += usize::from(value > 0 && value < all);
+                Answer::Refused { number: 20, .. } => {
+                    let shows = shows_hidden(scene, call, &runs[0].tables[place]);
+                    self.too_much += usize::from(shows);
                 }
-                RowCall::Update { .. } => {
-                    let [one, two] = [0, 1].map(|which| updated(scene, runs, which, place));
-                    self.apart += usize::from(one != two);
-                }
-                RowCall::Masked { .. } => {}
+                Answer::Refused { .. } => {}
             }
         }
+    }
+
+    /// A row call that was done with that value.
+    fn add_rows(
+        &mut self,
+        scene: &Scene,
+        runs: &[Run; 2],
+        place: usize,
+        call: &RowCall,
+        value: u64,
+    ) {
+        if !call.hands_out() {
+            let [one, two] = [0, 1].map(|which| updated(scene, runs, which, place));
+            self.apart += usize::from(one != two);
+            return;
+        }
+        let way = usize::from(matches!(call, RowCall::ReadMapped { .. }));
+        if is_at_maximum(scene, &runs[0].sessions[place]) {
+            self.at_maximum[way] += value as usize;
+            return;
+        }
+        let all = scene.list(&runs[0].tables[place]).len() as u64;
+        self.partly[way] += usize::from(value > 0 && value < all);
     }
 
     fn add_answer(&mut self, step: &Step, answer: Answer) {
@@ -80,12 +102,22 @@ impl HiddenTally {
         for (call, outcomes) in OUTCOMES {
             self.answers.assert_least(call, outcomes, least);
         }
-        let [given, last] = self.sessions;
-        for times in [self.at_maximum, self.partly, self.apart, given, last] {
+        let others = [self.apart, self.too_much];
+        for times in [self.at_maximum, self.partly, self.sessions, others].concat() {
             assert!(times >= 20 * least, "{self:?}");
         }
         assert!(self.pairs >= pairs, "{} pairs", self.pairs);
     }
+}
+
+/// Whether a lent map that is as long as the right one has the bit of a hidden row of the table.
+fn shows_hidden(scene: &Scene, call: &RowCall, table: &[u8]) -> bool {
+    let RowCall::ReadMapped { map, .. } = call else {
+        return false;
+    };
+    let mut rows = table.chunks(scene.width);
+    map.len() == scene.policy.labels.len().div_ceil(8)
+        && rows.any(|row| scene.is_hidden(row) && scene.bit_of(row, map) == Some(true))
 }
 
 fn is_at_maximum(scene: &Scene, session: &[u8; SESSION]) -> bool {

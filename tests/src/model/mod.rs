@@ -1,8 +1,8 @@
 //! The rules of a policy image, of label text, of sessions, of verdicts, of tables, of two labels
 //! and of the report, written from document 01 section by section, and from the requests of document
-//! 02: R-2 for what a faulty image is refused with, R-3 for dominance, R-10 for the release profile, R-11 for
-//! edition 2 and the move up to it, R-12 for the users who hold COMPACCESS. There is little thought for speed,
-//! and nothing here is shared with the library or with the builder of images.
+//! 02: R-2 for what a faulty image is refused with, R-3 for dominance, R-4 for maps, R-10 for the release profile,
+//! R-11 for edition 2 and the move up to it, R-12 for the users who hold COMPACCESS. There is little thought for
+//! speed, and nothing here is shared with the library or with the builder of images.
 
 mod compaccess;
 mod edition;
@@ -10,6 +10,7 @@ mod faults;
 mod groups;
 mod label;
 mod layout;
+mod map;
 mod move_up;
 mod places;
 mod profile;
@@ -27,6 +28,7 @@ pub use compaccess::{clear_compaccess, compaccess_users};
 pub use faults::{faults, first_fault, Fault, Key};
 pub use label::Label;
 pub use layout::{Image, Kind};
+pub use map::{judge_map, map, read_mapped};
 pub use move_up::move_up;
 pub use places::Places;
 pub use refusal::Refusal;

@@ -53,6 +53,8 @@ pub enum Refusal {
     Component,
     /// 19: a lent session breaks its rules for that image.
     Session,
+    /// 20: a lent map isn't the one for that image and session, or not as long.
+    Map,
     /// 36: a move up of an image with users who hold COMPACCESS; how many.
     Holders(usize),
     /// 37: a move up of over 800 labels or 32 users.
@@ -87,6 +89,7 @@ impl Refusal {
             Refusal::Letters => 17,
             Refusal::Component => 18,
             Refusal::Session => 19,
+            Refusal::Map => 20,
             Refusal::Holders(_) => 36,
             Refusal::Size => 37,
         }

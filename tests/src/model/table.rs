@@ -76,7 +76,7 @@ pub fn masked<'a>(
 }
 
 /// "A table is a lent run of rows of one width, 5 to 512."
-fn rows(table: &[u8], width: usize) -> Result<Vec<&[u8]>, Refusal> {
+pub fn rows(table: &[u8], width: usize) -> Result<Vec<&[u8]>, Refusal> {
     if !(5..=512).contains(&width) || !table.len().is_multiple_of(width) {
         return Err(Refusal::Width);
     }
@@ -84,7 +84,7 @@ fn rows(table: &[u8], width: usize) -> Result<Vec<&[u8]>, Refusal> {
 }
 
 /// "The tag is the first 4 bytes."
-fn tag(row: &[u8]) -> u32 {
+pub fn tag(row: &[u8]) -> u32 {
     u32_at(row, 0) as u32
 }
 

@@ -31,19 +31,29 @@ pub fn may_read_at_maximum(image: &Image, user: usize, tag: u32) -> bool {
 }
 
 /// Reading at a session label. "READ (reading only) and FULL (both) see every row, tag 0 and unknown
-/// tags too. Otherwise those two tags are denied." By R-11: "In edition 2 tag 0 and unknown tags are
-/// denied to READ and FULL too."
+/// tags too. Otherwise those two tags are denied."
 fn reads(image: &Image, user: &User, label: &Label, tag: u32) -> bool {
-    let sees_all = user.has(Privilege::Read) || user.has(Privilege::Full);
-    let Some(row) = label_with(image, tag) else {
-        return sees_all && image.edition().shows_unknown;
-    };
-    if sees_all {
-        return true;
+    match label_with(image, tag) {
+        Some(row) => reads_label(image, user, label, &row),
+        None => reads_unknown(image, user),
     }
+}
+
+/// The same of a row's label.
+pub fn reads_label(image: &Image, user: &User, label: &Label, row: &Label) -> bool {
     let by_compartments =
-        user.has(Privilege::CompAccess) && is_readable_by_compartments(label, &row);
-    by_compartments || is_readable(image, label, &row)
+        user.has(Privilege::CompAccess) && is_readable_by_compartments(label, row);
+    sees_all(user) || by_compartments || is_readable(image, label, row)
+}
+
+/// The same of tag 0 and unknown tags. By R-11: "In edition 2 tag 0 and unknown tags are denied to READ and
+/// FULL too, mapped or not."
+pub fn reads_unknown(image: &Image, user: &User) -> bool {
+    sees_all(user) && image.edition().shows_unknown
+}
+
+fn sees_all(user: &User) -> bool {
+    user.has(Privilege::Read) || user.has(Privilege::Full)
 }
 
 /// Whether the session may write a row with the tag.
@@ -63,13 +73,19 @@ pub fn may_write(image: &Image, session: &Session, tag: u32) -> Result<bool, Ref
 
 /// The label that stands under a tag.
 fn label_with(image: &Image, tag: u32) -> Option<Label> {
-    let records = (0..image.counts.labels().count).map(|place| image.label(place));
-    let mut found = records.filter(|record| u32_at(record, 0) == tag as usize);
-    found.next().map(|record| Label {
+    let mut places = 0..image.counts.labels().count;
+    let found = places.find(|&place| u32_at(image.label(place), 0) == tag as usize);
+    found.map(|place| label_at(image, place))
+}
+
+/// The label of the record at a place.
+pub fn label_at(image: &Image, place: usize) -> Label {
+    let record = image.label(place);
+    Label {
         level: usize::from(record[4]),
         compartments: set_at(record, 8, COMPARTMENT_SET),
         groups: image.label_groups(record),
-    })
+    }
 }
 
 /// "**Read**: row level ≤ session level; row groups empty, or one of them in below(session groups);

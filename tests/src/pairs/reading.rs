@@ -5,6 +5,7 @@ use crate::builder::{to_image, Label, Policy, User, Variant, COMPACCESS};
 use crate::calls::{Call, Pair, PairCall};
 use crate::compare::Checked;
 use crate::ffi::{Answer, LABEL, SESSION};
+use crate::maps::MapCall;
 use crate::rng::Rng;
 use crate::row_calls::{Lent, RowCall};
 use crate::walk::{Walk, LABEL_AT, ROW_AT};
@@ -35,6 +36,13 @@ impl Program {
     }
 
     pub fn rows(self, call: &RowCall, lent: &Checked, rows: &mut Lent) -> Answer {
+        match self {
+            Program::Library => call.by_library(lent.image, rows),
+            Program::Model => call.by_model(&lent.by_model, rows),
+        }
+    }
+
+    pub fn maps(self, call: &MapCall, lent: &Checked, rows: &mut Lent) -> Answer {
         match self {
             Program::Library => call.by_library(lent.image, rows),
             Program::Model => call.by_model(&lent.by_model, rows),

@@ -3,6 +3,7 @@
 use crate::builder::layout::{seal, BLOCK};
 use crate::builder::{sample, to_image, Edition};
 use crate::ffi::{Answer, SESSION};
+use crate::maps::every_wrong;
 use crate::row_calls::{Lent, RowCall};
 
 /// A program that is asked.
@@ -29,11 +30,13 @@ const KNOWN: &[usize] = &[0, 1, 3, 4];
 const READ_BY_LABELS: &[usize] = &[1, 3, 4];
 const WRITTEN_BY_LABELS: &[usize] = &[1, 4];
 
-/// MARA in an edition with some privileges: row n of those that she reads is at place `readable[n]`.
+/// MARA in an edition with some privileges: row n of those that she reads is at place `readable[n]`. In her map
+/// 10, 20 and 30 have the bits 1, 2 and 4.
 struct Hand<'a> {
     image: Vec<u8>,
     readable: &'static [usize],
     writable: &'static [usize],
+    map: u8,
     ask: Ask<'a>,
 }
 
@@ -44,11 +47,11 @@ pub fn check(edition: Edition, ask: Ask) {
         Edition::Two => KNOWN,
     };
     let [none, read, full] = [0, 1, 2];
-    for (privileges, readable, writable) in [
-        (none, READ_BY_LABELS, WRITTEN_BY_LABELS),
-        (read, seen, WRITTEN_BY_LABELS),
-        (full, seen, seen),
-        (read | full, seen, seen),
+    for (privileges, readable, writable, map) in [
+        (none, READ_BY_LABELS, WRITTEN_BY_LABELS, 1 + 4),
+        (read, seen, WRITTEN_BY_LABELS, 1 + 2 + 4),
+        (full, seen, seen, 1 + 2 + 4),
+        (read | full, seen, seen, 1 + 2 + 4),
     ] {
         let mut policy = sample().in_edition(edition);
         policy.users[0].privileges = privileges;
@@ -56,9 +59,13 @@ pub fn check(edition: Edition, ask: Ask) {
             image: to_image(&policy),
             readable,
             writable,
+            map,
             ask,
         };
-        hand.reading();
+        let map = vec![map];
+        hand.reading(&RowCall::Read { width: WIDTH });
+        hand.reading(&RowCall::ReadMapped { width: WIDTH, map });
+        hand.wrong_maps();
         hand.updating();
         hand.masked_reading();
         hand.wrong_numbers();
@@ -80,7 +87,8 @@ fn mara() -> [u8; SESSION] {
     session
 }
 
-fn lent(room: usize) -> Lent {
+/// MARA's session, all rows, and a buffer of so many bytes.
+pub fn lent(room: usize) -> Lent {
     Lent {
         session: mara(),
         table: ALL.iter().flat_map(|&place| row(place)).collect(),
@@ -102,8 +110,7 @@ impl Hand<'_> {
     }
 
     /// Seven bytes are needed for each readable row. Later bytes stay.
-    fn reading(&self) {
-        let call = RowCall::Read { width: WIDTH };
+    fn reading(&self, call: &RowCall) {
         let rows: Vec<u8> = self.readable.iter().flat_map(|&it| row(it)).collect();
         for room in 0..=60 {
             let lent = lent(room);
@@ -113,7 +120,20 @@ impl Hand<'_> {
                 after.buffer[..rows.len()].copy_from_slice(&rows);
                 answer = Answer::Done(self.readable.len() as u64);
             }
-            self.expect(&call, &lent, answer, &after);
+            self.expect(call, &lent, answer, &after);
+        }
+    }
+
+    /// Each wrong map is refused before a buffer that is too short, also where there are no rows.
+    fn wrong_maps(&self) {
+        for map in every_wrong(&[self.map]) {
+            let call = RowCall::ReadMapped { width: WIDTH, map };
+            for room in [0, 60] {
+                let mut lent = lent(room);
+                self.expect(&call, &lent, refused(20, 0), &lent);
+                lent.table.clear();
+                self.expect(&call, &lent, refused(20, 0), &lent);
+            }
         }
     }
 
@@ -164,7 +184,7 @@ impl Hand<'_> {
                 self.expect(&call, &lent(0), refused(12, 0), &lent(0));
             }
         }
-        let numbers = [13, 16, 14];
+        let numbers = [13, 16, 14, 20];
         for (call, number) in calls(WIDTH).iter().zip(numbers) {
             self.expect(call, &lent(0), refused(number, 0), &lent(0));
         }
@@ -226,8 +246,8 @@ fn broken_sessions(edition: Edition, ask: Ask) {
     }
 }
 
-/// Each call with all wrong that can be: no buffer, a payload of another length, no such row.
-fn calls(width: usize) -> [RowCall; 3] {
+/// Each call with all wrong that can be: no buffer, a payload of another length, no such row, an empty map.
+fn calls(width: usize) -> [RowCall; 4] {
     [
         RowCall::Read { width },
         RowCall::Update {
@@ -239,6 +259,10 @@ fn calls(width: usize) -> [RowCall; 3] {
             width,
             place: 9,
             mask: vec![2; 4],
+        },
+        RowCall::ReadMapped {
+            width,
+            map: Vec::new(),
         },
     ]
 }

@@ -1,5 +1,5 @@
 //! Row calls by edition, profile and seed, which name a policy, sessions of its users, and tables whose rows are
-//! read, updated and read masked, with right arguments and wrong ones.
+//! read, updated, read masked and read by maps, with right arguments and wrong ones.
 
 pub mod by_hand;
 pub mod numbers;
@@ -9,6 +9,7 @@ pub use tally::RowTally;
 
 use crate::builder::Variant;
 use crate::ffi::{Answer, SESSION};
+use crate::maps::{any_map, map_of, MapKind};
 use crate::model::{self, Image, Session};
 use crate::rng::Rng;
 use crate::row_calls::{Lent, RowCall};
@@ -35,6 +36,8 @@ pub struct Step<'a> {
     pub needed: usize,
     /// The privileges of the session's user, if there is such a user.
     pub privileges: Option<u8>,
+    /// What the lent map is beside the session's own, if there are both.
+    pub map: Option<MapKind>,
 }
 
 /// Shows the first row calls of an edition and a seed. A table that the model updates is lent again
@@ -59,7 +62,11 @@ pub fn each_row_call(
         let session = walk.session();
         let width = table.call_width(&mut walk.rng);
         let readable = readable(&own, &session, &table.bytes, width);
-        let call = table.call(width, readable, &mut walk.rng);
+        let mut call = table.call(width, readable, &mut walk.rng);
+        if walk.rng.once_in(4) {
+            let map = any_map(&own, &session, &mut walk);
+            call = RowCall::ReadMapped { width, map };
+        }
         let needed = readable * width;
         let lent = table.lent(session, &call, needed, &mut walk.rng);
         let mut after = lent.clone();
@@ -67,14 +74,24 @@ pub fn each_row_call(
         table.bytes.clone_from(&after.table);
         see(&Step {
             image: &images[image],
-            call,
             answer,
             after,
             needed,
             privileges: walk.privileges(&lent.session),
+            map: map_kind(&own, &call, &session),
+            call,
             lent,
         });
     }
+}
+
+/// What a mapped read's map is beside the session's own.
+fn map_kind(image: &Image, call: &RowCall, session: &[u8; SESSION]) -> Option<MapKind> {
+    let RowCall::ReadMapped { map, .. } = call else {
+        return None;
+    };
+    let right = map_of(image, session)?;
+    Some(MapKind::of(&right, image.counts.labels().count, map))
 }
 
 /// How many rows a session may read; none, where the call is refused.
@@ -154,9 +171,9 @@ impl Table {
 
     /// What the call is lent. Only a read has a buffer.
     fn lent(&self, session: [u8; SESSION], call: &RowCall, needed: usize, rng: &mut Rng) -> Lent {
-        let room = match call {
-            RowCall::Read { .. } => room(needed, rng),
-            _ => 0,
+        let room = match call.hands_out() {
+            true => room(needed, rng),
+            false => 0,
         };
         Lent {
             session,

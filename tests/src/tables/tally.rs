@@ -4,13 +4,15 @@ use super::{Step, LARGEST};
 use crate::builder::{Edition, Variant};
 use crate::compare::CallTally;
 use crate::ffi::Answer;
+use crate::maps::MapKind;
 use crate::row_calls::{first_difference, RowCall};
 use crate::walk::is_ruled;
 use std::collections::{BTreeMap, BTreeSet};
 
 /// For each call the answers that it can give on an accepted image.
-const OUTCOMES: [(&str, &[&str]); 3] = [
+const OUTCOMES: [(&str, &[&str]); 4] = [
     ("read", &["rows", "no rows", "19", "12", "13"]),
+    ("read_mapped", &["rows", "no rows", "19", "12", "20", "13"]),
     ("update", &["done", "19", "12", "16", "14", "15"]),
     ("masked", &["payload", "mask", "19", "12", "14"]),
 ];
@@ -85,6 +87,10 @@ fn kinds(step: &Step) -> Vec<(&'static str, bool)> {
     ];
     let more = match &step.call {
         RowCall::Read { width } => kinds_of_read(step, length.checked_div(*width)),
+        RowCall::ReadMapped { width, map } => {
+            let of_read = kinds_of_read(step, length.checked_div(*width));
+            [of_read, kinds_of_map(step, map)].concat()
+        }
         RowCall::Update { width, n, .. } => kinds_of_update(step, *width, *n),
         RowCall::Masked { width, place, .. } => kinds_of_masked(step, *width, *place),
     };
@@ -131,6 +137,28 @@ fn kinds_of_read(step: &Step, rows: Option<usize>) -> Vec<(&'static str, bool)> 
         ("a buffer short by one", is_long && room + 1 == needed),
         ("no buffer", is_long && room == 0),
     ]
+}
+
+/// A read by a map that is right or wrong.
+fn kinds_of_map(step: &Step, map: &[u8]) -> Vec<(&'static str, bool)> {
+    let is_done = matches!(step.answer, Answer::Done(_));
+    let is_wrong = step.map.is_some_and(|kind| kind != MapKind::Right);
+    let refused = is_refused(step, 20);
+    assert!(!(is_done && is_wrong) && (!refused || is_wrong));
+    let of_kind = |kind: MapKind| (kind.name(), refused && step.map == Some(kind));
+    let kinds = vec![
+        ("done without labels", is_done && map.is_empty()),
+        (
+            "20 on an empty table",
+            refused && step.lent.table.is_empty(),
+        ),
+        (
+            "20 and no room",
+            refused && step.lent.buffer.len() < step.needed,
+        ),
+        ("12 and a wrong map", is_refused(step, 12) && is_wrong),
+    ];
+    [kinds, MapKind::WRONG.map(of_kind).to_vec()].concat()
 }
 
 fn kinds_of_update(step: &Step, width: usize, n: usize) -> Vec<(&'static str, bool)> {

@@ -15,7 +15,7 @@ pub use images::{images, ImageCase};
 pub use label_text::{label_text, Expected};
 pub use parts::{cases_of_the_sample, rows_in_release, rows_of_the_guide};
 pub use requests::{requests, Waiting};
-pub use sessions::{sessions, Case, Section};
+pub use sessions::{opened, sessions, Case, Section};
 pub use two_labels::{two_labels, PairCase};
 
 use crate::builder::{Component, Label, Policy, Set, Variant};

@@ -35,7 +35,7 @@ struct Step {
 
 impl Case {
     /// Asks that each call gives its answer and leaves the session as expected.
-    pub fn run(&self, ask: impl Fn(&Asked, &mut [u8; SESSION]) -> Answer) {
+    pub fn run(&self, mut ask: impl FnMut(&Asked, &mut [u8; SESSION]) -> Answer) {
         let mut session = UNOPENED;
         for Step {
             call,
@@ -124,7 +124,7 @@ fn read_opened(policy: &Policy, name: &str, answer: &str) -> (Answer, [u8; SESSI
 }
 
 /// The session of a user at the default labels.
-fn opened(policy: &Policy, name: &str) -> [u8; SESSION] {
+pub fn opened(policy: &Policy, name: &str) -> [u8; SESSION] {
     let place = user_place(policy, name);
     let user = &policy.users[place];
     let label = Label {

@@ -1,12 +1,14 @@
 //! Programs that let hidden rows show, each in one way, to know that such ways are found.
 
+mod mapped;
+
 use super::program::{HostCall, Model, Program};
 use super::scene::Scene;
 use crate::builder::{to_image, Profile, Set};
 use crate::calls::Call;
 use crate::ffi::Answer;
 use crate::row_calls::{Lent, RowCall};
-use std::cell::Cell;
+use std::cell::{Cell, RefCell};
 
 #[derive(Clone, Copy, Debug, PartialEq, Eq)]
 pub enum Leak {
@@ -34,10 +36,18 @@ pub enum Leak {
     Maximum,
     /// A row call takes a given session that is past the maximum read label.
     Session,
+    /// A mapped read takes every map that is as long as the right one.
+    MapTaken,
+    /// A mapped read judges its map, and then goes by the map that the mapped read before was lent.
+    MapOld,
+    /// A mapped read judges only the bits that it looks up.
+    MapLookedUp,
+    /// A mapped read hands out rows of unknown tags.
+    MapUnknown,
 }
 
 impl Leak {
-    pub const ALL: [Leak; 12] = [
+    pub const ALL: [Leak; 16] = [
         Leak::Count,
         Leak::Room,
         Leak::Bytes,
@@ -50,7 +60,17 @@ impl Leak {
         Leak::LabelChange,
         Leak::Maximum,
         Leak::Session,
+        Leak::MapTaken,
+        Leak::MapOld,
+        Leak::MapLookedUp,
+        Leak::MapUnknown,
     ];
+
+    /// Whether only mapped reads have it.
+    fn is_of_maps(self) -> bool {
+        use Leak::*;
+        matches!(self, MapTaken | MapOld | MapLookedUp | MapUnknown)
+    }
 }
 
 /// The image of the scene's policy with all that there is to read for the scene's user. In the release profile
@@ -79,6 +99,8 @@ pub struct Leaky<'a> {
     leak: Leak,
     /// The rows of the table of the last row call.
     seen: Cell<usize>,
+    /// The map of the last mapped read.
+    old_map: RefCell<Vec<u8>>,
 }
 
 impl<'a> Leaky<'a> {
@@ -89,6 +111,7 @@ impl<'a> Leaky<'a> {
             lifted: Model::new(lifted),
             leak,
             seen: Cell::new(0),
+            old_map: RefCell::default(),
         }
     }
 
@@ -187,6 +210,11 @@ fn refused(number: u32, place: u32) -> Answer {
 }
 
 impl Program for Leaky<'_> {
+    fn start(&self) {
+        self.seen.set(0);
+        self.old_map.take();
+    }
+
     fn ask(&self, ask: &HostCall, lent: &mut Lent) -> Answer {
         match ask {
             _ if self.leak == Leak::Maximum => self.lifted.ask(ask, lent),
@@ -196,6 +224,9 @@ impl Program for Leaky<'_> {
                 self.seen.set(self.rows(&lent.table).count());
                 match call {
                     RowCall::Update { n, .. } => self.update(ask, *n, lent),
+                    RowCall::ReadMapped { map, .. } if self.leak.is_of_maps() => {
+                        self.read_mapped(ask, map, lent)
+                    }
                     _ => self.read(ask, lent),
                 }
             }
