@@ -49,7 +49,7 @@ fn put_map(image: &[u8], view: View, buffer: &mut [u8]) -> usize
 }
 
 // Refusal: 13.
-pub fn write_map(image: &[u8], view: View, buffer: &mut [u8]) -> Filled
+pub(crate) fn write_map(image: &[u8], view: View, buffer: &mut [u8]) -> Filled
     requires { ⌜ Counted (now image) ⌝ }
     ensures { λ r. ⌜ (r, now (buffer .exit)) ≡ writtenTo (now (buffer .entry)) (mapOf (now (image .entry)) (rightsOf view)) ⌝ }
 {

@@ -36,7 +36,7 @@ kept-all test all [] = refl
 kept-all test all (row ∷ rows) = rw (all row, kept-all test all rows)
 
 -- a tag that no label carries
-unknown-verdict : (im : List ℕ) (rights : Rights) (tag : ℕ) → knownTag im tag ≡ false → unknownRead im rights ≡ mayRead im rights tag
+pub unknown-verdict : (im : List ℕ) (rights : Rights) (tag : ℕ) → knownTag im tag ≡ false → unknownRead im rights ≡ mayRead im rights tag
 unfolding mayRead
 unknown-verdict im rights tag e = rw e
 

@@ -17,7 +17,7 @@ use image::given::label_of_tag;
 use maps::given::bit_of;
 use refusals::Refusal;
 
-// The bit of the label record that carries the row's tag.
+// The bit of the label record that carries the row's tag; where none does, `unknown`: are rows of unknown tags handed out?
 fn is_mapped(image: &[u8], bits: &[u8], unknown: bool, row: &[u8]) -> bool
     requires { ⌜ Mapping (now image) (now bits) × (4 ≤ length (now row)) ⌝ }
     ensures { λ r. ⌜ r ≡ rowMapped (now (image .entry)) (now (bits .entry)) unknown (now (row .entry)) ⌝ }

@@ -129,7 +129,8 @@ reads : step cooperative (started table1 mara) (onRows last 6 (reading (replicat
 unfolding step rowStep readRowsOf handedOut tableAnswer tableRule table1 flatten
 reads = rw (mara-passes, readable-before)
 
-reads-mapped : step cooperative (started table1 mara) (onRows last 6 (readingMapped maraMap (replicate 20 1))) ≡ (started table1 mara, rowsHanded (rowsRead.Done 3) bytesBefore)
+reads-mapped : step cooperative (started table1 mara) (onRows last 6 (readingMapped maraMap (replicate 20 1)))
+    ≡ (started table1 mara, rowsHanded (rowsRead.Done 3) bytesBefore)
 unfolding step rowStep handedOut tableAnswer tableRule table1 flatten
 reads-mapped = rw (mapped-plain cooperative mara table1 6 maraMap (replicate 20 1), mara-passes, mara-right, readable-before)
 
@@ -176,11 +177,13 @@ unfolding step rowStep readRowsOf handedOut tableAnswer tableRule tableAfter1 fl
 reads-less = rw (glazed-passes, readable-now)
 
 -- the map that she had before she gave KILN up
-old-map : step cooperative (started tableAfter1 glazed) (onRows last 6 (readingMapped maraMap (replicate 20 1))) ≡ (started tableAfter1 glazed, rowsHanded (rowsRead.Refused WrongMap) [])
+old-map : step cooperative (started tableAfter1 glazed) (onRows last 6 (readingMapped maraMap (replicate 20 1)))
+    ≡ (started tableAfter1 glazed, rowsHanded (rowsRead.Refused WrongMap) [])
 unfolding step rowStep tableAnswer tableRule tableAfter1 flatten
 old-map = rw (mapped-plain cooperative glazed tableAfter1 6 maraMap (replicate 20 1), glazed-passes, glazed-wrong)
 
-new-map : step cooperative (started tableAfter1 glazed) (onRows last 6 (readingMapped glazedMap (replicate 20 1))) ≡ (started tableAfter1 glazed, rowsHanded (rowsRead.Done 1) bytesNow)
+new-map : step cooperative (started tableAfter1 glazed) (onRows last 6 (readingMapped glazedMap (replicate 20 1)))
+    ≡ (started tableAfter1 glazed, rowsHanded (rowsRead.Done 1) bytesNow)
 unfolding step rowStep handedOut tableAnswer tableRule tableAfter1 flatten
 new-map = rw (mapped-plain cooperative glazed tableAfter1 6 glazedMap (replicate 20 1), glazed-passes, glazed-right, readable-now)
 

@@ -53,7 +53,7 @@ abbrev pub noSession : SessionMarks
 noSession = sessionMarks 9 (marks 0 0 0) (marks 0 0 0)
 
 -- ---- her maps: bits of the labels with tags 10, 20, 30
--- of the session that opens, and with VAULT:KILN:DOCK
+-- of the session that opens
 abbrev pub maraMap : List ℕ
 maraMap = 5 ∷ []
 

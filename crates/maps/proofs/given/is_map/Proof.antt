@@ -91,7 +91,8 @@ returns-3 c =
     let a = fit .before .before .before .before .args in
     let end = c .loop-test .left in
     let over : mapLength (a .image .now) ≤ turn .loop .k = omega (arith, fit .before .map-length .ensures .0, end) in
-    same-done (a .bits .now) (mapOf (a .image .now) (rightsOf (a .view))) (turn .loop .k) (omega (arith, fit .if1 .left, end)) (rw map-long over) (turn .loop .inv .1)
+    let past : length (a .bits .now) ≤ turn .loop .k = omega (arith, fit .if1 .left, end) in
+    same-done (a .bits .now) (mapOf (a .image .now) (rightsOf (a .view))) (turn .loop .k) past (rw map-long over) (turn .loop .inv .1)
 
 pub is-map-spec : {M : Type 1} → statement M
 is-map-spec =
