@@ -1,5 +1,5 @@
 -- The laws of the C functions by subject.
---     Places      the place that a refusal tells fits its 32 bits: sessions, prints, merges
+--     Places      the place that a refusal tells fits its 32 bits: sessions, prints, dominance, merges, moves
 --     RowPlaces   and tables; a count of rows is below 2 ^ 63
 --     MapPlaces   and maps
 --     Widths      a session that keeps its rules fits its bytes

@@ -1,4 +1,5 @@
--- The main theorems on maps (request R-4), each stated in full over definitions of specs. Assumes nothing.
+-- The main theorems on maps (request R-4), each stated in full over definitions of specs (and `FrontDone`, which says what a call that wrote to the front
+-- of a buffer left there). Assumes nothing.
 use Prim.Native.Nat.{ℕ, _+_, _*_, _≤_, _<_}
 use mathlib.Core.Path.{_≡_, refl, sym, ap, _∙_}
 use mathlib.Core.Bool.{Bool, true, false, cond}

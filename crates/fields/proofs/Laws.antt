@@ -57,7 +57,7 @@ module _ (test : ℕ → Bool) (s : List ℕ) (i : ℕ) where
     unfolding all
     all-from-done h inv = rw (drop-of-length-le s h) at inv
 
--- ---- the same name
+-- ---- the same bytes
 module _ (a b : List ℕ) (i : ℕ) where
   same-at : i < length a → i < length b
       → sameBytes (drop i a) (drop i b) ≡ (eqb (getD a i 0) (getD b i 0) && sameBytes (drop (i + 1) a) (drop (i + 1) b))
@@ -76,7 +76,7 @@ module _ (a b : List ℕ) (i : ℕ) where
   unfolding sameBytes
   same-done ha hb inv = rw (drop-of-length-le a ha, drop-of-length-le b hb) at inv
 
--- names of different lengths differ
+-- runs of different lengths differ
 pub same-length : (a b : List ℕ) → (length a ≡ length b → ⊥) → false ≡ sameBytes a b
 unfolding sameBytes
 same-length [] [] h = absurd (h refl)

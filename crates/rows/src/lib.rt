@@ -1,4 +1,4 @@
-// A table's rows under a session: reads, updates and masked reads. Every call checks the image, the session and the table's shape.
+// A table's rows under a session: reads, reads by a map, updates and masked reads. Every call checks the image, the session and the table's shape.
 pub mod answers;
 mod mapped;
 mod masking;
