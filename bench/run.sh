@@ -4,7 +4,9 @@
 # check of the same version. Then row calls: instructions for each row, and how many times the plain
 # version's ours are; "flat" is a plain read that finds all verdicts first. A ! marks where ours misses
 # a limit. Then calls on the largest images of edition 2, which the plain version doesn't know, each with
-# the percent over the check of the same image; and the move up of an image of edition 1. Last the
+# the percent over the check of the same image; and the move up of an image of edition 1. Then maps on the
+# largest images of both editions: what making and judging one take for each label beside a may_read by the
+# same session, and mapped reads in percent of the plain read, or of judging the map for few rows. Last the
 # instructions of each function in a check and a read, or in the calls that are named:
 # bench/run.sh [CALL...]
 # Without target/staticlib/libabi.a only the plain versions are measured.
@@ -55,10 +57,10 @@ over() {
     awk -v call="$1" -v check="$2" 'BEGIN { printf "%.2f", (call - check) * 100 / check }'
 }
 
-# Marks a percentage of ours that is over its limit, if there is one.
+# Marks a figure of ours that is over its limit, if there is one.
 marked() {
-    awk -v version="$1" -v percent="$2" -v limit="$3" \
-        'BEGIN { print percent (version == "ours" && limit != "-" && percent > limit + 0 ? "!" : "") }'
+    awk -v version="$1" -v figure="$2" -v limit="$3" \
+        'BEGIN { print figure (version == "ours" && limit != "-" && figure > limit + 0 ? "!" : "") }'
 }
 
 # The four columns of a version: instructions, percent over its check of the same image, time, stack.
@@ -87,10 +89,47 @@ row_columns() {
         "$("$bench" "$version" "$call" time)" "$("$bench" "$version" "$call" stack)"
 }
 
+# The four columns of a version of a call on maps: instructions, of these for each label beyond the call that it
+# is held beside, if any, time, stack.
+label_columns() {
+    local version=$1 call=$2 function=$3 labels=$4 limit=$5 beside=$6 counted each=-
+    count "$version" "$call"
+    counted=$(instructions "$version" "$call" "$function")
+    row_counts[$version]=$counted
+    held[$version-$call]=$counted
+    if [ "$beside" != - ]; then
+        each=$(awk -v counted="$counted" -v other="${held[$version-$beside]}" -v labels="$labels" \
+            'BEGIN { printf "%.2f", (counted - other) / labels }')
+    fi
+    printf ' %12s %8s %10s %8s' "$counted" "$(marked "$version" "$each" "$limit")" \
+        "$("$bench" "$version" "$call" time)" "$("$bench" "$version" "$call" stack)"
+}
+
+# The columns of each version by the function $1; those of the versions that are not among $2 are empty.
+each_version() {
+    local columns=$1 known=$2 version
+    shift 2
+    row_counts=()
+    for version in $versions; do
+        case " $known " in
+        *" $version "*) "$columns" "$version" "$@" ;;
+        *) printf ' %12s %8s %10s %8s' - - - - ;;
+        esac
+    done
+}
+
+# How many percent of the call $2 the call $1 of ours takes, marked where that is over the limit. $2 may be none.
+percent_of() {
+    local percent
+    percent=$(awk -v counted="${held[$1]}" -v other="${held[$2]:-0}" \
+        'BEGIN { print other ? sprintf("%.2f", counted * 100 / other) : "-" }')
+    marked ours "$percent" "$3"
+}
+
 # How many times the plain version's instructions ours are, marked where that is over the limit.
 times_plain() {
-    awk -v ours="${row_counts[ours]:-0}" -v plain="${row_counts[plain]}" -v limit="$1" 'BEGIN {
-        print ours ? sprintf("%.2f", ours / plain) (limit != "-" && ours * 100 > plain * limit ? "!" : "") : "-" }'
+    awk -v ours="${row_counts[ours]:-0}" -v plain="${row_counts[plain]:-0}" -v limit="$1" 'BEGIN {
+        print ours && plain ? sprintf("%.2f", ours / plain) (limit != "-" && ours * 100 > plain * limit ? "!" : "") : "-" }'
 }
 
 # The heads of a table of calls, whose first column is so wide and has that head.
@@ -102,7 +141,16 @@ heads() {
     echo
 }
 
-declare -A checks row_counts
+# The heads of a table of calls on maps: of the calls, of what each is divided by, of its limit, and of the versions.
+part_heads() {
+    printf "\n%-30s %8s %8s" "$1" "$2" "$3"
+    for version in $versions; do
+        printf ' %12s %8s %10s %8s' "$version" "a ${2%s}" ns stack
+    done
+    printf ' %8s' 'x plain'
+}
+
+declare -A checks row_counts held
 versions=$("$bench" versions)
 heads 18 call
 "$bench" calls | while read -r call function lent limit; do
@@ -143,6 +191,26 @@ fi
     done
     echo
 done
+
+part_heads 'maps: call@image+session' labels limit
+echo
+"$bench" maps | while read -r call function labels limit beside known; do
+    if [ -z "$known" ]; then continue; fi
+    printf '%-30s %8s %8s' "$call" "$labels" "$limit"
+    each_version label_columns "$known" "$call" "$function" "$labels" "$limit" "$beside"
+    printf ' %8s\n' "$(times_plain -)"
+done
+
+part_heads 'mapped reads: call@image' rows 'limit, %'
+echo '    of, %'
+"$bench" mapped-reads | while read -r call function rows limit beside known; do
+    if [ -z "$known" ]; then continue; fi
+    printf '%-30s %8s %8s' "$call" "$rows" "$limit"
+    each_version row_columns "$known" "$call" "$function" "$rows"
+    held[$call]=${row_counts[ours]:-0}
+    printf ' %8s %8s\n' "$(times_plain -)" "$(percent_of "$call" "$beside" "$limit")"
+done
+
 if [ $# = 0 ]; then set -- check read-10; fi
 for call in "$@"; do
     for version in $versions; do

@@ -5,13 +5,16 @@ use crate::images::Of;
 use crate::move_up;
 use crate::rows::{Room, Shape, NO_ROWS};
 use crate::scene::{Out, Scene};
+use crate::who::On;
 use brawnesk_tests::builder::Edition;
 use brawnesk_tests::ffi::{self, Answer};
+
+const VERSIONS: [&str; 3] = ["ours", "plain", "flat"];
 
 pub struct Asked {
     pub call: &'static Call,
     /// Nothing for the image that the call is mostly asked on.
-    pub on: Option<Of>,
+    pub on: Option<On>,
 }
 
 impl Asked {
@@ -23,20 +26,28 @@ impl Asked {
         };
         Some(Asked {
             call: Call::named(call)?,
-            on: Some(Of::named(image)?),
+            on: Some(On::named(image)?),
         })
     }
 
     /// All but the rows is of the largest image where none is told.
     pub fn scene(&self) -> Scene {
         let shape = self.call.shape.unwrap_or(NO_ROWS);
-        let of = self.on.unwrap_or(shape.of);
-        Scene::new(self.on.unwrap_or(Of::Full), &Shape { of, ..shape })
+        let on = self.on.unwrap_or(shape.on);
+        let image = self.on.unwrap_or(On::reader(Of::Full));
+        Scene::new(image, &Shape { on, ..shape })
+    }
+
+    /// The names of the versions that can be run, with a blank between them.
+    pub fn versions(&self) -> String {
+        let known = VERSIONS.into_iter();
+        let known = known.filter(|version| self.version(version).is_some());
+        known.collect::<Vec<_>>().join(" ")
     }
 
     /// Without the library ours can't be run. The plain versions know edition 1 only.
     pub fn version(&self, name: &str) -> Option<Version> {
-        let has_plain = self.on.is_none_or(|of| of.edition() == Edition::One);
+        let has_plain = self.on.is_none_or(|on| on.of.edition() == Edition::One);
         match name {
             "ours" => self.is_linked().then_some(self.call.ours),
             "plain" => self.call.plain.filter(|_| has_plain),

@@ -4,6 +4,7 @@
 use brawnesk_tests::calls::{Call, PairCall};
 use brawnesk_tests::compare::expected;
 use brawnesk_tests::ffi::{Answer, LABEL, SESSION};
+use brawnesk_tests::maps::MapCall;
 use brawnesk_tests::model::{self, accepted, Label};
 use brawnesk_tests::moving;
 use brawnesk_tests::row_calls::{Lent, RowCall};
@@ -108,6 +109,34 @@ pub fn masked(
     let mask = mask.to_vec();
     let call = RowCall::Masked { width, place, mask };
     call.by_model(&accepted(image), &mut lent)
+}
+
+pub fn read_mapped(
+    image: &[u8],
+    session: &[u8; SESSION],
+    table: &[u8],
+    width: usize,
+    map: &[u8],
+    out: &mut [u8],
+) -> Answer {
+    let mut lent = lent(session, table, out);
+    let map = map.to_vec();
+    let call = RowCall::ReadMapped { width, map };
+    let answer = call.by_model(&accepted(image), &mut lent);
+    out.copy_from_slice(&lent.buffer);
+    answer
+}
+
+pub fn map(image: &[u8], session: &[u8; SESSION], out: &mut [u8]) -> Answer {
+    let mut lent = lent(session, &[], out);
+    let answer = MapCall::Make.by_model(&accepted(image), &mut lent);
+    out.copy_from_slice(&lent.buffer);
+    answer
+}
+
+pub fn judge_map(image: &[u8], session: &[u8; SESSION], map: &[u8]) -> Answer {
+    let mut lent = lent(session, &[], &[]);
+    MapCall::Judge(map.to_vec()).by_model(&accepted(image), &mut lent)
 }
 
 fn lent(session: &[u8; SESSION], table: &[u8], buffer: &[u8]) -> Lent {

@@ -3,7 +3,7 @@
 use crate::by_model;
 use crate::move_up::MOVE_UP;
 use crate::plain::calls as plain;
-use crate::row_calls::ROW_CALLS;
+use crate::row_calls::{MAPPED_READS, ROW_CALLS};
 use crate::rows::Shape;
 use crate::scene::{Out, Scene};
 use brawnesk_tests::ffi::{self, Answer};
@@ -15,7 +15,8 @@ pub struct Call {
     /// The function's name in `ffi` and in `plain`. The C function has `brawnesk_` before it.
     pub function: &'static str,
     /// By how many percent of the check it may exceed the check. Of a row call: how many percent of
-    /// the plain version it may take.
+    /// the plain version it may take. Of a call on maps: how many instructions a label it may take beside a
+    /// may_read, or how many percent of the call that it is held beside.
     pub limit: Option<u32>,
     /// What a row call is lent.
     pub shape: Option<Shape>,
@@ -28,10 +29,10 @@ pub struct Call {
 /// Of each call its name, its limit, and its function with arguments that are the same for all
 /// versions.
 macro_rules! calls {
-    (|$scene:ident, $out:ident|
+    ($calls:ident: |$scene:ident, $out:ident|
         $($name:literal, $limit:expr => $function:ident($($argument:expr),*);)*) => {
         #[allow(unused_variables)]
-        pub const CALLS: &[Call] = &[$(
+        pub const $calls: &[Call] = &[$(
             Call {
                 name: $name,
                 function: stringify!($function),
@@ -51,8 +52,11 @@ const OPENING: Option<u32> = Some(5);
 const CHANGE: Option<u32> = Some(30);
 const GROUP: u8 = 3;
 
+/// How many instructions a label.
+const MAP: Option<u32> = Some(40);
+
 calls! {
-    |scene, out|
+    CALLS: |scene, out|
     "check", None => check(&scene.image);
     "name", None => name(&scene.image, GROUP, scene.last_group);
     "parse", None => parse(&scene.image, &scene.text, &mut out.label);
@@ -71,9 +75,18 @@ calls! {
     "merge", None => merge(&scene.last_label, &scene.text_label, b"LMU", &mut out.label);
 }
 
+// By the session of the rows.
+calls! {
+    MAP_CALLS: |scene, out|
+    "may-read", None => may_read(&scene.rows.image, &scene.rows.session, scene.unknown_tag);
+    "map", MAP => map(&scene.rows.image, &scene.rows.session, &mut out.map);
+    "judge-map", MAP => judge_map(&scene.rows.image, &scene.rows.session, &scene.rows.map);
+}
+
 impl Call {
     pub fn named(name: &str) -> Option<&'static Call> {
         let calls = CALLS.iter().chain(ROW_CALLS).chain([&MOVE_UP]);
+        let calls = calls.chain(MAP_CALLS).chain(MAPPED_READS);
         calls.into_iter().find(|call| call.name == name)
     }
 

@@ -1,7 +1,7 @@
 //! The images that calls are lent, by their policies.
 
 use crate::rows::reader;
-use brawnesk_tests::builder::{full, random_with, sample};
+use brawnesk_tests::builder::{full, random, random_with, sample};
 use brawnesk_tests::builder::{Edition, Label, Policy, Rights, Set, Sizes, Tree};
 use brawnesk_tests::rng::Rng;
 
@@ -19,6 +19,8 @@ pub enum Of {
     ParentLower,
     /// The same, but all groups but two stand right under one of these.
     Wide,
+    /// The largest of edition 2 in the release profile.
+    Release,
     /// The largest of edition 1 that can be moved up: as many labels and users as edition 2 may have, and
     /// nobody holds COMPACCESS.
     Movable,
@@ -26,10 +28,12 @@ pub enum Of {
 
 impl Of {
     /// The images that a call can be asked on by name.
-    pub const NAMED: [(&'static str, Of); 4] = [
+    pub const NAMED: [(&'static str, Of); 6] = [
+        ("full", Of::Full),
         ("parent-higher", Of::ParentHigher),
         ("parent-lower", Of::ParentLower),
         ("wide", Of::Wide),
+        ("release", Of::Release),
         ("movable", Of::Movable),
     ];
 
@@ -46,13 +50,14 @@ impl Of {
             Of::ParentHigher => largest(Tree::ParentHigher),
             Of::ParentLower => largest(Tree::ParentLower),
             Of::Wide => largest(Tree::Wide),
+            Of::Release => random(Sizes::full(Edition::Two.release()), &mut Rng::new(SEED)),
             Of::Movable => movable(),
         }
     }
 
     pub fn edition(self) -> Edition {
         match self {
-            Of::ParentHigher | Of::ParentLower | Of::Wide => Edition::Two,
+            Of::ParentHigher | Of::ParentLower | Of::Wide | Of::Release => Edition::Two,
             Of::Full | Of::Lean | Of::Sample | Of::Movable => Edition::One,
         }
     }

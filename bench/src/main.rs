@@ -7,6 +7,10 @@
 //! - `bench edition-2`: a line for each call on the largest images of edition 2 and for the move up: its
 //!   name, which is the call's, @ and the image's; its function, its limit in percent over the check of
 //!   that image (else `-`), and the versions that can be run.
+//! - `bench maps`: a line for each call that makes or judges a map, and for those that they are held beside: its
+//!   name, with @, the image's, + and whose session it is; its function, how many labels there are, its limit
+//!   in instructions a label, the call that it is held beside (else `-` for both), and the versions.
+//! - `bench mapped-reads`: the same of mapped reads, with how many rows there are and limits in percent.
 //! - `bench versions`: the versions that can be run of the other calls, `ours` and `plain`.
 //! - `bench scene`: which users, tags and texts the calls are lent.
 //! - `bench VERSION CALL N`: N calls, to be counted from outside; see `run.sh`.
@@ -20,24 +24,26 @@ mod by_model;
 mod calls;
 mod edition_2;
 mod images;
+mod maps;
 mod move_up;
 mod plain;
 mod row_calls;
 mod rows;
 mod scene;
 mod stack;
+mod who;
 
 use asked::Asked;
 use brawnesk_tests::ffi::Answer;
 use calls::{Call, Version, CALLS};
 use images::Of;
+use maps::Line;
 use row_calls::ROW_CALLS;
 use rows::{Rows, NO_ROWS};
 use scene::{Out, Scene};
 use std::hint::black_box;
 use std::time::Instant;
-
-const VERSIONS: [&str; 3] = ["ours", "plain", "flat"];
+use who::On;
 
 const FIRST: Asked = Asked {
     call: &CALLS[0],
@@ -91,17 +97,10 @@ fn list_calls() {
     }
 }
 
-/// The versions of a call, with a blank between them.
-fn versions(asked: &Asked) -> String {
-    let known = VERSIONS.into_iter();
-    let known = known.filter(|version| asked.version(version).is_some());
-    known.collect::<Vec<_>>().join(" ")
-}
-
 fn list_row_calls() {
     for call in ROW_CALLS {
         let rows = call.shape.map_or(0, |shape| shape.rows);
-        let (limit, versions) = (limit(call), versions(&Asked { call, on: None }));
+        let (limit, versions) = (limit(call), Asked { call, on: None }.versions());
         println!("{} {} {rows} {limit} {versions}", call.name, call.function);
     }
 }
@@ -117,25 +116,44 @@ fn list_edition_2() {
         println!(
             "{name} {} {limit} {}",
             asked.call.function,
-            versions(&asked)
+            asked.versions()
+        );
+    }
+}
+
+/// A limit is told only beside another call, and a count of what the call is divided by.
+fn list_held(lines: Vec<Line>, count: fn(&Asked) -> usize) {
+    for line in lines {
+        let (name, call, versions) = (&line.name, line.asked.call, line.asked.versions());
+        let limit = line.beside.as_ref().map(|_| limit(call));
+        let [limit, beside] = [limit, line.beside].map(|told| told.unwrap_or("-".to_string()));
+        let count = count(&line.asked);
+        println!(
+            "{name} {} {count} {limit} {beside} {versions}",
+            call.function
         );
     }
 }
 
 fn show_scenes() {
-    show_scene(&Scene::new(Of::Full, &NO_ROWS));
+    show_scene(&Scene::new(On::reader(Of::Full), &NO_ROWS));
     for call in ROW_CALLS {
         show_rows(call.name, &Asked { call, on: None }.scene().rows);
     }
-    for (name, of) in Of::NAMED {
+    let others = Of::NAMED.iter().filter(|(_, of)| *of != Of::Full);
+    for &(name, of) in others {
         println!("\n{name}:");
-        show_scene(&Scene::new(of, &NO_ROWS));
+        show_scene(&Scene::new(On::reader(of), &NO_ROWS));
     }
     for name in edition_2::names() {
         let asked = Asked::named(&name).expect("its name is known");
         if asked.call.shape.is_some() {
             show_rows(&name, &asked.scene().rows);
         }
+    }
+    println!();
+    for line in maps::all().filter(|line| line.beside.is_some()) {
+        show_rows(&line.name, &line.asked.scene().rows);
     }
 }
 
@@ -193,11 +211,14 @@ fn main() {
         ["calls"] => list_calls(),
         ["row-calls"] => list_row_calls(),
         ["edition-2"] => list_edition_2(),
-        ["versions"] => println!("{}", versions(&FIRST)),
+        ["maps"] => list_held(maps::made_and_judged(), maps::labels),
+        ["mapped-reads"] => list_held(maps::reads(), maps::rows),
+        ["versions"] => println!("{}", FIRST.versions()),
         ["scene"] => show_scenes(),
         [version, call, task] => measure(version, call, task),
         _ => {
-            panic!("usage: bench calls|row-calls|edition-2|versions|scene | bench VERSION CALL N|time|stack")
+            let lists = "calls|row-calls|edition-2|maps|mapped-reads|versions|scene";
+            panic!("usage: bench {lists} | bench VERSION CALL N|time|stack")
         }
     }
 }

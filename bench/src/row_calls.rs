@@ -1,4 +1,4 @@
-//! The measured row calls, each by the library and by the plain version, and reads by the flat one too.
+//! The measured row calls, each by the library and by the plain version, and plain reads by the flat one too.
 
 use crate::by_model;
 use crate::calls::{Call, Version};
@@ -6,9 +6,11 @@ use crate::images::Of;
 use crate::plain::calls as plain;
 use crate::rows::{Room, Shape};
 use crate::scene::{Out, Scene};
+use crate::who::On;
 use brawnesk_tests::ffi::{self, Answer, SESSION};
 
 type Read = fn(&[u8], &[u8; SESSION], &[u8], usize, &mut [u8]) -> Answer;
+type ReadMapped = fn(&[u8], &[u8; SESSION], &[u8], usize, &[u8], &mut [u8]) -> Answer;
 type Update = fn(&[u8], &[u8; SESSION], &mut [u8], usize, usize, &[u8]) -> Answer;
 type Masked = fn(&[u8], &[u8; SESSION], &[u8], usize, usize, &[u8]) -> Answer;
 
@@ -16,6 +18,12 @@ fn read_by(read: Read, scene: &Scene, out: &mut Out) -> Answer {
     let rows = &scene.rows;
     let (image, session) = (&rows.image, &rows.session);
     read(image, session, &rows.table, rows.width, &mut out.rows)
+}
+
+fn mapped_by(read: ReadMapped, scene: &Scene, out: &mut Out) -> Answer {
+    let rows = &scene.rows;
+    let (image, session, table) = (&rows.image, &rows.session, &rows.table);
+    read(image, session, table, rows.width, &rows.map, &mut out.rows)
 }
 
 /// The last readable row.
@@ -37,6 +45,11 @@ fn masked_by(masked: Masked, scene: &Scene) -> Answer {
 /// rows cost less than the check, which has limits of its own.
 const OF_PLAIN: Option<u32> = Some(120);
 
+/// A mapped read of a large table takes at most what the plain read of it does, and one of few rows 5 % more
+/// than judging its map.
+const OF_READ: Option<u32> = Some(100);
+const OF_JUDGING: Option<u32> = Some(105);
+
 const fn read(name: &'static str, limit: Option<u32>, shape: Shape) -> Call {
     let flat: Version = |scene, out| read_by(plain::read_flat, scene, out);
     Call {
@@ -48,6 +61,19 @@ const fn read(name: &'static str, limit: Option<u32>, shape: Shape) -> Call {
         plain: Some(|scene, out| read_by(plain::read, scene, out)),
         flat: Some(flat),
         model: |scene, out| read_by(by_model::read, scene, out),
+    }
+}
+
+const fn mapped(name: &'static str, limit: Option<u32>, shape: Shape) -> Call {
+    Call {
+        name,
+        function: "read_mapped",
+        limit,
+        shape: Some(shape),
+        ours: |scene, out| mapped_by(ffi::read_mapped, scene, out),
+        plain: Some(|scene, out| mapped_by(plain::read_mapped, scene, out)),
+        flat: None,
+        model: |scene, out| mapped_by(by_model::read_mapped, scene, out),
     }
 }
 
@@ -80,7 +106,7 @@ const fn masked(name: &'static str, shape: Shape) -> Call {
 /// As many rows of the width as 1 MiB holds.
 const fn largest(width: usize, room: Room) -> Shape {
     Shape {
-        of: Of::Full,
+        on: On::reader(Of::Full),
         width,
         rows: (1 << 20) / width,
         room,
@@ -90,7 +116,7 @@ const fn largest(width: usize, room: Room) -> Shape {
 /// Rows of 10 bytes, read to a buffer as long as they are.
 const fn tens(of: Of, rows: usize) -> Shape {
     Shape {
-        of,
+        on: On::reader(of),
         width: 10,
         rows,
         room: Room::Table,
@@ -109,6 +135,7 @@ pub const ROW_CALLS: &[Call] = &[
     masked("masked-10", largest(10, Room::Table)),
     masked("masked-64", largest(64, Room::Table)),
     read("rows-0", None, tens(Of::Full, 0)),
+    read("rows-20", None, tens(Of::Full, 20)),
     read("rows-1000", None, tens(Of::Full, 1_000)),
     read("rows-10000", None, tens(Of::Full, 10_000)),
     read("rows-100000", None, tens(Of::Full, 100_000)),
@@ -116,6 +143,12 @@ pub const ROW_CALLS: &[Call] = &[
     read("lean-10000", None, tens(Of::Lean, 10_000)),
     read("sample-0", None, tens(Of::Sample, 0)),
     read("sample-10000", None, tens(Of::Sample, 10_000)),
+];
+
+pub const MAPPED_READS: &[Call] = &[
+    mapped("mapped-20", OF_JUDGING, tens(Of::Full, 20)),
+    mapped("mapped-10", OF_READ, largest(10, Room::Table)),
+    mapped("mapped-64", OF_READ, largest(64, Room::Table)),
 ];
 
 #[cfg(test)]
@@ -126,7 +159,7 @@ mod tests {
     /// All versions agree; a read gives the rows that the scene tells of, and the last row is one of them.
     #[test]
     fn answers_are_as_told() {
-        for call in ROW_CALLS {
+        for call in ROW_CALLS.iter().chain(MAPPED_READS) {
             let asked = Asked { call, on: None };
             let scene = asked.scene();
             let wanted = match (call.function, call.shape.map(|shape| shape.room)) {
@@ -134,7 +167,7 @@ mod tests {
                     number: 13,
                     place: 0,
                 },
-                ("read", _) => Answer::Done(scene.rows.readable as u64),
+                ("read" | "read_mapped", _) => Answer::Done(scene.rows.readable as u64),
                 ("masked", _) => Answer::Done(1),
                 _ => Answer::Done(0),
             };

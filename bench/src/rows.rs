@@ -1,16 +1,18 @@
-//! What the row calls are lent: an image, a session that reads 70 % of a table's rows, the table, and
-//! the length of a read's buffer.
+//! What the row calls are lent: an image, a session that reads 70 % of a table's rows, or all, its map, the
+//! table, and the length of a read's buffer.
 
 use crate::images::Of;
-use brawnesk_tests::builder::{to_image, Label, Policy, User};
+use crate::who::On;
+use brawnesk_tests::builder::{to_image, Label, Policy, Profile, User};
 use brawnesk_tests::ffi::SESSION;
 use brawnesk_tests::model;
 use brawnesk_tests::rng::Rng;
 
+pub const READ: u8 = 1;
 pub const READ_OR_FULL: u8 = 3;
 const COMPACCESS: u8 = 4;
 
-/// How many of a hundred rows are readable.
+/// How many of a hundred rows are readable, for a session that doesn't read all tags.
 const SHARE: usize = 70;
 
 #[derive(Clone, Copy)]
@@ -25,8 +27,8 @@ pub enum Room {
 
 #[derive(Clone, Copy)]
 pub struct Shape {
-    /// The image that the table stands beside.
-    pub of: Of,
+    /// The image that the table stands beside, and whose session reads it.
+    pub on: On,
     pub width: usize,
     pub rows: usize,
     pub room: Room,
@@ -34,7 +36,7 @@ pub struct Shape {
 
 /// What calls without a table are lent.
 pub const NO_ROWS: Shape = Shape {
-    of: Of::Full,
+    on: On::reader(Of::Full),
     width: 10,
     rows: 0,
     room: Room::Table,
@@ -42,8 +44,8 @@ pub const NO_ROWS: Shape = Shape {
 
 pub struct Rows {
     pub image: Vec<u8>,
-    /// Opened for a user with neither READ nor FULL.
     pub session: [u8; SESSION],
+    pub map: Vec<u8>,
     /// How many tags the session reads, of how many.
     pub tags: (usize, usize),
     pub table: Vec<u8>,
@@ -59,20 +61,21 @@ pub struct Rows {
 impl Rows {
     pub fn new(shape: &Shape) -> Rows {
         let Shape { width, rows, .. } = *shape;
-        let policy = shape.of.policy();
+        let policy = shape.on.policy();
         let image = to_image(&policy);
         let accepted = model::accepted(&image).expect("the image keeps all rules");
-        let user = reader(&policy);
+        let user = shape.on.who.user(&policy);
         let session = model::open(&accepted, user.name.as_bytes()).expect("a user of the image");
         let tags = Tags::new(&policy, user);
         let is_writable = |tag: &&u32| model::may_write(&accepted, &session, **tag) == Ok(true);
         let writable = tags.readable.iter().find(is_writable);
         let last = *writable.expect("a tag that is readable and writable");
-        let readable = rows * SHARE / 100;
+        let readable = tags.count_of(rows);
         let result = readable * width;
         let mut rng = Rng::new(1);
         Rows {
             session: session.to_bytes(),
+            map: tags.map(&policy),
             tags: (tags.readable.len(), policy.labels.len()),
             table: tags.table(width, rows, last, &mut rng),
             width,
@@ -98,8 +101,7 @@ pub fn reader(policy: &Policy) -> &User {
     reader.expect("there is such a user")
 }
 
-/// The tags of an image by the verdicts of a session that is opened for a user with neither READ nor
-/// FULL.
+/// The tags of an image by the verdicts of a session that is opened for a user.
 struct Tags {
     readable: Vec<u32>,
     hidden: Vec<u32>,
@@ -107,13 +109,18 @@ struct Tags {
 
 impl Tags {
     fn new(policy: &Policy, user: &User) -> Tags {
-        let below = policy.below(user.groups.default);
+        let groups = user.groups.default;
+        let below = policy.below(groups);
         let has_compaccess = user.privileges & COMPACCESS != 0;
+        let by_groups = |label: &Label| match policy.profile {
+            Profile::Tree => label.groups.is_empty() || label.groups.meets(below),
+            Profile::Release => groups.is_in(label.groups),
+        };
         let is_readable = |label: &&Label| {
-            let by_groups = label.groups.is_empty() || label.groups.meets(below);
-            label.level <= user.levels.default
+            let by_label = label.level <= user.levels.default
                 && label.compartments.is_in(user.compartments.default)
-                && (by_groups || has_compaccess && !label.compartments.is_empty())
+                && (by_groups(label) || has_compaccess && !label.compartments.is_empty());
+            user.privileges & READ_OR_FULL != 0 || by_label
         };
         let (readable, hidden): (Vec<_>, Vec<_>) = policy.labels.iter().partition(is_readable);
         let tags = |labels: Vec<&Label>| labels.iter().map(|label| label.tag).collect();
@@ -123,9 +130,27 @@ impl Tags {
         }
     }
 
+    /// How many of so many rows are readable.
+    fn count_of(&self, rows: usize) -> usize {
+        match self.hidden.is_empty() {
+            true => rows,
+            false => rows * SHARE / 100,
+        }
+    }
+
+    /// A bit for each label; both the labels and the readable tags rise.
+    fn map(&self, policy: &Policy) -> Vec<u8> {
+        let bit = |label: &Label| u8::from(self.readable.binary_search(&label.tag).is_ok());
+        let byte = |labels: &[Label]| {
+            let bits = labels.iter().zip(0..);
+            bits.fold(0, |byte, (label, place)| byte | bit(label) << place)
+        };
+        policy.labels.chunks(8).map(byte).collect()
+    }
+
     /// Rows in no order, but for the last one's tag.
     fn table(&self, width: usize, rows: usize, last: u32, rng: &mut Rng) -> Vec<u8> {
-        let kind = |row: usize| match row < rows * SHARE / 100 {
+        let kind = |row: usize| match row < self.count_of(rows) {
             true => &self.readable,
             false => &self.hidden,
         };

@@ -1,11 +1,12 @@
 //! What the measured calls are lent: a largest image, and sessions, tags, texts and labels for it. All
 //! of it is made from the builder's policy and by the model, so it is there without the library too.
 
-use crate::images::Of;
 use crate::move_up::LONGEST;
 use crate::rows::{Rows, Shape, READ_OR_FULL};
-use brawnesk_tests::builder::{to_image, Component, Label, Policy, Set, User};
+use crate::who::On;
+use brawnesk_tests::builder::{to_image, Component, Label, Policy, Profile, Set, User};
 use brawnesk_tests::ffi::{LABEL, SESSION};
+use brawnesk_tests::maps::facts;
 use brawnesk_tests::model::{self, Image};
 
 pub struct Scene {
@@ -38,8 +39,8 @@ pub struct Scene {
 
 impl Scene {
     /// What a call on an image is lent. Only the rows differ from call to call.
-    pub fn new(of: Of, rows: &Shape) -> Scene {
-        let policy = of.policy();
+    pub fn new(on: On, rows: &Shape) -> Scene {
+        let policy = on.policy();
         let image = to_image(&policy);
         let accepted = model::accepted(&image).expect("the image keeps all rules");
         let last = policy.labels.last().expect("there are labels");
@@ -83,6 +84,8 @@ pub struct Out {
     pub table: Vec<u8>,
     /// For a move up.
     pub image: Vec<u8>,
+    /// As long as the longest map.
+    pub map: Vec<u8>,
 }
 
 impl Out {
@@ -94,6 +97,7 @@ impl Out {
             rows: vec![b'#'; scene.rows.room],
             table: scene.rows.table.clone(),
             image: vec![b'#'; LONGEST],
+            map: vec![b'#'; facts::LONGEST],
         }
     }
 
@@ -109,15 +113,19 @@ fn opened(image: &Image, user: &User) -> model::Session {
 }
 
 /// The last user that verdicts go by labels for and that may write 3 compartments and 3 groups when
-/// opened; with the label of the default level and of the lowest, the middle and the highest of both.
+/// opened; with the label of the default level and of the lowest, the middle and the highest of both. In the
+/// release profile a row label has the session's groups; there are some.
 fn typical(policy: &Policy) -> (&User, Label) {
+    let groups = |user: &User| match policy.profile {
+        Profile::Tree => three(policy.below(user.groups.default) & policy.below(user.groups.write)),
+        Profile::Release => Some(user.groups.default).filter(|set| !set.is_empty()),
+    };
     let label = |user: &User| {
-        let groups = policy.below(user.groups.default) & policy.below(user.groups.write);
         Some(Label {
             tag: 0,
             level: user.levels.default,
             compartments: three(user.compartments.default & user.compartments.write)?,
-            groups: three(groups)?,
+            groups: groups(user)?,
         })
     };
     let mut users = policy.users.iter().rev();

@@ -5,7 +5,7 @@ use super::label::{Label, Session};
 use super::policy::{Class, Policy};
 use super::reader::{Flat, Reader};
 use super::sessions::{self, Lent};
-use super::{rows, text, two_labels, verdicts};
+use super::{maps, rows, text, two_labels, verdicts};
 use brawnesk_tests::compare::expected;
 use brawnesk_tests::ffi::{Answer, LABEL, SESSION};
 use brawnesk_tests::model::Refusal;
@@ -139,6 +139,36 @@ pub fn masked(
     let verdict = lent(image, session)
         .and_then(|(policy, lent)| rows::masked(&policy, &lent, table, width, place));
     expected(verdict.map(u64::from))
+}
+
+#[inline(never)]
+pub fn map(image: &[u8], session: &[u8; SESSION], out: &mut [u8]) -> Answer {
+    let length = lent(image, session)
+        .and_then(|(policy, lent)| maps::write(&Reader::new(&policy, &lent), out));
+    expected(length.map(|length| length as u64))
+}
+
+#[inline(never)]
+pub fn judge_map(image: &[u8], session: &[u8; SESSION], map: &[u8]) -> Answer {
+    let judged = lent(image, session)
+        .and_then(|(policy, lent)| maps::judge(&Reader::new(&policy, &lent), map));
+    expected(judged.map(|()| 0))
+}
+
+#[inline(never)]
+pub fn read_mapped(
+    image: &[u8],
+    session: &[u8; SESSION],
+    table: &[u8],
+    width: usize,
+    map: &[u8],
+    out: &mut [u8],
+) -> Answer {
+    let count = lent(image, session).and_then(|(policy, lent)| {
+        let reader = Reader::new(&policy, &lent);
+        rows::read_mapped(&reader, table, width, map, out)
+    });
+    expected(count.map(|count| count as u64))
 }
 
 #[inline(never)]

@@ -21,9 +21,25 @@ impl<'a> Labels<'a> {
         &self.blocks[place / 21][4 + place % 21 * 24..][..24]
     }
 
-    /// The label under a tag. Tags rise, so the range is halved until the first tag is left that is not
-    /// below this one. Equal tags on the way don't end it: asking for them costs more.
+    /// The label under a tag.
     pub fn with(&self, tag: u32) -> Option<Label> {
+        let low = self.first_from(tag);
+        let found = (low < self.count).then(|| self.record(low));
+        let found = found.filter(|record| tag_of(record) == tag);
+        found.map(Label::of_record)
+    }
+
+    /// The place of the record that has a tag.
+    pub fn place_of(&self, tag: u32) -> Option<usize> {
+        let low = self.first_from(tag);
+        let found = (low < self.count).then_some(low);
+        found.filter(|&place| tag_of(self.record(place)) == tag)
+    }
+
+    /// The place of the first tag that is not below this one. Tags rise, so the range is halved until it is
+    /// left. Equal tags on the way don't end it: asking for them costs more.
+    #[inline(always)]
+    fn first_from(&self, tag: u32) -> usize {
         let (mut low, mut high) = (0, self.count);
         while low < high {
             let middle = (low + high) / 2;
@@ -33,9 +49,7 @@ impl<'a> Labels<'a> {
                 high = middle;
             }
         }
-        let found = (low < self.count).then(|| self.record(low));
-        let found = found.filter(|record| tag_of(record) == tag);
-        found.map(Label::of_record)
+        low
     }
 }
 

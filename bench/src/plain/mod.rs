@@ -8,6 +8,7 @@ pub mod calls;
 mod groups;
 mod label;
 mod labels;
+mod maps;
 mod policy;
 mod reader;
 mod records;

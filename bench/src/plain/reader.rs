@@ -8,8 +8,9 @@ use super::verdicts::{COMPACCESS, FULL, READ};
 
 /// The label of each tag is sought in the image.
 pub struct Reader<'a> {
-    labels: Labels<'a>,
-    reads_all: bool,
+    pub labels: Labels<'a>,
+    /// Unknown tags too.
+    pub reads_all: bool,
     has_compaccess: bool,
     level: u8,
     compartments: u64,
@@ -35,7 +36,7 @@ impl<'a> Reader<'a> {
         self.reads_all || row().is_some_and(|row| self.is_readable(&row))
     }
 
-    fn is_readable(&self, row: &Label) -> bool {
+    pub fn is_readable(&self, row: &Label) -> bool {
         let by_groups = row.groups == 0 || row.groups & self.groups != 0;
         row.level <= self.level
             && row.compartments & !self.compartments == 0

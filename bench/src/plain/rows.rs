@@ -1,7 +1,8 @@
-//! A table's rows under a session: reading, updating, masked reading. What the session gives is found
+//! A table's rows under a session: reading, also by a map, updating, masked reading. What the session gives is found
 //! once for a call; the label of each row's tag is sought in the image.
 
 use super::labels::tag_of;
+use super::maps;
 use super::policy::Policy;
 use super::reader::Reader;
 use super::sessions::Lent;
@@ -28,6 +29,19 @@ pub fn read(
         count += 1;
     }
     Ok(count)
+}
+
+/// The same by a map, which is judged first.
+pub fn read_mapped(
+    reader: &Reader,
+    table: &[u8],
+    width: usize,
+    map: &[u8],
+    buffer: &mut [u8],
+) -> Result<usize, Refusal> {
+    has_width(table, width)?;
+    maps::judge(reader, map)?;
+    read(table, width, buffer, |tag| maps::may_read(reader, map, tag))
 }
 
 pub fn update(

@@ -6,6 +6,7 @@ use brawnesk_tests::calls::{Call, PairCall};
 use brawnesk_tests::cases::Case;
 use brawnesk_tests::compare::expected;
 use brawnesk_tests::ffi::LABEL;
+use brawnesk_tests::maps::{each_map_call, MapCall};
 use brawnesk_tests::rng::Rng;
 use brawnesk_tests::row_calls::RowCall;
 use brawnesk_tests::{model, pairs, tables, texts, walk};
@@ -134,6 +135,28 @@ fn rows() {
                 RowCall::Masked { width, place, mask } => {
                     calls::masked(image, session, table, *width, *place, mask)
                 }
+                RowCall::ReadMapped { width, map } => {
+                    calls::read_mapped(image, session, table, *width, map, &mut lent.buffer)
+                }
+            };
+            assert_eq!(answer, step.answer, "seed {seed}: {call:?}");
+            assert!(lent == step.after, "seed {seed}: {call:?}");
+        });
+    }
+}
+
+#[test]
+fn maps() {
+    for seed in 0..1_000 {
+        each_map_call(Edition::One, seed, 40, |step| {
+            if !is_known(step.image) {
+                return;
+            }
+            let (image, call, mut lent) = (step.image, &step.call, step.lent.clone());
+            let answer = match call {
+                MapCall::Make => calls::map(image, &lent.session, &mut lent.buffer),
+                MapCall::Judge(map) => calls::judge_map(image, &lent.session, map),
+                MapCall::Read(_) => panic!("no rows are read here"),
             };
             assert_eq!(answer, step.answer, "seed {seed}: {call:?}");
             assert!(lent == step.after, "seed {seed}: {call:?}");
