@@ -18,7 +18,6 @@ use Rattle.buffers.specs.Pasting.{atFront}
 use Rattle.buffers.proofs.FrontWritten.{FrontDone, checked-done}
 use Rattle.header.specs.declared.edition.Edition.the-variants.{One, Two}
 use Rattle.header.specs.Layout.{editionOf, labels, labelRecord}
-use Rattle.header.proofs.Editions.{counted-labels}
 use Rattle.records.specs.Fields.{tagOf}
 use Rattle.image.specs.Lookup.{labelOfTag}
 use Rattle.image.specs.Check.{IsAccepted}
@@ -84,8 +83,7 @@ map-no-room im s buffer accepted short =
     rw (accepted, bits.map-long im (sessionRights im s), lt-leb (mapLength im) (length buffer) short)
 
 pub map-at-most : (im : List ℕ) → IsAccepted im → mapLength im ≤ 210
-unfolding mapLength
-map-at-most im acc = omega (arith, counted-labels im (accepted-counted im acc))
+map-at-most im acc = bits.map-at-most im (accepted-counted im acc)
 
 -- Where `make_map` is done, the front of the buffer is the map, of the length that is told, and later bytes stay.
 pub map-made : (im : List ℕ) (s : SessionMarks) (buffer after : List ℕ) (n : ℕ) → makeMapOf im s buffer ≡ (filled.Done n, after)

@@ -16,6 +16,8 @@ use Rattle.sets.specs.Sets.{has}
 use Rattle.sets.proofs.Has.{none-has, has-ext, collect-below, collect-has}
 use Rattle.sets.proofs.Bounds.{below-lacks}
 use Rattle.header.specs.Layout.{labels}
+use Rattle.header.specs.Limits.{Counted}
+use Rattle.header.proofs.Editions.{counted-labels}
 use Rattle.access.specs.Rights.{Rights}
 use Rattle.maps.specs.Map.{bitOf, readsRecord, mapLength, mapByte, mapOf, mapRule}
 
@@ -107,3 +109,8 @@ module _ (im : List ℕ) (rights : Rights) where
   pub map-unique : (bits : List ℕ) → length bits ≡ mapLength im → ((k : ℕ) → byteAt bits k < 256)
       → ((p : ℕ) → bitOf bits p ≡ readsRecord im rights p) → bits ≡ mapOf im rights
   map-unique bits long small right = ext-getD 0 bits (mapOf im rights) (long ∙ sym map-long) (λ k h. byte-same bits small right k)
+
+-- no map is longer than that of 1,680 labels
+pub map-at-most : (im : List ℕ) → Counted im → mapLength im ≤ 210
+unfolding mapLength
+map-at-most im k = omega (arith, counted-labels im k)

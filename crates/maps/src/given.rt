@@ -10,6 +10,7 @@ ghost use Rattle.maps.specs.Map.{bitOf, mapLength, mapOf, mapRule};
 use crate::byte::map_byte;
 use access::rights::View;
 use buffers::answers::Filled;
+use fields::names::same_name;
 use header::edition::edition_of;
 use header::layout;
 use header::layout::Kind;
@@ -60,7 +61,7 @@ pub(crate) fn write_map(image: &[u8], view: View, buffer: &mut [u8]) -> Filled
     Filled::Done(length)
 }
 
-// Are those bytes the map?
+// Are those bytes the map? It is made and compared: no map is longer than 210 bytes.
 pub fn is_map(image: &[u8], view: View, bits: &[u8]) -> bool
     requires { ⌜ Counted (now image) ⌝ }
     ensures { λ r. ⌜ r ≡ mapRule (now (image .entry)) (rightsOf view) (now (bits .entry)) ⌝ }
@@ -69,14 +70,7 @@ pub fn is_map(image: &[u8], view: View, bits: &[u8]) -> bool
     if bits.len() != count {
         return false;
     }
-    let shape = layout::shape_of(image, Kind::Label);
-    let edition = edition_of(image);
-    let mut k = 0;
-    while k < count {
-        if bits[k] != map_byte(image, view, shape, edition, k) {
-            return false;
-        }
-        k += 1;
-    }
-    true
+    let mut made = [0u8; 210];
+    let end = put_map(image, view, &mut made);
+    same_name(bits, &made[0..end])
 }
