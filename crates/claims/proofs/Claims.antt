@@ -1,6 +1,6 @@
 -- The main theorems of the library, each stated in full over definitions of specs (and `EveryRule`, which says the image's rules in places,
 -- `withCompaccess`, and `MovedBy` and `ClearedBy`, which say what a move keeps), and proved by citing where it is proved. A reader who wants to know what
--- is claimed can begin here; those on maps stand in MapClaims. Assumes nothing.
+-- is claimed can begin here; those on maps stand in MapClaims, those on small letters in TextClaims. Assumes nothing.
 use Prim.Native.Nat.{ℕ, suc, _≤_, _<_}
 use mathlib.Core.Path.{_≡_, refl, sym, _∙_}
 use mathlib.Core.Bool.{true, false}

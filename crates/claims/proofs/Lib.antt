@@ -3,6 +3,7 @@
 --     MaraDominates   an instance of that on the sample
 --     Moves           when a move up is done or refused, and the sample moved up
 --     MapClaims       the main theorems on maps
+--     TextClaims      the main theorems on small letters in label text
 --     Held            the session that any bytes stand for, and the C functions on them
 --     CFunctions      hidden rows stay hidden from who calls the C functions
 --     CInstance       an instance of that on the sample
@@ -11,6 +12,7 @@ pub mod ReadsDominated
 pub mod MaraDominates
 pub mod Moves
 pub mod MapClaims
+pub mod TextClaims
 pub mod Held
 pub mod CFunctions
 pub mod CInstance

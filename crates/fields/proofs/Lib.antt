@@ -4,3 +4,4 @@ pub mod Meaning
 pub mod Scan
 pub mod PlacesWhere
 pub mod Words
+pub mod Folding

@@ -1,9 +1,11 @@
--- Names: their alphabet, the field that holds one, equality and order.
+-- Names: their alphabet, the field that holds one, equality, order, and small letters taken as capitals.
 use Prim.Native.Nat.{ℕ, _+_, _-_}
-use mathlib.Core.Bool.{Bool, true, false, _&&_, _||_}
-use mathlib.Core.List.{List, [], _∷_}
+use mathlib.Core.Bool.{Bool, true, false, cond, _&&_, _||_}
+use mathlib.Core.List.{List, [], _∷_, map}
 use lib.Dec.{eqb, leb, ltb}
 use Rattle.fields.specs.Bytes.{byteAt, part, all, allZero}
+use Rattle.fields.specs.declared.names.Letters.{Letters}
+use Rattle.fields.specs.declared.names.Letters.the-variants.{Exact, Folded}
 
 -- A..Z, 0..9 and underscore
 unfoldable pub nameByte : ℕ → Bool
@@ -29,6 +31,24 @@ sameBytes [] (y ∷ ys) = false
 sameBytes (x ∷ xs) [] = false
 sameBytes (x ∷ xs) (y ∷ ys) = eqb x y && sameBytes xs ys
 
+-- ---- small letters, which label text may have (request R-9) and images have not
+-- a..z
+unfoldable pub smallLetter : ℕ → Bool
+smallLetter x = leb 97 x && leb x 122
+
+-- a small letter is taken as its capital, any other byte as it is
+unfoldable pub folded : ℕ → ℕ
+folded x = cond (smallLetter x) (x - 32) x
+
+abbrev pub foldedName : List ℕ → List ℕ
+foldedName = map folded
+
+-- a name as it is compared with an image's: in its letters, or folded
+abbrev pub inLetters : Letters → List ℕ → List ℕ
+inLetters Exact name = name
+inLetters Folded name = foldedName name
+
+-- ---- order
 -- the first name comes before the second in byte order; of two names of which one begins the other, the shorter is lower
 unfoldable pub nameBefore : List ℕ → List ℕ → Bool
 nameBefore [] [] = false

@@ -1,8 +1,8 @@
-// Names: their alphabet, the field that holds one, equality and order.
+// Names: their alphabet, the field that holds one, equality, order, and small letters taken as capitals.
 ghost use Prim.Native.Nat.{_+_, _<_};
 ghost use mathlib.Core.Path.{_≡_};
 ghost use lib.ListN.{length};
-ghost use Rattle.fields.specs.Names.{nameByte, allNameBytes, nameIn, nameRule, sameBytes, nameBefore};
+ghost use Rattle.fields.specs.Names.{nameByte, allNameBytes, nameIn, nameRule, sameBytes, smallLetter, folded, foldedName, inLetters, nameBefore};
 use crate::numbers::all_zero;
 
 // A..Z, 0..9 and underscore; most are letters, so those leave first.
@@ -69,6 +69,53 @@ pub fn same_name(a: &[u8], b: &[u8]) -> bool
         i += 1;
     }
     true
+}
+
+// In which letters a name is compared with an image's: in its own, or, if it stands in a label's text, with small ones taken as capitals.
+pub enum Letters {
+    Exact,
+    Folded,
+}
+
+// a..z
+pub fn small_letter(x: u8) -> bool
+    ensures { λ r. ⌜ r ≡ smallLetter x ⌝ }
+{
+    (97 <= x) & (x <= 122)
+}
+
+// A small letter is taken as its capital, any other byte as it is.
+fn fold(x: u8) -> u8
+    ensures { λ r. ⌜ r ≡ folded x ⌝ }
+{
+    if small_letter(x) { x - 32 } else { x }
+}
+
+// Is b, folded, the name a?
+fn same_folded(a: &[u8], b: &[u8]) -> bool
+    ensures { λ r. ⌜ r ≡ sameBytes (now (a .entry)) (foldedName (now (b .entry))) ⌝ }
+{
+    if a.len() != b.len() {
+        return false;
+    }
+    let mut i = 0;
+    while i < a.len() {
+        if a[i] != fold(b[i]) {
+            return false;
+        }
+        i += 1;
+    }
+    true
+}
+
+// Is b, in those letters, the name a?
+pub fn same_in(letters: Letters, a: &[u8], b: &[u8]) -> bool
+    ensures { λ r. ⌜ r ≡ sameBytes (now (a .entry)) (inLetters letters (now (b .entry))) ⌝ }
+{
+    match letters {
+        Letters::Exact => same_name(a, b),
+        Letters::Folded => same_folded(a, b),
+    }
 }
 
 // The first name comes before the second in byte order.

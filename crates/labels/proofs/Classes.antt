@@ -15,6 +15,7 @@ use Rattle.records.specs.Rules.{otherName, othersNamed}
 use Rattle.header.specs.Limits.{Counted}
 use Rattle.header.proofs.Editions.{counted-groups}
 use Rattle.image.specs.Lookup.{hasComponent, componentIndex}
+use Rattle.fields.specs.Names.{foldedName}
 use Rattle.labels.specs.Parse.{matches, classCount, placeOfName}
 
 -- a place below its class's count is a component of the policy
@@ -54,9 +55,9 @@ module _ (im : List ℕ) (class : ℕ) where
 
   -- so the first of them that has the name, among all components, stands at its place in the class from their first on
   pub place-found : (name : List ℕ) (s n r : ℕ) → s ≡ classFirst (countsOf im) class → n ≡ classCount im class
-      → r ≡ firstBad (othersNamed im name) (s + n - s) s → r ≡ s + placeOfName im class name
+      → r ≡ firstBad (othersNamed im (foldedName name)) (s + n - s) s → r ≡ s + placeOfName im class name
   unfolding placeOfName matches otherName componentIndex
   place-found name s n r e d f =
       f ∙ rw (add-sub-cancel-left, d, e)
-      (ap (firstBad (othersNamed im name) (classCount im class)) (sym (add-zero _))
-      ∙ bad-shift (othersNamed im name) (classFirst (countsOf im) class) (classCount im class) 0)
+      (ap (firstBad (othersNamed im (foldedName name)) (classCount im class)) (sym (add-zero _))
+      ∙ bad-shift (othersNamed im (foldedName name)) (classFirst (countsOf im) class) (classCount im class) 0)

@@ -6,6 +6,7 @@ pub mod Splitting
 pub mod Classes
 pub mod Naming
 pub mod Tells
+pub mod Letters
 pub mod Existing
 pub mod Joining
 pub mod Offsets

@@ -9,7 +9,7 @@ use lib.Dec.{eqb}
 use lib.ListN.{length, getD, drop, drop-of-length-le}
 use lib.Seq.{drop-cons}
 use Rattle.fields.specs.Bytes.{all}
-use Rattle.fields.specs.Names.{nameByte}
+use Rattle.fields.specs.Names.{nameByte, smallLetter}
 use Rattle.labels.specs.declared.shape.State.{State}
 use Rattle.labels.specs.declared.shape.State.the-variants.{Start, Level, Lists, First, FirstNext, Second, InSecond, Wrong}
 use Rattle.labels.specs.Text.{comma, colon, textByte, allTextBytes, onto, split, isName, allNames, isList, shapeOfParts}
@@ -35,11 +35,11 @@ restOfList text = restNames (split comma text)
 
 -- a byte of the alphabet is neither a comma nor a colon
 no-comma : (x : ℕ) → eqb x comma ≡ true → textByte x ≡ false
-unfolding textByte nameByte
+unfolding textByte nameByte smallLetter
 no-comma x e = rw (eqb-true x comma e)
 
 no-colon : (x : ℕ) → eqb x colon ≡ true → textByte x ≡ false
-unfolding textByte nameByte
+unfolding textByte nameByte smallLetter
 no-colon x e = rw (eqb-true x colon e)
 
 names-onto : (x : ℕ) (names : List (List ℕ)) → allNames (onto x names) ≡ (textByte x && restNames names)

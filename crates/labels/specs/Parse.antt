@@ -4,7 +4,7 @@ use mathlib.Core.Bool.{Bool, cond}
 use mathlib.Core.List.{List, [], _∷_}
 use lib.Dec.{eqb, ltb}
 use lib.ListN.{length}
-use Rattle.fields.specs.Names.{sameBytes}
+use Rattle.fields.specs.Names.{sameBytes, foldedName}
 use Rattle.fields.specs.Scan.{firstWhere}
 use Rattle.sets.specs.Sets.{has, none, one, union}
 use Rattle.refusals.specs.declared.Refusal.{Refusal}
@@ -26,9 +26,9 @@ use Rattle.labels.specs.Label.{Marks, marks, marksOf}
 use Rattle.labels.specs.Text.{comma, colon, split, shapeRule}
 
 -- ---- names
--- how a name in a text matches a component's name
+-- how a name in a text matches a component's name: its small letters are taken as capitals (request R-9)
 unfoldable pub matches : List ℕ → List ℕ → Bool
-matches component name = sameBytes component name
+matches component name = sameBytes component (foldedName name)
 
 -- how many components a class has
 abbrev pub classCount : List ℕ → ℕ → ℕ

@@ -5,7 +5,7 @@ use mathlib.Core.List.{List, [], _∷_}
 use lib.Dec.{eqb, leb}
 use lib.ListN.{length}
 use Rattle.fields.specs.Bytes.{all}
-use Rattle.fields.specs.Names.{nameByte}
+use Rattle.fields.specs.Names.{nameByte, smallLetter}
 
 abbrev pub comma : ℕ
 comma = 44
@@ -13,9 +13,9 @@ comma = 44
 abbrev pub colon : ℕ
 colon = 58
 
--- a byte that a name in label text may have: one of the names' alphabet
+-- a byte that a name in label text may have: one of the names' alphabet, or a small letter (request R-9)
 unfoldable pub textByte : ℕ → Bool
-textByte x = nameByte x
+textByte x = nameByte x || smallLetter x
 
 abbrev pub allTextBytes : List ℕ → Bool
 allTextBytes = all textByte

@@ -1,9 +1,10 @@
-// Names in a text: the component of a class that one matches.
+// Names in a text: the component of a class that one matches. Small letters are taken as capitals.
 ghost use Prim.Native.Nat.{_≤_};
 ghost use mathlib.Core.Path.{_≡_};
 ghost use Rattle.header.specs.Limits.{Counted};
 ghost use Rattle.labels.specs.Parse.{placeOfName};
 ghost use Rattle.labels.specs.Lists.{foundOf};
+use fields::names::Letters;
 use header::layout;
 use records::components;
 
@@ -20,7 +21,7 @@ pub fn place_of_name(image: &[u8], class: u8, name: &[u8]) -> usize
 {
     let count = layout::class_count(image, class);
     let start = layout::class_first(image, class);
-    components::first_named(image, start, start + count, name) - start
+    components::first_named(image, start, start + count, Letters::Folded, name) - start
 }
 
 pub fn find(image: &[u8], class: u8, name: &[u8]) -> Found

@@ -7,6 +7,7 @@ ghost use Rattle.labels.specs.Text.{textByte, shapeRule};
 ghost use Rattle.labels.specs.States.{textByteAt, afterNameByte, afterComma, afterColon, afterByte, afterAll, endsWell};
 ghost use Rattle.labels.specs.declared.shape.State.the-variants.{Start};
 use fields::names::name_byte;
+use fields::names::small_letter;
 
 // How far a reading has come. A name begins at Start, Lists, FirstNext and Second; Level, First and InSecond stand inside one.
 pub enum State {
@@ -24,11 +25,11 @@ pub enum State {
     Wrong,
 }
 
-// A byte that a name in label text may have.
+// A byte that a name in label text may have: one that an image's name may have, or a small letter.
 fn text_byte(x: u8) -> bool
     ensures { λ r. ⌜ r ≡ textByte x ⌝ }
 {
-    name_byte(x)
+    name_byte(x) | small_letter(x)
 }
 
 fn after_name_byte(state: State) -> State

@@ -2,13 +2,14 @@
 ghost use Prim.Native.Nat.{_-_, _<_, _≤_};
 ghost use mathlib.Core.Path.{_≡_};
 ghost use lib.ListN.{length};
-ghost use Rattle.fields.specs.Names.{sameBytes};
+ghost use Rattle.fields.specs.Names.{sameBytes, inLetters};
 ghost use Rattle.fields.specs.Scan.{firstBad};
 ghost use Rattle.header.specs.declared.layout.Kind.the-variants.{Component};
 ghost use Rattle.header.specs.Layout.{editionOf, countsOf, countOf, recordSize, Fitted, recordAt, recordsOf, OneBlock};
 ghost use Rattle.records.specs.Fields.{componentNameLength, componentName, numericForm, parentOf};
 ghost use Rattle.records.specs.Rules.{classStart, parentRule, parentCount, componentShape, numericRule, othersNamed, newNameRule, recordRule};
 use fields::names;
+use fields::names::Letters;
 use fields::numbers::all_zero;
 use fields::numbers::number2;
 use header::contents::lower;
@@ -103,30 +104,37 @@ fn numeric_ok(image: &[u8], i: usize) -> bool
     numeric_form(image, i - 1) < numeric_form(image, i)
 }
 
-// Does the component have that name? Most names differ in length. A stored length past the field counts as 30, so the stored
+// Does the component have that name, in those letters? Most names differ in length. A stored length past the field counts as 30, so the stored
 // byte alone tells only of names shorter than that.
-fn is_named(rec: &[u8], name: &[u8]) -> bool
+fn is_named(letters: Letters, rec: &[u8], name: &[u8]) -> bool
     requires { ⌜ length (now rec) ≡ 40 ⌝ }
-    ensures { λ r. ⌜ r ≡ sameBytes (componentName (now (rec .entry))) (now (name .entry)) ⌝ }
+    ensures { λ r. ⌜ r ≡ sameBytes (componentName (now (rec .entry))) (inLetters letters (now (name .entry))) ⌝ }
 {
     let n = rec[1] as usize;
     if (n != name.len()) & (name.len() < 30) {
         return false;
     }
-    names::same_name(names::name_in(&rec[1..32]), name)
+    names::same_in(letters, names::name_in(&rec[1..32]), name)
 }
 
 // The first place from `from` up to `to` whose component has that name; `to` where none has. Their records stand in one
 // block, the first of them at `first`.
-fn first_in_block(image: &[u8], first: usize, from: usize, to: usize, name: &[u8]) -> usize
+fn first_in_block(
+    image: &[u8],
+    first: usize,
+    from: usize,
+    to: usize,
+    letters: Letters,
+    name: &[u8],
+) -> usize
     requires { ⌜ Fitted (now image) × ((to ≤ countOf (now image) Component) × ((from ≤ to) × OneBlock (now image) Component first from to)) ⌝ }
-    ensures { λ r. ⌜ r ≡ firstBad (othersNamed (now (image .entry)) (now (name .entry))) (to - from) from ⌝ }
+    ensures { λ r. ⌜ r ≡ firstBad (othersNamed (now (image .entry)) (inLetters letters (now (name .entry)))) (to - from) from ⌝ }
 {
     let size = layout::size(edition_of(image), Kind::Component);
     let mut at = first;
     let mut j = from;
     while j < to {
-        if is_named(&image[at..at + size], name) {
+        if is_named(letters, &image[at..at + size], name) {
             return j;
         }
         at += size;
@@ -135,17 +143,17 @@ fn first_in_block(image: &[u8], first: usize, from: usize, to: usize, name: &[u8
     j
 }
 
-// The first place from `start` up to `end` whose component has that name; `end` where none has.
-pub fn first_named(image: &[u8], start: usize, end: usize, name: &[u8]) -> usize
+// The first place from `start` up to `end` whose component has that name, in those letters; `end` where none has.
+pub fn first_named(image: &[u8], start: usize, end: usize, letters: Letters, name: &[u8]) -> usize
     requires { ⌜ Fitted (now image) × ((end ≤ countOf (now image) Component) × (start ≤ end)) ⌝ }
-    ensures { λ r. ⌜ r ≡ firstBad (othersNamed (now (image .entry)) (now (name .entry))) (end - start) start ⌝ }
+    ensures { λ r. ⌜ r ≡ firstBad (othersNamed (now (image .entry)) (inLetters letters (now (name .entry)))) (end - start) start ⌝ }
 {
     let shape = layout::shape_of(image, Kind::Component);
     let mut here = walk::record_at(shape, start);
     let mut from = start;
     while from < end {
         let to = lower(end, from + here.left);
-        let j = first_in_block(image, here.at, from, to, name);
+        let j = first_in_block(image, here.at, from, to, letters, name);
         if j < to {
             return j;
         }
@@ -161,7 +169,7 @@ fn new_name_ok(image: &[u8], i: usize) -> bool
     ensures { λ r. ⌜ r ≡ newNameRule (countsOf (now (image .entry))) (recordsOf (now (image .entry)) Component) i ⌝ }
 {
     let start = class_start(image, i);
-    first_named(image, start, i, component_name(image, i)) == i
+    first_named(image, start, i, Letters::Exact, component_name(image, i)) == i
 }
 
 // The groups that may be a parent: in the release profile there is none.

@@ -7,6 +7,8 @@ use native.Mathlib.Omega.{arith}
 use lib.Dec.{ltb}
 use borrow.Author.Tests.{ltb-true}
 use lib.ListN.{length}
+use Rattle.fields.specs.Names.{foldedName}
+use Rattle.fields.proofs.Folding.{folded-length}
 use Rattle.fields.proofs.Meaning.{found-at, same-means}
 use Rattle.image.specs.Check.{IsAccepted}
 use Rattle.labels.specs.Parse.{matches, classCount, placeOfName, unknown, readNames}
@@ -25,9 +27,9 @@ module _ (im : List ℕ) (acc : IsAccepted im) (class : ℕ) (low : 1 ≤ class)
       at true e =
           let p = placeOfName im class name in
           let l : p < classCount im class = ltb-true p (classCount im class) e in
-          let same = same-means (nameAt im class p) name (found-at (λ j. matches (nameAt im class j) name) (classCount im class) 0 (omega (arith, l))) in
+          let same = same-means (nameAt im class p) (foldedName name) (found-at (λ j. matches (nameAt im class j) name) (classCount im class) 0 (omega (arith, l))) in
           let short = name-short im acc class p (class-has im class p low high l) in
-          absurd (omega (arith, short, ap length same))
+          absurd (omega (arith, short, ap length same, folded-length name))
 
   -- so it is 6, at its own offset
   pub long-unknown : (offset set : ℕ) (rest : List (List ℕ)) → readNames im class offset set (name ∷ rest) ≡ unknown offset

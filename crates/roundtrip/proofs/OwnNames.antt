@@ -1,6 +1,6 @@
 -- The names of an accepted image's components: a component is found by its own name, and the name holds no separator. Assumes nothing.
 use Prim.Native.Nat.{ℕ, zero-le, _+_, _-_, _≤_, _<_}
-use mathlib.Core.Path.{_≡_, refl, sym, _∙_}
+use mathlib.Core.Path.{_≡_, refl, sym, ap, _∙_}
 use mathlib.Core.Bool.{Bool, true, false, cond, _&&_}
 use mathlib.Core.List.{List, [], _∷_}
 use native.Mathlib.Omega.{arith}
@@ -8,10 +8,11 @@ use borrow.Author.Tests.{eqb-true, eqb-false}
 use lib.Dec.{eqb, leb}
 use lib.ListN.{length}
 use Rattle.fields.specs.Bytes.{byteAt, part, allZero}
-use Rattle.fields.specs.Names.{nameByte, nameIn, nameRule, allNameBytes}
+use Rattle.fields.specs.Names.{nameByte, nameIn, nameRule, allNameBytes, foldedName}
 use Rattle.fields.proofs.Both.{both-left, both-right}
 use Rattle.fields.proofs.Laws.{part-length}
-use Rattle.fields.proofs.Meaning.{NameKept, found-unique, same-refl, same-means, name-length, name-holds}
+use Rattle.fields.proofs.Folding.{folded-name}
+use Rattle.fields.proofs.Meaning.{NameKept, found-at, found-unique, same-refl, same-means, name-length, name-holds}
 use Rattle.header.specs.Layout.{levels, compartments, groups, components, countsOf, classFirst, classAt, componentRecord}
 use Rattle.records.specs.Fields.{componentNameField}
 use Rattle.header.specs.declared.layout.Kind.the-variants.{Component}
@@ -57,12 +58,34 @@ module _ (im : List ℕ) (class : ℕ) where
   unfolding componentIndex
   index-tells j p e = omega arith
 
+-- what is found has the name, folded
+pub place-found : (im : List ℕ) (class p : ℕ) → p < classCount im class → (name : List ℕ) → placeOfName im class name ≡ p
+    → foldedName name ≡ nameAt im class p
+unfolding placeOfName matches
+place-found im class p h name e =
+    let there : placeOfName im class name < 0 + classCount im class = omega (arith, e, h) in
+    let same = same-means _ _ (found-at (λ j. matches (nameAt im class j) name) (classCount im class) 0 there) in
+    sym same ∙ ap (nameAt im class) e
+
 module _ (im : List ℕ) (acc : IsAccepted im) (class : ℕ) (low : 1 ≤ class) (high : class ≤ 3) (p : ℕ) (h : p < classCount im class) where
+  -- ---- the name is of the alphabet, so it is folded already, and is found by itself
+  index-inside : componentIndex im class p < components im
+  index-inside = placed-index im class p (class-has im class p low high h)
+
+  name-kept : NameKept (componentNameField (componentRecord im (componentIndex im class p)))
+  name-kept = component-kept im acc (componentIndex im class p) index-inside .named
+
+  pub name-bytes : allNameBytes (nameAt im class p) ≡ true
+  name-bytes = named-bytes (componentNameField (componentRecord im (componentIndex im class p))) (name-holds _ name-kept)
+
+  pub own-folded : foldedName (nameAt im class p) ≡ nameAt im class p
+  own-folded = folded-name (nameAt im class p) name-bytes
+
   pub place-of-own-name : placeOfName im class (nameAt im class p) ≡ p
   unfolding placeOfName matches
   place-of-own-name =
-      found-unique _ (classCount im class) 0 p zero-le (omega arith) (same-refl (nameAt im class p))
-      (λ j from upto e. only j (omega arith) (same-means _ _ e))
+      found-unique _ (classCount im class) 0 p zero-le (omega arith) (rw own-folded (same-refl (nameAt im class p)))
+      (λ j from upto e. only j (omega arith) (same-means _ _ e ∙ own-folded))
     where
       inside : (j : ℕ) → j < classCount im class → componentIndex im class j < components im
       inside j l = placed-index im class j (class-has im class j low high l)
@@ -73,16 +96,7 @@ module _ (im : List ℕ) (acc : IsAccepted im) (class : ℕ) (low : 1 ≤ class)
           (components-apart im acc (componentIndex im class j) (componentIndex im class p)
           (inside j l) (inside p h) (index-class im class j low high l ∙ sym (index-class im class p low high h)) e)
 
-  -- ---- the name is of the alphabet, 1 byte or more and 30 at most
-  index-inside : componentIndex im class p < components im
-  index-inside = placed-index im class p (class-has im class p low high h)
-
-  name-kept : NameKept (componentNameField (componentRecord im (componentIndex im class p)))
-  name-kept = component-kept im acc (componentIndex im class p) index-inside .named
-
-  pub name-bytes : allNameBytes (nameAt im class p) ≡ true
-  name-bytes = named-bytes (componentNameField (componentRecord im (componentIndex im class p))) (name-holds _ name-kept)
-
+  -- ---- it has 1 byte or more and 30 at most
   name-some : 1 ≤ length (nameAt im class p)
   name-some =
       let rec = componentRecord im (componentIndex im class p) in

@@ -5,7 +5,7 @@ use mathlib.Core.List.{List, [], _∷_, map}
 use Rattle.sets.specs.Words.{joined}
 use Rattle.records.specs.Fields.{groupsAt}
 use Rattle.fields.specs.Bytes.{number2, number4, number8, all}
-use Rattle.fields.specs.Names.{nameByte, nameIn, sameBytes}
+use Rattle.fields.specs.Names.{nameByte, nameIn, sameBytes, smallLetter, folded}
 use Rattle.fields.specs.Scan.{firstBad}
 use Rattle.sets.specs.Sets.{has, difference, empty, allBelow, within, meets, collect}
 use Rattle.header.specs.Layout.{levels, compartments, groups, labels, components, firstBlock, blocksFor, recordOffset, recordAt, classFirst, editionOf, profileOf}
@@ -66,7 +66,7 @@ cases-shortly (c ∷ cases) = rw (answer-shortly casesImage cases-known (c .ques
 
 -- ---- the proof
 computed : map (λ (c : Case). shortly casesImage (c .question)) proved ≡ map (λ (c : Case). c .expected) proved
-unfolding proved mayRead mayWrite knownTag labelAt readsLabel readTests readLevelRule readGroupsRule groupTest readCompartmentsRule compaccessReads holdsCompaccess readsAll writesAll writesLabel writeTests writeLevelRule writeSetsRule writeGroupsRule writeCompartmentsRule compaccessWrites rightsAt writeCompartmentsOf writeGroupsOf casesImage number2 number4 number8 has difference empty within meets collect firstBad levels compartments groups labels components firstBlock blocksFor recordOffset recordAt parent classFirst hasParent lineageWithin lineage below labelOfTag labelChange sessionLabelAnswer rowInside sessionGroupsRule all textByte nameByte nameIn sameBytes componentIndex split isName isList shapeRule matches placeOfName readNames allBelow entryAt listed listText section textOf labelExists acceptedAnswer mergeLevels mergeSets lettersRule mergedLabel mergeOf editionOf groupsAt joined treeSetsRule profileOf reach
+unfolding proved mayRead mayWrite knownTag labelAt readsLabel readTests readLevelRule readGroupsRule groupTest readCompartmentsRule compaccessReads holdsCompaccess readsAll writesAll writesLabel writeTests writeLevelRule writeSetsRule writeGroupsRule writeCompartmentsRule compaccessWrites rightsAt writeCompartmentsOf writeGroupsOf casesImage number2 number4 number8 has difference empty within meets collect firstBad levels compartments groups labels components firstBlock blocksFor recordOffset recordAt parent classFirst hasParent lineageWithin lineage below labelOfTag labelChange sessionLabelAnswer rowInside sessionGroupsRule all textByte smallLetter folded nameByte nameIn sameBytes componentIndex split isName isList shapeRule matches placeOfName readNames allBelow entryAt listed listText section textOf labelExists acceptedAnswer mergeLevels mergeSets lettersRule mergedLabel mergeOf editionOf groupsAt joined treeSetsRule profileOf reach
 computed = refl
 
 pub all-cases : map asked proved ≡ map (λ (c : Case). c .expected) proved

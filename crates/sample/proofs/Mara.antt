@@ -5,7 +5,7 @@ use mathlib.Core.List.{_∷_, _++_}
 use Rattle.sets.specs.Words.{joined}
 use Rattle.records.specs.Fields.{groupsAt}
 use Rattle.fields.specs.Bytes.{number2, number4, number8, all}
-use Rattle.fields.specs.Names.{nameByte, nameIn, sameBytes}
+use Rattle.fields.specs.Names.{nameByte, nameIn, sameBytes, smallLetter, folded}
 use Rattle.fields.specs.Scan.{firstBad}
 use Rattle.sets.specs.Sets.{has, within, meets, collect}
 use Rattle.header.specs.Layout.{levels, compartments, groups, users, labels, components, firstBlock, blocksFor, recordOffset, recordAt, classFirst, editionOf, profileOf}
@@ -49,5 +49,5 @@ mara-passes-cases = passes-in-both .1
 -- ---- in the report's
 -- P10 holds there too: the calls of HiddenInstance.antt have it
 pub p10 : setLabelOf cooperative mara (vault ++ colon ∷ kiln ++ colon ∷ dock) ≡ (withLabel mara (marks 2 1 4), Accepted)
-unfolding setLabelOf labelChange sessionLabelAnswer rowInside sessionGroupsRule rightsAt writeCompartmentsOf writeGroupsOf cooperative number2 number4 number8 all textByte nameByte nameIn sameBytes firstBad has within meets collect levels compartments groups users labels components firstBlock blocksFor recordOffset recordAt componentIndex classFirst parent hasParent lineageWithin lineage below split isName isList shapeRule matches placeOfName readNames editionOf groupsAt joined profileOf reach
+unfolding setLabelOf labelChange sessionLabelAnswer rowInside sessionGroupsRule rightsAt writeCompartmentsOf writeGroupsOf cooperative number2 number4 number8 all textByte smallLetter folded nameByte nameIn sameBytes firstBad has within meets collect levels compartments groups users labels components firstBlock blocksFor recordOffset recordAt componentIndex classFirst parent hasParent lineageWithin lineage below split isName isList shapeRule matches placeOfName readNames editionOf groupsAt joined profileOf reach
 p10 = rw mara-passes

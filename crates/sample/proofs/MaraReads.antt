@@ -4,7 +4,7 @@ use mathlib.Core.Path.{_≡_, refl}
 use mathlib.Core.Bool.{true, false}
 use Rattle.sets.specs.Words.{joined}
 use Rattle.fields.specs.Bytes.{number2, number4, number8, all}
-use Rattle.fields.specs.Names.{nameByte, nameIn, sameBytes}
+use Rattle.fields.specs.Names.{nameByte, nameIn, sameBytes, smallLetter, folded}
 use Rattle.fields.specs.Scan.{firstBad}
 use Rattle.sets.specs.Sets.{has, empty, within, meets, collect}
 use Rattle.refusals.specs.declared.Refusal.the-variants.{NoUser, RowLabelOutside, SessionRules}
@@ -89,16 +89,16 @@ glazed-verdicts = record { hides10 = refl; reads30 = refl; hides20 = refl; hides
 -- ---- label changes
 -- the row label CREW:KILN:DOCK does not lie inside CREW:GLAZE:NORTH
 pub glaze-refused : setLabelOf cooperative vaulted textGlaze ≡ (vaulted, Refused RowLabelOutside)
-unfolding setLabelOf labelChange sessionLabelAnswer rowInside sessionGroupsRule rightsAt writeCompartmentsOf writeGroupsOf cooperative number2 number4 number8 all textByte nameByte nameIn sameBytes firstBad has within meets collect levels compartments groups users labels components firstBlock blocksFor recordOffset recordAt componentIndex classFirst parent hasParent lineageWithin lineage below split isName isList shapeRule matches placeOfName readNames editionOf groupsAt joined profileOf reach
+unfolding setLabelOf labelChange sessionLabelAnswer rowInside sessionGroupsRule rightsAt writeCompartmentsOf writeGroupsOf cooperative number2 number4 number8 all textByte smallLetter folded nameByte nameIn sameBytes firstBad has within meets collect levels compartments groups users labels components firstBlock blocksFor recordOffset recordAt componentIndex classFirst parent hasParent lineageWithin lineage below split isName isList shapeRule matches placeOfName readNames editionOf groupsAt joined profileOf reach
 glaze-refused = rw vaulted-passes
 
 pub crew-accepted : setRowLabelOf cooperative vaulted textCrew ≡ (bare, Accepted)
-unfolding setRowLabelOf rowLabelChange rowLabelAnswer rightsAt writeCompartmentsOf writeGroupsOf cooperative number2 number4 number8 all textByte nameByte nameIn sameBytes firstBad has within meets collect levels compartments groups users labels components firstBlock blocksFor recordOffset recordAt componentIndex classFirst parent hasParent lineageWithin lineage below split isName isList shapeRule matches placeOfName readNames editionOf groupsAt joined profileOf reach
+unfolding setRowLabelOf rowLabelChange rowLabelAnswer rightsAt writeCompartmentsOf writeGroupsOf cooperative number2 number4 number8 all textByte smallLetter folded nameByte nameIn sameBytes firstBad has within meets collect levels compartments groups users labels components firstBlock blocksFor recordOffset recordAt componentIndex classFirst parent hasParent lineageWithin lineage below split isName isList shapeRule matches placeOfName readNames editionOf groupsAt joined profileOf reach
 crew-accepted = rw vaulted-passes
 
 -- CREW does
 pub glaze-accepted : setLabelOf cooperative bare textGlaze ≡ (glazed, Accepted)
-unfolding setLabelOf labelChange sessionLabelAnswer rowInside sessionGroupsRule rightsAt writeCompartmentsOf writeGroupsOf cooperative number2 number4 number8 all textByte nameByte nameIn sameBytes firstBad has within meets collect levels compartments groups users labels components firstBlock blocksFor recordOffset recordAt componentIndex classFirst parent hasParent lineageWithin lineage below split isName isList shapeRule matches placeOfName readNames editionOf groupsAt joined profileOf reach
+unfolding setLabelOf labelChange sessionLabelAnswer rowInside sessionGroupsRule rightsAt writeCompartmentsOf writeGroupsOf cooperative number2 number4 number8 all textByte smallLetter folded nameByte nameIn sameBytes firstBad has within meets collect levels compartments groups users labels components firstBlock blocksFor recordOffset recordAt componentIndex classFirst parent hasParent lineageWithin lineage below split isName isList shapeRule matches placeOfName readNames editionOf groupsAt joined profileOf reach
 glaze-accepted = rw bare-passes
 
 -- ---- refusals of an opening and of a lent session

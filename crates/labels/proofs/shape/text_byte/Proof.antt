@@ -6,9 +6,12 @@ use Rattle.labels.proofs.shape.text_byte.Tie as tie
 name-byte-requires : tie.Need-name-byte-requires
 name-byte-requires c κs = search needs
 
+small-letter-requires : tie.Need-small-letter-requires
+small-letter-requires c κs = search needs
+
 returns : tie.Need-returns
 unfolding textByte
-returns c = c .name-byte .ensures
+returns c = rw (c .before .name-byte .ensures, c .small-letter .ensures)
 
 pub text-byte-spec : {M : Type 1} → statement M
-text-byte-spec = tie.close (tie.spec name-byte-requires returns)
+text-byte-spec = tie.close (tie.spec name-byte-requires small-letter-requires returns)

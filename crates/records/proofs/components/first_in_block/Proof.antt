@@ -5,7 +5,7 @@ use native.Mathlib.Nat.{add-sub-cancel-left}
 use native.Mathlib.Omega.{arith}
 use borrow.Author.Needs.{needs}
 use lib.ListN.{take, drop, length-take, length-drop}
-use Rattle.fields.specs.Names.{sameBytes}
+use Rattle.fields.specs.Names.{sameBytes, inLetters}
 use Rattle.fields.specs.Scan.{firstBad}
 use Rattle.fields.proofs.Scan.{loop-bad, loop-good, loop-end}
 use Rattle.header.specs.declared.layout.Kind.the-variants.{Component}
@@ -17,12 +17,12 @@ use Rattle.records.proofs.components.first_in_block.Statement.{statemen
 use Rattle.records.proofs.components.first_in_block.Tie as tie
 
 abbrev Inv-loop : tie.InvT-loop
-Inv-loop image first from to name size at₀ j₀ at j =
+Inv-loop image first from to letters name size at₀ j₀ at j =
     (from ≤ j) × ((j ≤ to) × ((at ≡ first + recordSize (editionOf image) Component * (j - from))
-    × (firstBad (othersNamed image name) (to - j) j ≡ firstBad (othersNamed image name) (to - from) from)))
+    × (firstBad (othersNamed image (inLetters letters name)) (to - j) j ≡ firstBad (othersNamed image (inLetters letters name)) (to - from) from)))
 
 abbrev μ-loop : tie.MeasureT-loop
-μ-loop image first from to name size at₀ j₀ at j = to - j
+μ-loop image first from to letters name size at₀ j₀ at j = to - j
 
 -- the part that code takes is the record
 part-is : (im name : List ℕ) (at size j : ℕ) → at ≡ recordOffset (shapeOf im Component) j → size ≡ recordSize (editionOf im) Component
@@ -79,7 +79,7 @@ returns c =
     let start = sized .before .before .before .before in
     let a = start .args in
     let e = one-block _ Component (a .first) (a .from) (a .to) (l .j) (start .pre .1 .1 .1) (l .inv .0) (inside .loop-test .taken) in
-    let q = c .before .is-named .ensures ∙ part-is (a .image .now) (a .name .now) (l .at) _ (l .j) (l .inv .1 .1 .0 ∙ e) (sized .size .ensures) in
+    let q = c .before .is-named .ensures ∙ part-is (a .image .now) (inLetters (a .letters) (a .name .now)) (l .at) _ (l .j) (l .inv .1 .1 .0 ∙ e) (sized .size .ensures) in
     loop-bad _ _ _ _ (inside .loop-test .taken) (l .inv .1 .1 .1) (rw (← q, c .if1 .taken))
 
 add-at : tie.Need-add-at Inv-loop μ-loop
@@ -106,7 +106,7 @@ loop-again c =
     let start = sized .before .before .before .before in
     let a = start .args in
     let e = one-block _ Component (a .first) (a .from) (a .to) (l .j) (start .pre .1 .1 .1) (l .inv .0) (inside .loop-test .taken) in
-    let q = c .before .is-named .ensures ∙ part-is (a .image .now) (a .name .now) (l .at) _ (l .j) (l .inv .1 .1 .0 ∙ e) (sized .size .ensures) in
+    let q = c .before .is-named .ensures ∙ part-is (a .image .now) (inLetters (a .letters) (a .name .now)) (l .at) _ (l .j) (l .inv .1 .1 .0 ∙ e) (sized .size .ensures) in
     (omega arith, (omega arith, (omega arith, loop-good _ _ _ _ (inside .loop-test .taken) (l .inv .1 .1 .1) (rw (← q, c .if1 .left)))))
 
 returns-2 : tie.Need-returns-2 Inv-loop μ-loop

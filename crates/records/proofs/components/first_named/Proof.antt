@@ -2,6 +2,7 @@ use Prim.Native.Nat.{ℕ, _+_, _-_, _≤_, _<_}
 use mathlib.Core.Path.{_≡_, refl, sym, ap, subst}
 use native.Mathlib.Omega.{arith}
 use borrow.Author.Needs.{needs}
+use Rattle.fields.specs.Names.{inLetters}
 use Rattle.fields.specs.Scan.{firstBad}
 use Rattle.fields.proofs.Scan.{loop-end, part-bad, part-good}
 use Rattle.header.specs.declared.layout.Kind.the-variants.{Component}
@@ -14,12 +15,13 @@ use Rattle.records.proofs.components.first_named.Tie as tie
 
 -- past the last place `here` may stand for none
 abbrev Inv-loop : tie.InvT-loop
-Inv-loop image start end name shape here₀ from₀ here from =
+Inv-loop image start end letters name shape here₀ from₀ here from =
     (from ≤ end) × ((from < end → Standing (shapeOf image Component) from here)
-    × (firstBad (othersNamed image name) (end - from) from ≡ firstBad (othersNamed image name) (end - start) start))
+    × (firstBad (othersNamed image (inLetters letters name)) (end - from) from
+    ≡ firstBad (othersNamed image (inLetters letters name)) (end - start) start))
 
 abbrev μ-loop : tie.MeasureT-loop
-μ-loop image start end name shape here₀ from₀ here from = end - from
+μ-loop image start end letters name shape here₀ from₀ here from = end - from
 
 shape-of-requires : tie.Need-shape-of-requires Inv-loop μ-loop
 shape-of-requires c κs = header-inside _ (c .before .before .pre .0)

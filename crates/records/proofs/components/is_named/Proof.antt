@@ -8,7 +8,8 @@ use borrow.Author.Tests.{eqb-false, ltb-true, not-true}
 use lib.Dec.{eqb, ltb}
 use lib.ListN.{length, length-take, length-drop}
 use Rattle.fields.specs.Bytes.{byteAt, part}
-use Rattle.fields.specs.Names.{nameIn, sameBytes}
+use Rattle.fields.specs.Names.{nameIn, sameBytes, inLetters}
+use Rattle.fields.proofs.Folding.{in-letters-length}
 use Rattle.fields.proofs.Both.{parts}
 use Rattle.fields.proofs.Laws.{part-length, part-byte, same-length}
 use Rattle.records.specs.Fields.{componentNameField, componentName}
@@ -38,7 +39,8 @@ cast-n c = omega (arith, c .shared-slice-known3 .given 1)
 returns : tie.Need-returns
 returns c =
     let start = c .before .before .before .before in
-    other-length (start .args .rec .now) (start .args .name .now) (start .pre) (c .if1 .taken)
+    let name = inLetters (start .args .letters) (start .args .name .now) in
+    other-length (start .args .rec .now) name (start .pre) (rw (in-letters-length (start .args .letters) (start .args .name .now)) (c .if1 .taken))
 
 sub-name-in : tie.Need-sub-name-in
 sub-name-in c = search needs
@@ -52,11 +54,11 @@ part-name-in-end c = search needs
 name-in-requires : tie.Need-name-in-requires
 name-in-requires c κs = search needs
 
-same-name-requires : tie.Need-same-name-requires
-same-name-requires c κs = search needs
+same-in-requires : tie.Need-same-in-requires
+same-in-requires c κs = search needs
 
 returns-2 : tie.Need-returns-2
-returns-2 c = rw (c .same-name .ensures, c .before .name-in .ensures)
+returns-2 c = rw (c .same-in .ensures, c .before .name-in .ensures)
 
 pub is-named-spec : {M : Type 1} → statement M
 is-named-spec =
@@ -69,5 +71,5 @@ is-named-spec =
     part-name-in-start
     part-name-in-end
     name-in-requires
-    same-name-requires
+    same-in-requires
     returns-2)
