@@ -24,9 +24,10 @@ sed -n 's/.*pub fn \(brawnesk_[a-z0-9_]*\)(.*/\1/p' bindings/rust/src/raw.rs | s
 text() {
     sed -E 's#^ *(///|//!|/\*|\*/|\*)?##; s#\*/ *$##' "$@" | tr -s ' \n' ' '
 }
-# What the header says of lending, of the places of groups, and of tags that no label carries, docs/CALLS.md and the crate say in the same
-# words.
-for words in 'What a call writes overlaps .* reads none of it\.' 'All 256 places of [^.]*\.' 'A tag that no label carries, [^.]*\.'; do
+# What the header says of lending, of the places of groups, of small letters, and of tags that no label carries, docs/CALLS.md and the crate
+# say in the same words.
+for words in 'What a call writes overlaps .* reads none of it\.' 'All 256 places of [^.]*\.' 'Small letters in a label[^.]*\.' \
+    'A tag that no label carries, [^.]*\.'; do
     said=$(text include/brawnesk.h | grep -o "$words")
     text docs/CALLS.md | grep -qF "$said" || { echo "docs/CALLS.md does not say: $said"; exit 1; }
     text bindings/rust/src/*.rs | grep -qF "$said" || { echo "bindings/rust does not say: $said"; exit 1; }

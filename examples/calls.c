@@ -81,9 +81,21 @@ static void print(const char *call, const uint8_t *label) {
         printf("%s: %.*s\n", call, (int)answer, (const char *)text);
 }
 
+/* Small letters are taken as capitals, and a print has the names as the image has them. */
+static void small_letters(void) {
+    uint8_t label[BRAWNESK_LABEL];
+    uint64_t answer = brawnesk_parse(image, length, (const uint8_t *)"crew:Kiln:dock", 14, label);
+    if (!brawnesk_refused(answer))
+        print("parse", label);
+    answer = brawnesk_parse(image, length, (const uint8_t *)"crew:KILN,kiln", 14, label);
+    if (brawnesk_refused(answer) && brawnesk_number(answer) == 7)
+        printf("parse: repeated name at %u\n", (unsigned)brawnesk_place(answer));
+}
+
 static void texts(void) {
     uint8_t label[BRAWNESK_LABEL], text[15];
     unknown_name();
+    small_letters();
     parse("VAULT:GLAZE,KILN", label);
     print("print", label);
     tell("print", brawnesk_print(image, length, label, text, sizeof text));

@@ -47,23 +47,26 @@ enum { BRAWNESK_LABEL = 48 };
  * buffer of that length is always enough. */
 enum { BRAWNESK_TEXT = 10000 };
 
-/* The label that a text names: LEVEL, LEVEL:list, LEVEL:list:list or LEVEL::list. Done: 0, and the label's 48 bytes are written.
- * Refusals: 1, 2, 31 to 35, 5 the text's shape, then the leftmost name refused by 6 not in its class or 7 repeated (its offset). */
+/* The label that a text names: LEVEL, LEVEL:list, LEVEL:list:list or LEVEL::list. Names have A..Z, a..z, 0..9 and underscore. Small letters
+ * in a label's text are taken as capitals, so that kiln after KILN is a repeat; those of a user's name are not. Done: 0, and the label's 48
+ * bytes are written. Refusals: 1, 2, 31 to 35, 5 the text's shape, then the leftmost name refused by 6 not in its class or 7 repeated (its
+ * offset). */
 uint64_t brawnesk_parse(const uint8_t *image, size_t image_length, const uint8_t *text, size_t text_length, uint8_t *label);
 
-/* A label's text, at the front of the buffer; later bytes stay. Done: its length. Refusals: 1, 2, 31 to 35, 18 the label
- * names a component that the policy lacks, 13 the text is longer than the buffer. */
+/* A label's text, at the front of the buffer, with names as the image has them, in capitals; later bytes stay. Done: its length.
+ * Refusals: 1, 2, 31 to 35, 18 the label names a component that the policy lacks, 13 the text is longer than the buffer. */
 uint64_t brawnesk_print(const uint8_t *image, size_t image_length, const uint8_t *label, uint8_t *text, size_t text_length);
 
 /* A session is 104 bytes: byte 0 the user's place; byte 1 the same again (otherwise 19); 8..55 the session label; 56..103 the row
  * label. Bytes 2..7 are written as zero and not looked at. Keep the bytes as they came from the last call. */
 enum { BRAWNESK_SESSION = 104 };
 
-/* Opens a session for the user of that name, with the default label and the default row label. Done: 0, and the session's 104 bytes
- * are written. Refusals: 1, 2, 31 to 35, 4 no user of that name. */
+/* Opens a session for the user of that name, byte for byte, with the default label and the default row label. Done: 0, and the session's
+ * 104 bytes are written. Refusals: 1, 2, 31 to 35, 4 no user of that name. */
 uint64_t brawnesk_open(const uint8_t *image, size_t image_length, const uint8_t *name, size_t name_length, uint8_t *session);
 
-/* Gives the session the session label, or the row label, that a text names. Done: 0, and the session's 104 bytes are written.
+/* Gives the session the session label, or the row label, that a text names, as brawnesk_parse reads it. Done: 0, and the session's 104
+ * bytes are written.
  * Refusals: 1, 2, 31 to 35, 19 the session breaks its rules for that image, 5, then the leftmost name refused by 6 or 7 (its offset),
  * then 8 level, 9 compartments, 10 groups not allowed; a new session label also 11 the row label would stand outside it. Under a release
  * image a session label lacks none of the groups that the user reads, and a row label none of the session label's: otherwise 10 for the

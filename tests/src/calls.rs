@@ -32,6 +32,14 @@ impl Call {
         matches!(self, Call::MayRead(_) | Call::MayWrite(_))
     }
 
+    /// The text of a label change.
+    pub fn text(&self) -> Option<&[u8]> {
+        match self {
+            Call::SetLabel(text) | Call::SetRowLabel(text) => Some(text),
+            _ => None,
+        }
+    }
+
     pub fn by_library(&self, image: &[u8], session: &mut [u8; SESSION]) -> Answer {
         match self {
             Call::Open(name) => ffi::open(image, name, session),

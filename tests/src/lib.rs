@@ -1,12 +1,12 @@
 //! Tests of the compiled library against a second implementation, the model, which follows
-//! document 01 with requests of document 02 and shares no code with the library.
+//! document 01 with requests of document 02 and shares no code with the library.
 //!
 //! - `model`: the rules of an image, of label text, of sessions, of verdicts, of tables and of two
 //!   labels, as the document states them.
 //! - `builder`: well-formed policies of both editions and profiles, and their images.
 //! - `damage`: for each rule of an image, a change that breaks it; and pairs of such changes.
 //! - `cases`: images by edition, profile and seed, for comparing.
-//! - `texts`: label texts and labels by seed, for comparing.
+//! - `texts`: label texts and labels by seed, for comparing; `spelling`: a text in other letters.
 //! - `walk`: calls on sessions by seed, for comparing.
 //! - `tables`: calls on rows by seed, for comparing.
 //! - `maps`: calls that make maps and judge them by seed, for comparing.
@@ -39,6 +39,7 @@ pub mod program;
 pub mod rng;
 pub mod row_calls;
 pub mod shifted;
+pub mod spelling;
 pub mod tables;
 pub mod texts;
 pub mod vectors;

@@ -3,6 +3,7 @@
 
 use crate::builder::{letters, random, Component, Edition, Label, Policy, Set, Sizes, Variant};
 use crate::rng::Rng;
+use crate::spelling::in_some_letters;
 
 /// Mostly small, sometimes up to all limits of components. Label text asks nothing of users and
 /// labels, so these are few.
@@ -140,8 +141,13 @@ fn unknown(policy: &Policy, rng: &mut Rng) -> String {
     format!("{name}{}", letters(1, rng))
 }
 
-/// A text for the policy. All kinds come often, and several changes may meet in one text.
+/// A text for the policy, in some letters. All kinds come often, and several changes may meet in one text.
 pub fn text(policy: &Policy, rng: &mut Rng) -> Vec<u8> {
+    let text = in_capitals(policy, rng);
+    in_some_letters(text, rng)
+}
+
+fn in_capitals(policy: &Policy, rng: &mut Rng) -> Vec<u8> {
     let mut names = Names::any(policy, rng);
     match rng.index(20) {
         0 => noise(rng),
@@ -164,7 +170,7 @@ pub fn text(policy: &Policy, rng: &mut Rng) -> Vec<u8> {
     }
 }
 
-/// The text of a label with its names in any order; at times with one change, as in `text`.
+/// The text of a label with its names in any order, in some letters; at times with one change, as in `text`.
 pub fn text_of(policy: &Policy, label: &Label, rng: &mut Rng) -> Vec<u8> {
     let mut names = Names::printed(policy, label);
     names.lists.iter_mut().for_each(|list| rng.shuffle(list));
@@ -175,7 +181,7 @@ pub fn text_of(policy: &Policy, label: &Label, rng: &mut Rng) -> Vec<u8> {
     if rng.once_in(16) {
         change_bytes(&mut text, rng);
     }
-    text
+    in_some_letters(text, rng)
 }
 
 /// Random bytes, or random bytes of the alphabet with many separators; at times none.
@@ -191,22 +197,16 @@ fn noise(rng: &mut Rng) -> Vec<u8> {
 fn change_bytes(text: &mut Vec<u8>, rng: &mut Rng) {
     let last = text.len() - 1;
     let at = rng.range(0, text.len());
-    match rng.index(9) {
+    match rng.index(8) {
         0 => text.insert(at, b' '),
-        1 => small_letter(text, rng),
-        2 => double_separator(text, rng),
-        3 => text.push(*rng.pick(b":,")),
-        4 => text.insert(0, *rng.pick(b":,")),
-        5 => text.extend(b"::A:A".iter().skip(rng.index(3))),
-        6 => drop(text.remove(at.min(last))),
-        7 => text[at.min(last)] = rng.byte(),
+        1 => double_separator(text, rng),
+        2 => text.push(*rng.pick(b":,")),
+        3 => text.insert(0, *rng.pick(b":,")),
+        4 => text.extend(b"::A:A".iter().skip(rng.index(3))),
+        5 => drop(text.remove(at.min(last))),
+        6 => text[at.min(last)] = rng.byte(),
         _ => text.insert(at, *rng.pick(b":,\0\n\x7f\x80/;@[`{-.+")),
     }
-}
-
-fn small_letter(text: &mut [u8], rng: &mut Rng) {
-    let at = rng.index(text.len());
-    text[at] = text[at].to_ascii_lowercase();
 }
 
 /// A separator once more beside itself, which also makes an empty part.
@@ -239,7 +239,7 @@ fn long(names: Names, edition: Edition, rng: &mut Rng) -> Vec<u8> {
     let missing = length.saturating_sub(text.len());
     text.extend(filler.bytes().cycle().take(missing));
     if let (true, Some(last)) = (rng.once_in(6), text.last_mut()) {
-        *last = *rng.pick(b" ,:z");
+        *last = *rng.pick(b" ,:{");
     }
     text
 }

@@ -9,6 +9,7 @@ use brawnesk_tests::compare::{expected, of_images, one_seed, seeds, Tally};
 use brawnesk_tests::ffi::{self, Answer, LABEL};
 use brawnesk_tests::model::{self, Label, Refusal};
 use brawnesk_tests::rng::Rng;
+use brawnesk_tests::spelling::has_small;
 use brawnesk_tests::texts;
 use brawnesk_tests::vectors::{self, Expected};
 use brawnesk_tests::{in_each_edition, in_each_variant};
@@ -86,10 +87,10 @@ fn compare_print(image: &[u8], label: &[u8; LABEL], room: usize, case: &str) -> 
     answer
 }
 
-/// Texts of over 4,096 bytes are counted by themselves: in edition 1 all of them are refused, and in edition
-/// 2 many are read.
+/// Texts with small letters are counted by themselves. So are those of over 4,096 bytes: in edition 1 all of
+/// them are refused, and in edition 2 many are read.
 fn texts_are_read_alike(variant: Variant) {
-    let [mut tally, mut long] = [Tally::default(), Tally::default()];
+    let [mut tally, mut long, mut small] = [0; 3].map(|_| Tally::default());
     each_policy(variant, 0..POLICIES, |policy, image, rng, case| {
         for _ in 0..TEXTS_EACH {
             let text = texts::text(policy, rng);
@@ -98,8 +99,12 @@ fn texts_are_read_alike(variant: Variant) {
             if text.len() > 4_096 {
                 long.add(answer);
             }
+            if has_small(&text) {
+                small.add(answer);
+            }
         }
     });
+    assert_least(&small, &[(0, 4_000), (5, 3_000), (6, 2_000), (7, 600)]);
     match variant.edition {
         Edition::One => assert_least(&long, &[(5, 1_500)]),
         Edition::Two => assert_least(&long, &[(0, 100), (5, 1_500), (6, 500), (7, 250)]),
@@ -253,12 +258,8 @@ fn alignment_does_not_matter(edition: Edition) {
         let lent = [&vec![255; shift], image.as_slice()].concat();
         for text in ["CREW:KILN:DOCK,SOUTH", "CREW:KILN:DOCK,DOCK"] {
             let text = [&b"########"[shift..], text.as_bytes()].concat();
-            compare_parse(
-                &lent[shift..],
-                &text[8 - shift..],
-                7,
-                &format!("shift {shift}"),
-            );
+            let case = format!("shift {shift}");
+            compare_parse(&lent[shift..], &text[8 - shift..], 7, &case);
         }
         let mut label = [0; LABEL];
         assert_eq!(

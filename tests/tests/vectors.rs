@@ -41,14 +41,21 @@ fn what_document_01_has_not_is_listed_with_its_request() {
     }
 }
 
-/// Each row on inverse groups also stands as a vector of the release profile, and none waits for it.
+/// Each row on inverse groups also stands as a vector of the release profile.
 #[test]
 fn every_row_on_inverse_groups_stands_in_the_release_profile() {
     let rows = rows_in_release();
     for row in FIRST_OF_RELEASE..=ROWS {
         assert!(rows.contains(&row), "G{row} is not in the release profile");
     }
-    assert!(requests().iter().all(|it| it.request != 10));
+}
+
+/// None waits for small letters in label text or for the release profile, which there are.
+#[test]
+fn no_row_waits_for_what_there_is() {
+    for it in requests() {
+        assert!(![9, 10].contains(&it.request), "{it:?}");
+    }
 }
 
 /// P1 to P16 stand in the sample's own file.

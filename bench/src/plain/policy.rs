@@ -88,12 +88,13 @@ impl<'a> Policy<'a> {
         })
     }
 
-    /// The place in its class of the component with the name, sought block by block. Bytes after a
-    /// name are zero, so equal fields are equal names.
+    /// The place in its class of the component with the name, whose small letters are taken as capitals,
+    /// sought block by block. Bytes after a name are zero, so equal fields are equal names.
     pub fn place_of(&self, class: Class, name: &[u8]) -> Option<usize> {
         let mut field = [0; 31];
         field[0] = name.len() as u8;
         field[1..].get_mut(..name.len())?.copy_from_slice(name);
+        field[1..].make_ascii_uppercase();
         let (first, count) = self.class(class);
         let mut place = 0;
         while place < count {

@@ -61,7 +61,7 @@ pub fn component_holds(
     holds
 }
 
-/// Which bytes a name may hold.
+/// Which bytes an image's name may hold.
 const IN_NAMES: [bool; 256] = {
     let mut table = [false; 256];
     let mut byte = 0;
@@ -72,9 +72,20 @@ const IN_NAMES: [bool; 256] = {
     table
 };
 
-/// A name, of any length: one byte at least, and no byte that a name may not hold.
+/// Which bytes a name in label text may hold: small letters too.
+const IN_TEXTS: [bool; 256] = {
+    let mut table = IN_NAMES;
+    let mut byte = b'a';
+    while byte <= b'z' {
+        table[byte as usize] = true;
+        byte += 1;
+    }
+    table
+};
+
+/// A name in label text, of any length: one byte at least, and no byte that it may not hold.
 pub fn is_name(bytes: &[u8]) -> bool {
-    !bytes.is_empty() && bytes.iter().all(|&byte| IN_NAMES[usize::from(byte)])
+    !bytes.is_empty() && bytes.iter().all(|&byte| IN_TEXTS[usize::from(byte)])
 }
 
 /// A length and 30 bytes: a name and zeros.

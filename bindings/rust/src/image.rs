@@ -83,9 +83,10 @@ impl<'a> Image<'a> {
         Ok(text(&self.0[offset..][..length]))
     }
 
-    /// The label that a text names: `LEVEL`, `LEVEL:list`, `LEVEL:list:list` or `LEVEL::list`.
-    /// Refusals: 1, 2, 31 to 35, 5 the text's shape, then the leftmost name refused by 6 not in its
-    /// class or 7 repeated.
+    /// The label that a text names: `LEVEL`, `LEVEL:list`, `LEVEL:list:list` or `LEVEL::list`. Names have
+    /// A..Z, a..z, 0..9 and underscore. Small letters in a label's text are taken as capitals, so that kiln
+    /// after KILN is a repeat; those of a user's name are not. Refusals: 1, 2, 31 to 35, 5 the text's
+    /// shape, then the leftmost name refused by 6 not in its class or 7 repeated.
     ///
     /// ```
     /// # use brawnesk::{Image, Refusal};
@@ -93,6 +94,8 @@ impl<'a> Image<'a> {
     /// let image = Image::new(&bytes);
     /// assert_eq!(image.parse("VAULT:GLAZE,KILN"), image.parse("VAULT:KILN,GLAZE"));
     /// assert_eq!(image.parse("CREW:OVEN"), Err(Refusal::UnknownName(5)));
+    /// assert_eq!(image.parse("vault:Glaze"), image.parse("VAULT:GLAZE"));
+    /// assert_eq!(image.parse("CREW:KILN,kiln"), Err(Refusal::RepeatedName(10)));
     /// # Ok::<(), std::io::Error>(())
     /// ```
     pub fn parse(self, text: impl AsRef<[u8]>) -> Result<Label, Refusal> {
@@ -104,9 +107,9 @@ impl<'a> Image<'a> {
         Ok(Label(label))
     }
 
-    /// A label's text, at the front of the buffer; later bytes stay. [`TEXT`] bytes are always enough.
-    /// Refusals: 1, 2, 31 to 35, 18 the policy lacks what the label names, 13 the text is longer than
-    /// the buffer.
+    /// A label's text, at the front of the buffer, with names as the image has them, in capitals; later
+    /// bytes stay. [`TEXT`] bytes are always enough. Refusals: 1, 2, 31 to 35, 18 the policy lacks what the
+    /// label names, 13 the text is longer than the buffer.
     ///
     /// ```
     /// # use brawnesk::{Image, Refusal, TEXT};

@@ -55,12 +55,12 @@ impl Session {
         Label(label)
     }
 
-    /// Gives the session the session label that a text names; a refusal leaves it as it was.
-    /// Refusals: 1, 2, 31 to 35, 19 the session breaks its rules for that image, 5, then the leftmost
-    /// name refused by 6 or 7, then 8 level, 9 compartments, 10 groups not allowed, 11 the row label
-    /// would stand outside it. Under a release image a session label lacks none of the groups that the
-    /// user reads, and a row label none of the session label's: otherwise 10 for the new label, and 11 for
-    /// the row label that a new session label would leave.
+    /// Gives the session the session label that a text names, as [`Image::parse`] reads it; a refusal leaves
+    /// the session as it was. Refusals: 1, 2, 31 to 35, 19 the session breaks its rules for that image, 5,
+    /// then the leftmost name refused by 6 or 7, then 8 level, 9 compartments, 10 groups not allowed, 11 the
+    /// row label would stand outside it. Under a release image a session label lacks none of the groups that
+    /// the user reads, and a row label none of the session label's: otherwise 10 for the new label, and 11
+    /// for the row label that a new session label would leave.
     ///
     /// ```
     /// # use brawnesk::{Image, Refusal};

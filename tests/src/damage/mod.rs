@@ -97,6 +97,7 @@ damages! {
         NameEmpty => empty(names::component),
         NameLong => long(names::component),
         NameByte => bad_byte(names::component),
+        NameSmall => small(names::component),
         NameRest => rest(names::component),
     }
     33 labels {
@@ -113,6 +114,7 @@ damages! {
         UserNameEmpty => empty(names::user),
         UserNameLong => long(names::user),
         UserNameByte => bad_byte(names::user),
+        UserNameSmall => small(names::user),
         UserNameRest => rest(names::user),
     }
     34 users {

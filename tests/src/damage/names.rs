@@ -37,6 +37,24 @@ pub fn bad_byte(draft: &mut Draft, rng: &mut Rng, whose: Whose) -> Option<Expect
     draft.break_record(at, byte, &[*rng.pick(BAD_BYTES)])
 }
 
+/// The name in small letters, or one letter of it. Label text may have them, and images have not.
+pub fn small(draft: &mut Draft, rng: &mut Rng, whose: Whose) -> Option<Expected> {
+    let (at, byte) = whose(draft, rng)?;
+    let length = usize::from(draft.get(at.offset + byte)).min(30);
+    let from = byte + 1;
+    let name: Vec<u8> = (from..from + length)
+        .map(|byte| draft.get(at.offset + byte))
+        .collect();
+    let letters: Vec<usize> = (0..length)
+        .filter(|&it| name[it].is_ascii_uppercase())
+        .collect();
+    let one = *letters.get(rng.place(0, letters.len())?)?;
+    match rng.once_in(2) {
+        true => draft.break_record(at, from, &name.to_ascii_lowercase()),
+        false => draft.break_record(at, from + one, &[name[one].to_ascii_lowercase()]),
+    }
+}
+
 /// A byte that isn't zero after the name.
 pub fn rest(draft: &mut Draft, rng: &mut Rng, whose: Whose) -> Option<Expected> {
     let (at, byte) = whose(draft, rng)?;

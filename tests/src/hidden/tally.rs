@@ -7,6 +7,7 @@ use super::sequence::Step;
 use crate::compare::CallTally;
 use crate::ffi::{Answer, SESSION};
 use crate::row_calls::{first_difference, RowCall};
+use crate::spelling::has_small;
 use crate::walk::{label_at, LABEL_AT};
 
 /// For each call the answers that it can give on an image that is accepted.
@@ -28,6 +29,8 @@ const OUTCOMES: [(&str, &[&str]); 6] = [
 #[derive(Debug, Default)]
 pub struct HiddenTally {
     answers: CallTally,
+    /// The same of label changes by texts with small letters.
+    small: CallTally,
     /// Rows that were read at the maximum read label, plainly and by a map.
     at_maximum: [usize; 2],
     /// Reads that gave some rows, but not all that are readable at the maximum.
@@ -91,16 +94,25 @@ impl HiddenTally {
 
     fn add_answer(&mut self, step: &Step, answer: Answer) {
         match &step.call {
-            HostCall::Session(call) => self.answers.add(call.name(), false, answer),
+            HostCall::Session(call) => {
+                self.answers.add(call.name(), false, answer);
+                if call.text().is_some_and(has_small) {
+                    self.small.add(call.name(), false, answer);
+                }
+            }
             HostCall::Rows(call) => self.answers.count(call.name(), call.outcome(answer)),
         }
     }
 
-    /// Asks that each call gave each of its answers at least so often; that what else is counted came
-    /// twenty times as often; and that so many pairs of tables had different numbers of hidden rows.
+    /// Asks that each call gave each of its answers at least so often, and label changes half as often to texts with
+    /// small letters; that what else is counted came twenty times as often; and that so many pairs of tables had
+    /// different numbers of hidden rows.
     pub fn assert_varied(&self, least: usize, pairs: usize) {
         for (call, outcomes) in OUTCOMES {
             self.answers.assert_least(call, outcomes, least);
+        }
+        for (call, outcomes) in &OUTCOMES[1..3] {
+            self.small.assert_least(call, outcomes, least / 2);
         }
         let others = [self.apart, self.too_much];
         for times in [self.at_maximum, self.partly, self.sessions, others].concat() {

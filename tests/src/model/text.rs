@@ -82,8 +82,13 @@ fn name<'a>(part: &Part<'a>) -> Option<Vec<Part<'a>>> {
 /// The names of a list: one at least, and none of them empty.
 fn names_of_list<'a>(part: &Part<'a>) -> Option<Vec<Part<'a>>> {
     let names = split(part, b',');
-    let is_name = |name: &Part| !name.bytes.is_empty() && name.bytes.iter().all(is_name_byte);
+    let is_name = |name: &Part| !name.bytes.is_empty() && name.bytes.iter().all(is_text_byte);
     names.iter().all(is_name).then_some(names)
+}
+
+/// By R-9 "label text may now hold a..z" beside what images' names have.
+fn is_text_byte(byte: &u8) -> bool {
+    is_name_byte(byte) || byte.is_ascii_lowercase()
 }
 
 fn split<'a>(part: &Part<'a>, separator: u8) -> Vec<Part<'a>> {
@@ -109,8 +114,10 @@ fn places(image: &Image, class: u8, names: &[Part]) -> Result<Vec<usize>, Refusa
     Ok(places)
 }
 
+/// By R-9 a..z are "taken as A..Z in matching a component's name".
 fn place_of(image: &Image, class: u8, name: &[u8]) -> Option<usize> {
     let (first, count) = image.counts.class(class)?;
+    let name = name.to_ascii_uppercase();
     (0..count).find(|place| name_of(image.component(first + place), 1) == name)
 }
 

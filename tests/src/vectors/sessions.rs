@@ -156,7 +156,7 @@ fn session(user: usize, [label, row]: [Label; 2]) -> [u8; SESSION] {
 }
 
 /// A call on a session: "label TEXT" and "row TEXT" change it, "read ROW", "write ROW" and "update ROW"
-/// don't.
+/// don't. A text that is done has the label of its capitals.
 fn read_step(policy: &mut Policy, call: &str, answer: &str, before: [u8; SESSION]) -> Step {
     let (word, text) = call.split_once(' ').expect("a call and its text");
     let bytes = || text.as_bytes().to_vec();
@@ -176,7 +176,7 @@ fn read_step(policy: &mut Policy, call: &str, answer: &str, before: [u8; SESSION
     let answer = given.unwrap_or_else(|| panic!("{answer} answers no {word}"));
     let mut session = before;
     if let (Some(at), Answer::Done(_)) = (changed, answer) {
-        let label = read_label(policy, text).to_bytes();
+        let label = read_label(policy, &text.to_uppercase()).to_bytes();
         session[at..at + 48].copy_from_slice(&label);
     }
     Step {

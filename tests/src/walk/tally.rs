@@ -6,6 +6,7 @@ use crate::builder::{Edition, Set, Variant};
 use crate::calls::Call;
 use crate::compare::CallTally;
 use crate::ffi::Answer;
+use crate::spelling::has_small;
 use std::collections::BTreeSet;
 
 /// For each call the answers that it can give on an accepted image.
@@ -37,6 +38,8 @@ pub struct WalkTally {
     high: CallTally,
     /// Label changes by texts of over 4,096 bytes.
     long: CallTally,
+    /// Label changes by texts with small letters.
+    small: CallTally,
     /// Why a call was answered as it was, in the release profile.
     reasons: CallTally,
     /// The privileges of users whose verdicts were not refused.
@@ -57,8 +60,13 @@ impl WalkTally {
         if is_verdict && is_done && !step.is_known && sees_all(&step.call, step.privileges) {
             self.unknown.add(name, is_verdict, step.answer);
         }
-        if is_long(&step.call) {
-            self.long.add(name, is_verdict, step.answer);
+        if let Some(text) = step.call.text() {
+            if text.len() > 4_096 {
+                self.long.add(name, is_verdict, step.answer);
+            }
+            if has_small(text) {
+                self.small.add(name, is_verdict, step.answer);
+            }
         }
         if step.policy.variant().is_release() {
             let reason = reason(step).into_iter();
@@ -70,14 +78,17 @@ impl WalkTally {
         }
     }
 
-    /// Asks that each call gave each of its answers at least so often, that neither yes nor no is
-    /// rare, also where labels decide, that users had all privilege bytes that there are, and that in the release
-    /// profile each reason came so often too. Unknown tags are seen with READ and FULL in edition 1, and in
-    /// edition 2 they are not.
+    /// Asks that each call gave each of its answers at least so often, label changes also to texts with small
+    /// letters; that neither yes nor no is rare, also where labels decide, that users had all privilege bytes that
+    /// there are, and that in the release profile each reason came so often too. Unknown tags are seen with READ and
+    /// FULL in edition 1, and in edition 2 they are not.
     pub fn assert_varied(&self, variant: Variant, least: usize) {
         for (call, outcomes) in OUTCOMES {
             self.answers.assert_least(call, outcomes, least);
             self.answers.assert_of_images(variant.profile, call, least);
+        }
+        for (call, outcomes) in &OUTCOMES[1..3] {
+            self.small.assert_least(call, outcomes, least / 2);
         }
         let (always, never) = match variant.edition {
             Edition::One => ("yes", "no"),
@@ -117,13 +128,6 @@ impl WalkTally {
             self.long
                 .assert_least(call, &["done", "6", "7"], least / 10);
         }
-    }
-}
-
-fn is_long(call: &Call) -> bool {
-    match call {
-        Call::SetLabel(text) | Call::SetRowLabel(text) => text.len() > 4_096,
-        _ => false,
     }
 }
 
