@@ -54,7 +54,8 @@ fn user_names_stay_exact(variant: Variant) {
     assert_least(&tally, &[(4, 2_500)]);
 }
 
-/// A small letter in the name of a component or a user is a fault of that record, to every call.
+/// A small letter in the name of a component or a user is a fault of that record: to the check, a parse, a print, an
+/// opening and both label changes.
 fn images_have_capitals_only(variant: Variant) {
     let mut tally = Tally::default();
     for seed in seeds(0..POLICIES) {
