@@ -18,7 +18,7 @@ use Rattle.sessions.specs.Opening.{session, refused, openOf}
 use Rattle.sessions.specs.Changes.{changeIf, changeTo, afterLent, withLabel, withRowLabel, labelChange, rowLabelChange, setLabelOf, setRowLabelOf}
 use Rattle.sessions.specs.Asking.{mayReadOf, mayWriteOf}
 use Rattle.sessions.proofs.Passing.{opened-passes, label-changed-passes, row-label-changed-passes}
-use Rattle.buffers.specs.Filling.{unfilled}
+use Rattle.buffers.specs.Filling.{unfilled, filledGiven}
 use Rattle.maps.specs.Calls.{makeMapOf, judgeMapOf}
 use Rattle.rows.specs.Reading.{readRowsOf}
 use Rattle.rows.specs.Updating.{updateRowOf}
@@ -28,7 +28,7 @@ use Rattle.rows.specs.declared.answers.RowsRead.the-variants as read
 use Rattle.encoding.specs.Sessions.{sessionBytes, sessionIn, SessionPartsFit, Holds, changedInto}
 use Rattle.encoding.specs.Verdicts.{verdictCode}
 use Rattle.encoding.proofs.ReadBack.{bytes-hold}
-use Rattle.abi.specs.Answers.{coded, filledGiven, withSession}
+use Rattle.abi.specs.Answers.{coded, withSession}
 use Rattle.abi.specs.Maps.{makeMapAnswer, judgeMapAnswer, readMappedAnswer}
 use Rattle.abi.specs.Sessions.{openAnswer, changeAnswer, setLabelAnswer, setRowLabelAnswer, mayReadAnswer, mayWriteAnswer}
 use Rattle.abi.specs.Tables.{rowsGiven, readAnswer, updateAnswer, maskedAnswer}

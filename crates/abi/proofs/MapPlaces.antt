@@ -8,12 +8,11 @@ use Rattle.refusals.specs.declared.Refusal.the-variants.{WrongMap}
 use Rattle.refusals.specs.declared.answers.Checked.{Checked}
 use Rattle.refusals.specs.declared.answers.Checked.the-variants.{Accepted, Refused}
 use Rattle.refusals.specs.Answers.{onChecked, orRefuse, checkedGiven, PlaceFits}
-use Rattle.buffers.specs.Filling.{unfilled, writtenTo}
+use Rattle.buffers.specs.Filling.{unfilled, writtenTo, filledGiven}
 use Rattle.buffers.specs.declared.answers.Filled.{Filled}
 use Rattle.sessions.specs.Session.{SessionMarks, lentAnswer, sessionRights}
 use Rattle.maps.specs.Map.{mapOf, mapRule}
 use Rattle.maps.specs.Calls.{makeMapOf, judgeMapOf}
-use Rattle.abi.specs.Answers.{filledGiven}
 use Rattle.abi.proofs.Places.{lent-fits, written-fits}
 
 module _ (im : List ℕ) (s : SessionMarks) where

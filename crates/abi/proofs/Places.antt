@@ -44,10 +44,9 @@ use Rattle.buffers.specs.declared.answers.Filled.the-variants as filled
 use Rattle.moves.specs.declared.target.Move.the-variants.{Up, Clear}
 use Rattle.moves.specs.Moved.{newImage}
 use Rattle.moves.specs.Holders.{isHolder, holders}
-use Rattle.buffers.specs.Filling.{unfilled, writtenTo}
+use Rattle.buffers.specs.Filling.{unfilled, writtenTo, filledGiven}
 use Rattle.moves.specs.Moving.{framedTwo, oldCheckOf, moveLimitsRule, moveAccepted, moveUpOf, compaccessUsersOf, clearCompaccessOf}
 use Rattle.abi.specs.Labels.{printedGiven}
-use Rattle.abi.specs.Answers.{filledGiven}
 use Rattle.abi.specs.Sessions.{openedGiven}
 use Rattle.abi.specs.TwoLabels.{mergedGiven}
 

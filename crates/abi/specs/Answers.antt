@@ -5,8 +5,6 @@ use mathlib.Core.List.{List}
 use Rattle.refusals.specs.declared.Refusal.{Refusal}
 use Rattle.refusals.specs.declared.Refusal.the-variants.{SessionRules}
 use Rattle.refusals.specs.Answers.{onChecked, Given, done, refusalGiven, checkedGiven, codeOf}
-use Rattle.buffers.specs.declared.answers.Filled.{Filled}
-use Rattle.buffers.specs.declared.answers.Filled.the-variants as filled
 use Rattle.image.specs.Check.{checkOf}
 use Rattle.image.specs.Lookup.{nameAnswer, nameOffset, nameLength}
 use Rattle.sessions.specs.Session.{SessionMarks}
@@ -15,11 +13,6 @@ use Rattle.encoding.specs.Sessions.{sessionIn, oneUser}
 -- an answer beside the bytes after it, told in one number by what the answer gives back
 abbrev pub coded : {A : Type 0} → (A → Given) → A × List ℕ → ℕ × List ℕ
 coded given result = (codeOf (given (result .0)), result .1)
-
--- what a call gives back that writes to the front of a buffer: how many bytes are written
-abbrev pub filledGiven : Filled → Given
-filledGiven (filled.Done n) = done n
-filledGiven (filled.Refused r) = refusalGiven r
 
 -- the refusal of the image, 1, 2 or 31 to 35; of an accepted one that refusal
 abbrev pub afterCheck : List ℕ → Refusal → Refusal

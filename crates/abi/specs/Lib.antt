@@ -6,3 +6,4 @@ pub mod Tables
 pub mod TwoLabels
 pub mod Moves
 pub mod Maps
+pub mod Writing

@@ -3,11 +3,11 @@ use Prim.Native.Nat.{ℕ}
 use mathlib.Core.List.{List}
 use Rattle.refusals.specs.declared.answers.Checked.the-variants.{Refused}
 use Rattle.refusals.specs.Answers.{checkedGiven, codeOf}
-use Rattle.buffers.specs.Filling.{unfilled}
+use Rattle.buffers.specs.Filling.{unfilled, filledGiven}
 use Rattle.maps.specs.Calls.{makeMapOf, judgeMapOf}
 use Rattle.rows.specs.Mapped.{readMappedOf}
 use Rattle.rows.specs.declared.answers.RowsRead.the-variants as read
-use Rattle.abi.specs.Answers.{coded, filledGiven, withSession}
+use Rattle.abi.specs.Answers.{coded, withSession}
 use Rattle.abi.specs.Tables.{rowsGiven}
 
 -- ---- `brawnesk_map`: the map's length, and the buffer after it

@@ -2,7 +2,8 @@
 use Prim.Native.Nat.{ℕ}
 use mathlib.Core.List.{List}
 use Rattle.moves.specs.Moving.{moveUpOf, compaccessUsersOf, clearCompaccessOf}
-use Rattle.abi.specs.Answers.{coded, filledGiven}
+use Rattle.buffers.specs.Filling.{filledGiven}
+use Rattle.abi.specs.Answers.{coded}
 
 -- ---- `brawnesk_move_up`
 abbrev pub moveUpAnswer : List ℕ → List ℕ → ℕ × List ℕ

@@ -1,5 +1,6 @@
 // The C functions. Each takes the bytes apart, makes the call and lays its answer down in one number.
 mod codes;
+pub mod laying;
 pub mod mapping;
 pub mod moving;
 

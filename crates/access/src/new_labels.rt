@@ -15,7 +15,7 @@ use crate::rights::is_between;
 use header::layout;
 use header::profile::Profile;
 use header::profile::profile_of;
-use hierarchy::table;
+use hierarchy::group_rules;
 use hierarchy::table::Table;
 use labels::label::Label;
 use records::users;
@@ -72,7 +72,7 @@ fn groups_ok(image: &[u8], table: &Table, u: usize, set: Groups) -> bool
     let groups = users::group_sets(image, u);
     let all = Groups::all_below(layout::groups(image));
     match profile_of(image) {
-        Profile::Tree => table::lies_below(image, table, all, set, groups.read),
+        Profile::Tree => group_rules::lies_below(image, table, all, set, groups.read),
         Profile::Release => set.within(all) & groups.read.within(set),
     }
 }

@@ -3,8 +3,6 @@ ghost use Prim.Native.Nat.{_+_, _≤_};
 ghost use mathlib.Core.Path.{_≡_};
 ghost use lib.ListN.{length};
 ghost use Rattle.header.specs.Layout.{byEdition};
-ghost use Rattle.sets.specs.Groups.{placesOf};
-ghost use Rattle.labels.specs.GroupTest.{groupTest};
 ghost use Rattle.labels.specs.Label.{recordLabel};
 ghost use Rattle.access.specs.Rights.{rightsOf};
 ghost use Rattle.access.specs.Verdicts.{readsLabel};
@@ -13,32 +11,11 @@ use crate::verdicts::holds_compaccess;
 use crate::verdicts::reads_all;
 use fields::numbers::number8;
 use header::edition::Edition;
-use header::profile::Profile;
+use labels::group_test;
 use records::group_sets::group_set;
-use sets::groups::Groups;
 use sets::word;
 
-// The group test, by the test that most often decides first: a common group; no group that is asked for.
-fn groups_pass(profile: Profile, reached: Groups, groups: Groups) -> bool
-    ensures { λ r. ⌜ r ≡ groupTest profile (placesOf reached) (placesOf groups) ⌝ }
-{
-    match profile {
-        Profile::Tree => {
-            if groups.meets(reached) {
-                return true;
-            }
-            groups.is_empty()
-        }
-        Profile::Release => {
-            if reached.is_empty() {
-                return true;
-            }
-            reached.within(groups)
-        }
-    }
-}
-
-// Most records fail an early test, and the sets of groups are read last, each edition's in a way of its own: one word, or four.
+// Most records fail an early test, and the sets of groups are read last.
 pub fn reads_record(view: View, edition: Edition, rec: &[u8]) -> bool
     requires { ⌜ 16 + byEdition edition 8 32 ≤ length (now rec) ⌝ }
     ensures { λ r. ⌜ r ≡ readsLabel (rightsOf view) (recordLabel edition (now (rec .entry))) ⌝ }
@@ -57,9 +34,5 @@ pub fn reads_record(view: View, edition: Edition, rec: &[u8]) -> bool
         return true;
     }
     let profile = view.profile;
-    let reached = view.reached_groups;
-    match edition {
-        Edition::One => groups_pass(profile, reached, group_set(Edition::One, rec, 16)),
-        Edition::Two => groups_pass(profile, reached, group_set(Edition::Two, rec, 16)),
-    }
+    group_test::passes(profile, view.reached_groups, group_set(edition, rec, 16))
 }

@@ -1,2 +1,5 @@
+-- Laws that several proofs use, and what the crates above may cite.
 pub mod Meaning
+pub mod Cells
 pub mod Sums
+pub mod Joins

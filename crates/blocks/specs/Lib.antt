@@ -1,2 +1,3 @@
 -- An image as blocks: its length, and each block's check and place.
 pub mod Blocks
+pub mod Columns

@@ -4,6 +4,9 @@ ghost use mathlib.Core.Path.{_≡_};
 ghost use lib.ListN.{length};
 ghost use Rattle.fields.specs.Bytes.{byteAt};
 ghost use Rattle.blocks.specs.Blocks.{lengthRule, sumsOf, checkRule, placeRule, blockRule, firstBadBlock};
+use crate::columns::half_columns;
+use crate::columns::join;
+use crate::columns::wide;
 use fields::numbers::number2;
 
 // The length is not 0, a multiple of 512 and at most 65,536.
@@ -14,65 +17,24 @@ pub fn length_ok(image: &[u8]) -> bool
     (0 < n) & (n % 512 == 0) & (n <= 65536)
 }
 
-fn wide(x: u8) -> u16
-    ensures { λ r. ⌜ (r ≡ x) × (r < 256) ⌝ }
-{
-    x as u16
-}
-
-// Bytes i and i + 255 count alike in the second sum: 255 times more is no part of the remainder.
-fn pair(block: &[u8], i: usize) -> u16
-    requires { ⌜ (i ≤ 255) × (length (now block) ≡ 512) ⌝ }
-    ensures { λ r. ⌜ (r ≡ byteAt (now (block .entry)) i + byteAt (now (block .entry)) (i + 255)) × (r ≤ 510) ⌝ }
-{
-    wide(block[i]) + wide(block[i + 255])
-}
-
-// Two bytes and how often they count; below 128 times the product fits 16 bits.
-fn times(y: u16, w: u16) -> u16
-    requires { ⌜ (y ≤ 510) × (w ≤ 127) ⌝ }
-    ensures { λ r. ⌜ (r ≡ y * w) × (r ≤ 64770) ⌝ }
-{
-    y * w
-}
-
 // The two sums of a block, each below 255.
 pub struct Checksum {
     pub a: u32,
     pub b: u32,
 }
 
-// Pair i counts 255 - i times in the second sum: 127 - i and, where i is below 128, 128 more. All sums of the loop fit 16 bits,
-// the products as their high and low bytes, so it becomes vector code of eight lanes. Pair 255, bytes 255 and 510, counts 0
-// times; it makes both runs of the loop 128 pairs and is taken off the first sum.
+// The columns of both halves together. The last two bytes are no part of the sums: in the second, byte 510 counts no times and byte 511 once
+// less than that.
 pub fn sums(block: &[u8]) -> Checksum
     requires { ⌜ length (now block) ≡ 512 ⌝ }
     ensures { λ r. ⌜ r ≡ sumsOf (now (block .entry)) ⌝ }
 {
-    let mut c: u16 = 0;
-    let mut d: u16 = 0;
-    let mut high: u16 = 0;
-    let mut low: u16 = 0;
-    let mut w: u16 = 128;
-    let mut i = 0;
-    while i < 128 {
-        w -= 1;
-        let y = pair(block, i);
-        let z = pair(block, i + 128);
-        let m = times(y, w);
-        let n = times(z, w);
-        c += y;
-        d += z;
-        high += m / 256 + n / 256;
-        low += m % 256 + n % 256;
-        i += 1;
-    }
-    let more = pair(block, 255) as u32;
-    let a = (c as u32) + (d as u32) - more;
-    let b = (high as u32) * 256 + (low as u32) + (c as u32) * 128;
+    let all = join(half_columns(&block[0..256]), half_columns(&block[256..512]));
+    let x = wide(block[510]) as u32;
+    let y = wide(block[511]) as u32;
     Checksum {
-        a: a % 255,
-        b: b % 255,
+        a: (all.once - x - y) % 255,
+        b: (all.often + y) % 255,
     }
 }
 

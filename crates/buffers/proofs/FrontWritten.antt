@@ -32,6 +32,7 @@ module _ (b bytes : List ℕ) where
 
 -- ---- where such a call is done: the front of the buffer is the bytes, of the length that is told, and later bytes stay
 pub record FrontDone (b bytes after : List ℕ) (n : ℕ) : Type 0 where
+  pub long : n ≡ length bytes
   pub room : n ≤ length b
   pub front : take n after ≡ bytes
   pub later : drop n after ≡ drop n b
@@ -47,6 +48,7 @@ module _ (b bytes after : List ℕ) (n : ℕ) where
   laid room e f =
       rw (← e, ← f)
       (record {
+        long = refl;
         room = room;
         front = take-append-seam bytes (drop (length bytes) b);
         later = drop-append-seam bytes (drop (length bytes) b);

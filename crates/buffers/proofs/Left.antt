@@ -6,7 +6,7 @@ use native.Mathlib.Nat.{add-zero}
 use native.Mathlib.Omega.{arith}
 use lib.ListN.{length, take, set, length-append}
 use Rattle.buffers.specs.Pasting.{pasted, Written}
-use Rattle.buffers.proofs.Pasted.{pasted-none, pasted-length, pasted-taken, pasted-after, pasted-byte, byte-after}
+use Rattle.buffers.proofs.Pasted.{pasted-none, pasted-length, pasted-taken, pasted-after, pasted-over, pasted-byte, byte-after}
 
 -- nothing is written
 pub written-none : (b : List ℕ) (e : ℕ) (text : List ℕ) → text ≡ [] → Written b e text b e
@@ -37,6 +37,22 @@ module _ {b : List ℕ} {e : ℕ} {x mid : List ℕ} {r : ℕ} (fits : e + lengt
             w .bytes ∙ ap₂ (λ (t : List ℕ) (n : ℕ). pasted t n y) (v .bytes) (v .stop) ∙ pasted-after b e x fits y;
         stop = omega (arith, w .stop, v .stop, length-append x y);
       }
+
+-- a text over the last bytes of another, as many as it has
+pub written-over : {b : List ℕ} {e : ℕ} (x z : List ℕ) {mid : List ℕ} {r : ℕ} → e + length (x ++ z) ≤ length b → Written b e (x ++ z) mid r
+    → {y after : List ℕ} {q : ℕ} → length y ≡ length z → Written mid (e + length x) y after q → Written b e (x ++ y) after q
+written-over {b} {e} x z {mid} fits v {y} same w =
+    let both = length-append x z in
+    let inside : e + length x ≤ length b = omega arith in
+    let first : List ℕ = pasted b e x in
+    let room : e + length x + length z ≤ length first = omega (arith, pasted-length b e x inside) in
+    record {
+      bytes =
+          w .bytes
+          ∙ ap (λ (t : List ℕ). pasted t (e + length x) y) (v .bytes ∙ sym (pasted-after b e x inside z))
+          ∙ pasted-over first (e + length x) z room y (omega arith) ∙ pasted-after b e x inside y;
+      stop = omega (arith, w .stop, length-append x y);
+    }
 
 -- ---- a loop that writes: writing what is left gives what writing the whole gives
 pub record Left (b₀ : List ℕ) (at : ℕ) (whole b : List ℕ) (end : ℕ) (rest : List ℕ) : Type 0 where

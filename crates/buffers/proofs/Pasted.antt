@@ -41,6 +41,16 @@ module _ (b : List ℕ) (e : ℕ) (x : List ℕ) (fits : e + length x ≤ length
   rest : (n : ℕ) → drop (e + length x + n) (pasted b e x) ≡ drop (e + length x + n) b
   rest n = sym (drop-drop n (e + length x) (pasted b e x)) ∙ ap (drop n) dropped ∙ drop-drop n (e + length x) b
 
+  -- a text at the same place that is no shorter leaves nothing of it
+  pub pasted-over : (y : List ℕ) → length x ≤ length y → pasted (pasted b e x) e y ≡ pasted b e y
+  unfolding pasted
+  pasted-over y h =
+      let first : length (take e b) ≡ e = length-take-le e b (omega arith) in
+      let end : e + length x + (length y - length x) ≡ e + length y = omega arith in
+      ap₂ (λ (s t : List ℕ). s ++ y ++ t)
+      (ap (take e) (append-assoc (take e b) x (drop (e + length x) b)) ∙ take-at (take e b) (x ++ drop (e + length x) b) e first)
+      (rw end at (rest (length y - length x)))
+
   -- one text after another
   pub pasted-after : (y : List ℕ) → pasted (pasted b e x) (e + length x) y ≡ pasted b e (x ++ y)
   unfolding pasted

@@ -6,6 +6,7 @@ use lib.Dec.{leb}
 use lib.ListN.{length}
 use Rattle.refusals.specs.declared.Refusal.{Refusal}
 use Rattle.refusals.specs.declared.Refusal.the-variants.{Room}
+use Rattle.refusals.specs.Answers.{Given, done, refusalGiven}
 use Rattle.buffers.specs.Pasting.{atFront}
 use Rattle.buffers.specs.declared.answers.Filled.{Filled}
 use Rattle.buffers.specs.declared.answers.Filled.the-variants.{Done, Refused}
@@ -17,3 +18,8 @@ unfilled buffer r = (Refused r, buffer)
 -- the bytes at the buffer's front, and how many; 13 where it is shorter. Later bytes stay
 abbrev pub writtenTo : List ℕ → List ℕ → Filled × List ℕ
 writtenTo buffer bytes = cond (leb (length bytes) (length buffer)) (Done (length bytes), atFront bytes buffer) (unfilled buffer Room)
+
+-- what is given back: how many bytes are written
+abbrev pub filledGiven : Filled → Given
+filledGiven (Done n) = done n
+filledGiven (Refused r) = refusalGiven r

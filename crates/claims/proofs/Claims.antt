@@ -7,7 +7,7 @@ use mathlib.Core.Bool.{true, false}
 use mathlib.Core.List.{List, [], map, flatten}
 use mathlib.Core.Logic.{_↔_, _⊎_}
 use lib.ListN.{length, getD}
-use Rattle.fields.specs.Bytes.{byteAt}
+use Rattle.fields.specs.Bytes.{AreBytes}
 use Rattle.buffers.specs.Pasting.{atFront}
 use Rattle.sets.specs.Sets.{has}
 use Rattle.sets.proofs.Within.{within-has, has-within}
@@ -15,7 +15,7 @@ use Rattle.header.specs.declared.layout.Kind.{Kind}
 use Rattle.header.specs.declared.edition.Edition.the-variants.{One, Two}
 use Rattle.header.specs.declared.profile.Profile.the-variants.{Release}
 use Rattle.header.specs.Layout.{editionOf, profileOf, groups, users, labels}
-use Rattle.hierarchy.specs.Below.{Above, below}
+use Rattle.hierarchy.specs.Below.{forestOf, Above, below}
 use Rattle.hierarchy.proofs.Under.{below-true, below-above, above-below}
 use Rattle.refusals.specs.declared.answers.Checked.the-variants.{Accepted, Refused}
 use Rattle.refusals.specs.declared.answers.Verdict.the-variants.{Yes, No}
@@ -121,8 +121,8 @@ ten-steps-settle im acc tag two = ten-steps im tag acc two
 pub below-every-ancestor : (im : List ℕ) → IsAccepted im → (s g : ℕ)
     → (has (below im s) g ≡ true) ↔ ((g < groups im) × ((p : ℕ) × (Above im g p × (has s p ≡ true))))
 below-every-ancestor im acc s g = (
-  (λ e. (below-true im s g e .0, below-above im s g e)),
-  (λ q. above-below im s g (q .1 .0) (q .0) (parents-end im acc g (q .0)) (q .1 .1 .0) (q .1 .1 .1)),
+  (λ e. (below-true (forestOf im) s g e .0, below-above (forestOf im) s g e)),
+  (λ q. above-below (forestOf im) s g (q .1 .0) (q .0) (parents-end im acc g (q .0)) (q .1 .1 .0) (q .1 .1 .1)),
 )
 
 -- ---- label text
@@ -269,7 +269,7 @@ pub clear-done : (im buffer : List ℕ) → IsAccepted im → editionOf im ≡ O
     → clearCompaccessOf im buffer ≡ (filled.Done (length im), atFront (newImage Clear im) buffer)
 clear-done = moves.clear-done
 
-pub clear-nobody : (im : List ℕ) → IsAccepted im → editionOf im ≡ One → ((i : ℕ) → byteAt im i < 256) → holders im ≡ [] → newImage Clear im ≡ im
+pub clear-nobody : (im : List ℕ) → IsAccepted im → editionOf im ≡ One → AreBytes im → holders im ≡ [] → newImage Clear im ≡ im
 clear-nobody = cleared-none
 
 -- ---- the sample co-operative: each of the 16 cases P1 to P16 gives what document 01 says

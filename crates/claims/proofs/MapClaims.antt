@@ -8,7 +8,7 @@ use mathlib.Core.List.{List}
 use native.Mathlib.Omega.{arith}
 use borrow.Author.Tests.{lt-ltb, le-ltb, le-leb, lt-leb}
 use lib.ListN.{length, take}
-use Rattle.fields.specs.Bytes.{byteAt}
+use Rattle.fields.specs.Bytes.{AreBytes}
 use Rattle.refusals.specs.declared.Refusal.the-variants.{Room, WrongMap}
 use Rattle.refusals.specs.declared.answers.Checked.the-variants.{Accepted, Refused}
 use Rattle.refusals.specs.declared.answers.Verdict.the-variants.{Yes, No}
@@ -59,7 +59,7 @@ pub map-length : (im : List ℕ) (rights : Rights)
 map-length im rights = (bits.map-long im rights, (bits.length-holds im, bits.length-least im))
 
 -- Any bytes of that length with the right bits, spare ones zero, are the map: nothing else about it is to be known by who makes one elsewhere.
-pub map-unique : (im : List ℕ) (rights : Rights) (lent : List ℕ) → length lent ≡ mapLength im → ((k : ℕ) → byteAt lent k < 256)
+pub map-unique : (im : List ℕ) (rights : Rights) (lent : List ℕ) → length lent ≡ mapLength im → AreBytes lent
     → ((p : ℕ) → bitOf lent p ≡ readsRecord im rights p) → lent ≡ mapOf im rights
 map-unique = bits.map-unique
 

@@ -12,7 +12,7 @@ use Rattle.sets.proofs.Meets.{empty-place, place-meets, meets-mono}
 use Rattle.header.specs.declared.profile.Profile.{Profile}
 use Rattle.header.specs.declared.profile.Profile.the-variants.{Tree, Release}
 use Rattle.header.specs.Layout.{profileOf, byProfile}
-use Rattle.hierarchy.specs.Below.{below, reach}
+use Rattle.hierarchy.specs.Below.{forestOf, below, reach}
 use Rattle.hierarchy.proofs.Under.{below-self, below-mono}
 use Rattle.labels.specs.Label.{Marks, labelExists}
 use Rattle.labels.specs.GroupTest.{groupTest}
@@ -73,8 +73,8 @@ held-groups im a b e = at (profileOf im)
     at : (p : Profile) → GroupsHeld p a b → groupTest p (byProfile p (below im (a .groups)) (a .groups)) (b .groups) ≡ true
     at Tree w =
         groups-among (b .groups) (below im (a .groups))
-        (within-trans (b .groups) (below im (b .groups)) (below im (a .groups)) (below-self im (b .groups) (exists-means im b e .groups))
-        (below-mono im (b .groups) (a .groups) w))
+        (within-trans (b .groups) (below im (b .groups)) (below im (a .groups)) (below-self (forestOf im) (b .groups) (exists-means im b e .groups))
+        (below-mono (forestOf im) (b .groups) (a .groups) w))
     at Release w = w
 
 same-held : (p : Profile) (a : Marks) → GroupsHeld p a a

@@ -10,7 +10,7 @@ use native.Mathlib.Omega.{arith}
 use borrow.Author.Tests.{lt-ltb, le-ltb, eq-eqb, ne-eqb}
 use lib.Dec.{eqb, ltb}
 use lib.ListN.{length, getD, take, drop, drop-of-length-le, length-take, length-drop}
-use lib.Seq.{take-nil, take-all, drop-cons, getD-take, getD-drop}
+use lib.Seq.{take-nil, take-all, take-take, drop-cons, drop-drop, getD-take, getD-drop}
 use Rattle.fields.specs.Bytes.{all, part, byteAt}
 use Rattle.fields.specs.Names.{sameBytes, nameBefore}
 
@@ -34,6 +34,11 @@ module _ (s : List ℕ) (k n : ℕ) where
 
   pub part-byte : (i : ℕ) → i < n → byteAt (part s k n) i ≡ byteAt s (k + i)
   part-byte i h = rw (getD-take, getD-drop)
+
+-- a part of a part
+pub part-part : (s : List ℕ) (k n i m : ℕ) → i + m ≤ n → part (part s k n) i m ≡ part s (k + i) m
+part-part s k n i m h =
+    ap (take m) (drop-take i n (drop k s)) ∙ take-take m (n - i) (drop i (drop k s)) (omega arith) ∙ ap (take m) (drop-drop i k s)
 
 -- and from k up to the end
 pub rest-taken : (s : List ℕ) (k : ℕ) → take (length s - k) (drop k s) ≡ drop k s

@@ -2,6 +2,10 @@ pub mod Both
 pub mod Laws
 pub mod Meaning
 pub mod Scan
+pub mod Everywhere
 pub mod PlacesWhere
+pub mod NameBytes
+pub mod UnusedBytes
 pub mod Words
 pub mod Folding
+pub mod ByParts

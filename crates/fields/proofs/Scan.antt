@@ -1,15 +1,16 @@
 -- Laws of `firstBad`: what it means for places, and what a loop that runs it needs. Assumes nothing.
 use Prim.Native.Nat.{ℕ, zero, suc, _+_, _-_, _≤_, _<_}
 use mathlib.Core.Path.{_≡_, refl, sym, ap, _∙_, subst}
-use mathlib.Core.Bool.{Bool, true, false, cond}
+use mathlib.Core.Bool.{Bool, true, false, cond, _&&_}
 use mathlib.Core.List.{List, [], _∷_}
 use mathlib.Core.Logic.{⊎-elim}
 use native.Mathlib.Nat.{add-zero, zero-add, add-suc, suc-add, le-refl, eq-or-lt-of-le}
 use native.Mathlib.Numerals.{add-one}
 use native.Mathlib.Omega.{arith}
-use borrow.Author.Tests.{eqb-true}
+use borrow.Author.Tests.{eqb-true, eq-eqb}
 use lib.ListN.{length, getD}
 use Rattle.fields.specs.Scan.{firstBad, everywhere, listFrom}
+use Rattle.fields.proofs.Both.{parts, both, no-right, same-truth, below-or}
 
 module _ (rule : ℕ → Bool) where
   good-step : (n k : ℕ) → rule k ≡ true → firstBad rule (suc n) k ≡ firstBad rule n (suc k)
@@ -80,6 +81,16 @@ module _ (rule : ℕ → Bool) where
   all-good zero k h = sym (add-zero k)
   all-good (suc n) k h =
       rw (h k (le-refl k) (omega arith)) (all-good n (suc k) (λ i a b. h i (omega arith) (omega arith)) ∙ omega arith)
+
+  -- a loop that looks at every place: with one place more
+  pub everywhere-next : (n k : ℕ) → everywhere rule (n + 1) k ≡ (everywhere rule n k && rule (k + n))
+  everywhere-next n k =
+      same-truth _ _
+      (λ e. both _ _ (eq-eqb _ _ (all-good n k (λ i a b. everywhere-at (n + 1) k i e a (omega arith))))
+      (everywhere-at (n + 1) k (k + n) e (omega arith) (omega arith)))
+      (λ e. let p = parts _ _ e in
+      eq-eqb _ _ (all-good (n + 1) k (λ i a b. let h : i ≤ k + n = omega arith in
+      ⊎-elim (λ q. ap rule q ∙ p .1) (λ l. everywhere-at n k i (p .0) a l) (eq-or-lt-of-le h))))
 
   -- ---- a loop over i from k up to e, with the invariant that what is left gives what the whole gives
   module _ (e i w : ℕ) where
@@ -157,6 +168,25 @@ unfolding firstBad
 bad-same-on f g zero k h = refl
 bad-same-on f g (suc n) k h =
     rw (h k (le-refl k) (omega arith), bad-same-on f g n (suc k) (λ i a b. h i (omega arith) (omega arith)))
+
+-- a rule of two parts: where the first part fails first, and before that the second
+pub bad-both : (f g : ℕ → Bool) (n k : ℕ) → firstBad (λ i. f i && g i) n k ≡ firstBad g (firstBad f n k - k) k
+bad-both f g n k =
+    let j = firstBad f n k in
+    let r = firstBad g (j - k) k in
+    let from : k ≤ j = bad-from f n k in
+    let upto : j ≤ k + n = bad-upto f n k in
+    let low : k ≤ r = bad-from g (j - k) k in
+    let high : r ≤ k + (j - k) = bad-upto g (j - k) k in
+    let good : (i : ℕ) → k ≤ i → i < j → i < r → (f i && g i) ≡ true =
+    λ i a b c. both (f i) (g i) (good-before f n k i a b) (good-before g (j - k) k i a c) in
+    ⊎-elim
+    (λ l. bad-is (λ i. f i && g i) n k r low (omega arith) (λ i a b. good i a (omega arith) b)
+    (no-right (f r) (g r) (bad-at g (j - k) k (omega arith))))
+    (λ l. let same : r ≡ j = omega arith in
+    ⊎-elim (λ m. bad-is (λ i. f i && g i) n k j from m (λ i a b. good i a b (omega arith)) (rw (bad-at f n k m)) ∙ sym same)
+    (λ m. all-good (λ i. f i && g i) n k (λ i a b. good i a (omega arith) (omega arith)) ∙ omega arith) (below-or j (k + n)))
+    (below-or r j)
 
 -- ---- the list of what f gives at the n places from k on
 module _ {A : Type 0} (f : ℕ → A) where

@@ -1,5 +1,5 @@
 -- Numbers and unused bytes in a run of bytes. All numbers are little-endian.
-use Prim.Native.Nat.{ℕ, _+_, _*_}
+use Prim.Native.Nat.{ℕ, _+_, _*_, _<_}
 use mathlib.Core.Bool.{Bool, true, _&&_}
 use mathlib.Core.List.{List, [], _∷_}
 use lib.Dec.{eqb}
@@ -8,6 +8,10 @@ use lib.ListN.{getD, take, drop}
 -- byte k of s; 0 past its end
 abbrev pub byteAt : List ℕ → ℕ → ℕ
 byteAt s k = getD s k 0
+
+-- its numbers are bytes, as in every run that a call is lent
+abbrev pub AreBytes : List ℕ → Type 0
+AreBytes s = (k : ℕ) → byteAt s k < 256
 
 -- the n bytes of s from k on, or those of them that s has
 abbrev pub part : List ℕ → ℕ → ℕ → List ℕ

@@ -1,6 +1,6 @@
 -- Names: their alphabet, the field that holds one, equality, order, and small letters taken as capitals.
 use Prim.Native.Nat.{ℕ, _+_, _-_}
-use mathlib.Core.Bool.{Bool, true, false, cond, _&&_, _||_}
+use mathlib.Core.Bool.{Bool, true, false, cond, not, _&&_, _||_}
 use mathlib.Core.List.{List, [], _∷_, map}
 use lib.Dec.{eqb, leb, ltb}
 use Rattle.fields.specs.Bytes.{byteAt, part, all, allZero}
@@ -23,6 +23,11 @@ unfoldable pub nameRule : List ℕ → Bool
 nameRule field =
     leb 1 (byteAt field 0) && leb (byteAt field 0) 30 && allNameBytes (nameIn field)
     && allZero (part field (1 + byteAt field 0) (30 - byteAt field 0))
+
+-- of the 30 bytes after a name's length, here at the front of s, the one at place j: a zero is the last of them or has a zero after it, and
+-- any other byte is of the alphabet
+unfoldable pub letterAt : List ℕ → ℕ → Bool
+letterAt s j = cond (eqb (byteAt s j) 0) (not (ltb j 29) || eqb (byteAt s (j + 1)) 0) (not (ltb j 30) || nameByte (byteAt s j))
 
 -- two names, or any runs of bytes, are the same, byte for byte
 unfoldable pub sameBytes : List ℕ → List ℕ → Bool

@@ -2,8 +2,10 @@
 ghost use Prim.Native.Nat.{_+_, _<_};
 ghost use mathlib.Core.Path.{_≡_};
 ghost use lib.ListN.{length};
-ghost use Rattle.fields.specs.Names.{nameByte, allNameBytes, nameIn, nameRule, sameBytes, smallLetter, folded, foldedName, inLetters, nameBefore};
-use crate::numbers::all_zero;
+ghost use Rattle.fields.specs.Names.{nameByte, nameIn, sameBytes, smallLetter, inLetters, nameBefore};
+use crate::folded::same_folded;
+use crate::same::same_bytes;
+use crate::same::same_words;
 
 // A..Z, 0..9 and underscore; most are letters, so those leave first.
 pub fn name_byte(x: u8) -> bool
@@ -13,34 +15,6 @@ pub fn name_byte(x: u8) -> bool
         return true;
     }
     (48 <= x) & (x <= 57) | (x == 95)
-}
-
-fn all_name_bytes(s: &[u8]) -> bool
-    ensures { λ r. ⌜ r ≡ allNameBytes (now (s .entry)) ⌝ }
-{
-    let mut i = 0;
-    while i < s.len() {
-        if !name_byte(s[i]) {
-            return false;
-        }
-        i += 1;
-    }
-    true
-}
-
-// A field of 31 bytes holds a name as the rules ask.
-pub fn name_ok(field: &[u8]) -> bool
-    requires { ⌜ length (now field) ≡ 31 ⌝ }
-    ensures { λ r. ⌜ r ≡ nameRule (now (field .entry)) ⌝ }
-{
-    let n = field[0] as usize;
-    if n < 1 {
-        return false;
-    }
-    if 30 < n {
-        return false;
-    }
-    all_name_bytes(&field[1..1 + n]) & all_zero(&field[1 + n..31])
 }
 
 // The name that a field of 31 bytes holds; a length past the field gives what the field has.
@@ -61,14 +35,10 @@ pub fn same_name(a: &[u8], b: &[u8]) -> bool
     if a.len() != b.len() {
         return false;
     }
-    let mut i = 0;
-    while i < a.len() {
-        if a[i] != b[i] {
-            return false;
-        }
-        i += 1;
+    if a.len() < 8 {
+        return same_bytes(a, b);
     }
-    true
+    same_words(a, b)
 }
 
 // In which letters a name is compared with an image's: in its own, or, if it stands in a label's text, with small ones taken as capitals.
@@ -82,30 +52,6 @@ pub fn small_letter(x: u8) -> bool
     ensures { λ r. ⌜ r ≡ smallLetter x ⌝ }
 {
     (97 <= x) & (x <= 122)
-}
-
-// A small letter is taken as its capital, any other byte as it is.
-fn fold(x: u8) -> u8
-    ensures { λ r. ⌜ r ≡ folded x ⌝ }
-{
-    if small_letter(x) { x - 32 } else { x }
-}
-
-// Is b, folded, the name a?
-fn same_folded(a: &[u8], b: &[u8]) -> bool
-    ensures { λ r. ⌜ r ≡ sameBytes (now (a .entry)) (foldedName (now (b .entry))) ⌝ }
-{
-    if a.len() != b.len() {
-        return false;
-    }
-    let mut i = 0;
-    while i < a.len() {
-        if a[i] != fold(b[i]) {
-            return false;
-        }
-        i += 1;
-    }
-    true
 }
 
 // Is b, in those letters, the name a?

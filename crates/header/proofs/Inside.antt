@@ -97,6 +97,9 @@ module _ (shape : Shape) (roomy : Roomy shape) where
       let s = slot-add (shape .capacity) i j (roomy .some) h in
       rw (s .0, s .1, mul-add) (omega arith)
 
+  pub slot-same : (i j : ℕ) → recordSlot shape i + j < shape .capacity → recordSlot shape (i + j) ≡ recordSlot shape i + j
+  slot-same i j h = slot-add (shape .capacity) i j (roomy .some) h .1
+
   pub block-after : (i : ℕ) → recordOffset shape (i + (shape .capacity - recordSlot shape i))
       ≡ recordOffset shape i + shape .size * (shape .capacity - recordSlot shape i) + (512 - shape .size * shape .capacity)
   unfolding recordOffset

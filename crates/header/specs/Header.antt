@@ -7,22 +7,33 @@ use lib.ListN.{length}
 use Rattle.fields.specs.Bytes.{byteAt, part, allZero}
 use Rattle.header.specs.declared.edition.Edition.{Edition}
 use Rattle.header.specs.declared.edition.Edition.the-variants.{One, Two}
-use Rattle.header.specs.Layout.{editionOf, levels, compartments, groups, users, labels, blocksNeeded}
-use Rattle.header.specs.Limits.{limitsOf}
+use Rattle.header.specs.declared.counts.Counts.{Counts}
+use Rattle.header.specs.Layout.{editionOf, users, labels, countsOf, blocksNeeded}
+use Rattle.header.specs.Limits.{limitsIn}
 
 -- the edition is 1 or 2
+abbrev pub knownEdition : ℕ → Bool
+knownEdition byte = eqb byte 1 || eqb byte 2
+
 abbrev pub editionRule : List ℕ → Bool
-editionRule im = eqb (byteAt im 4) 1 || eqb (byteAt im 4) 2
+editionRule im = knownEdition (byteAt im 4)
 
 -- the profile is 0 or 1
+abbrev pub knownProfile : ℕ → Bool
+knownProfile byte = leb byte 1
+
 abbrev pub profileRule : List ℕ → Bool
-profileRule im = leb (byteAt im 12) 1
+profileRule im = knownProfile (byteAt im 12)
 
 -- no count is past its limit, and there is a level
+abbrev pub countsWithin : Counts → ℕ → ℕ → Bool
+countsWithin n users labels =
+    let most = limitsIn (n .edition) in
+    leb 1 (n .levels) && leb (n .levels) (most .levels) && leb (n .compartments) (most .compartments)
+    && leb (n .groups) (most .groups) && leb users (most .users) && leb labels (most .labels)
+
 unfoldable pub countsRule : List ℕ → Bool
-countsRule im =
-    leb 1 (levels im) && leb (levels im) (limitsOf im .levels) && leb (compartments im) (limitsOf im .compartments)
-    && leb (groups im) (limitsOf im .groups) && leb (users im) (limitsOf im .users) && leb (labels im) (limitsOf im .labels)
+countsRule im = countsWithin (countsOf im) (users im) (labels im)
 
 -- the bytes from 13 on are unused; in edition 2 byte 7 is, and the group count stands in bytes 14 and 15
 abbrev pub unusedRule : Edition → List ℕ → Bool

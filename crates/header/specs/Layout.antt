@@ -11,6 +11,7 @@ use Rattle.header.specs.declared.edition.Edition.{Edition}
 use Rattle.header.specs.declared.edition.Edition.the-variants.{One, Two}
 use Rattle.header.specs.declared.profile.Profile.{Profile}
 use Rattle.header.specs.declared.profile.Profile.the-variants.{Tree, Release}
+use Rattle.header.specs.declared.counts.Counts.{Counts}
 use Rattle.header.specs.declared.layout.Kind.{Kind}
 use Rattle.header.specs.declared.layout.Kind.the-variants.{Component, Label, User}
 use Rattle.header.specs.declared.layout.Shape.{Shape}
@@ -19,13 +20,19 @@ use Rattle.header.specs.declared.walk.RecordAt.{RecordAt}
 
 -- ---- block 0: the edition, byte 4
 -- A header whose edition is neither 1 nor 2 is at fault (`headerRule`); its counts are read as those of edition 1.
+abbrev pub editionNamed : ℕ → Edition
+editionNamed byte = cond (eqb byte 2) Two One
+
 unfoldable pub editionOf : List ℕ → Edition
-editionOf im = cond (eqb (byteAt im 4) 2) Two One
+editionOf im = editionNamed (byteAt im 4)
 
 -- ---- block 0: the profile, byte 12
 -- A header whose profile is neither 0 nor 1 is at fault (`headerRule`); it is read as 0.
+abbrev pub profileNamed : ℕ → Profile
+profileNamed byte = cond (eqb byte 1) Release Tree
+
 unfoldable pub profileOf : List ℕ → Profile
-profileOf im = cond (eqb (byteAt im 12) 1) Release Tree
+profileOf im = profileNamed (byteAt im 12)
 
 -- what differs between the profiles
 abbrev pub byProfile : {A : Type 0} → Profile → A → A → A
@@ -57,14 +64,7 @@ labels im = number2 im 10
 unfoldable pub components : List ℕ → ℕ
 components im = levels im + compartments im + groups im
 
--- ---- what the rules of records ask of the header: the edition, the profile, and how many components there are of each class
-pub record Counts : Type 0 where
-  pub edition : Edition
-  pub profile : Profile
-  pub levels : ℕ
-  pub compartments : ℕ
-  pub groups : ℕ
-
+-- ---- what the rules of records ask of the header: the edition, the profile, and how many components there are of each class (`Counts`)
 abbrev pub countsOf : List ℕ → Counts
 countsOf im = record { edition = editionOf im; profile = profileOf im; levels = levels im; compartments = compartments im; groups = groups im }
 
@@ -81,7 +81,8 @@ classFirst n class = cond (eqb class 1) 0 (cond (eqb class 2) (n .levels) (n .le
 unfoldable pub classAt : Counts → ℕ → ℕ
 classAt n i = cond (ltb i (n .levels)) 1 (cond (ltb i (n .levels + n .compartments)) 2 3)
 
--- ---- the kinds: components, labels, users. The numbers that a kind's shape is made of stand here alone
+-- ---- the kinds: components, labels, users, and the numbers that a kind's shape is made of. Of a component's 40 bytes code and laws also speak
+-- by that number, as it is the same in both editions
 abbrev pub kindByte : Kind → ℕ
 kindByte Component = 67
 kindByte Label = 76

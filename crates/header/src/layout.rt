@@ -2,7 +2,7 @@
 ghost use Prim.Native.Nat.{_+_, _-_, _*_, _/_, _%_, _^_, _<_, _≤_, min};
 ghost use mathlib.Core.Path.{_≡_};
 ghost use lib.ListN.{length};
-ghost use Rattle.header.specs.Layout.{editionOf, countsOf, classCount, classFirst, classAt, kindByte, recordSize, capacityOf, countOf, blocksOf, firstBlock, blocksNeeded, Fitted, Roomy, Shaped, recordBlock, recordSlot, recordOffset, recordAt, componentNameOffset};
+ghost use Rattle.header.specs.Layout.{editionOf, countsOf, classCount, classFirst, kindByte, recordSize, capacityOf, countOf, blocksOf, firstBlock, blocksNeeded, Fitted, Roomy, Shaped, recordBlock, recordSlot, recordOffset, recordAt, componentNameOffset};
 ghost use Rattle.header.specs.Layout as layout;
 ghost use Rattle.header.specs.declared.edition.Edition.the-variants.{One};
 ghost use Rattle.header.specs.declared.layout.Kind.the-variants as kind;
@@ -105,21 +105,6 @@ pub fn class_first(image: &[u8], class: u8) -> usize
         return levels(image);
     }
     levels(image) + compartments(image)
-}
-
-// The class that the counts put at place i among all components.
-pub fn class_at(image: &[u8], i: usize) -> u8
-    requires { ⌜ 512 ≤ length (now image) ⌝ }
-    ensures { λ r. ⌜ r ≡ classAt (countsOf (now (image .entry))) i ⌝ }
-{
-    let levels = levels(image);
-    if i < levels {
-        return 1;
-    }
-    if i < levels + compartments(image) {
-        return 2;
-    }
-    3
 }
 
 pub fn kind_byte(kind: Kind) -> u8

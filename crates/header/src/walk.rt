@@ -1,4 +1,4 @@
-// A walk over the records of a kind, from block to block: it divides only where it begins.
+// A walk over the records of a kind, from block to block or from record to record: it divides only where it begins.
 ghost use Prim.Native.Nat.{_+_, _-_, _*_, _^_, _<_, _≤_, min};
 ghost use mathlib.Core.Path.{_≡_};
 ghost use lib.ListN.{length};
@@ -33,4 +33,18 @@ pub fn next_block(shape: Shape, here: RecordAt, j: usize) -> RecordAt
         at: here.at + shape.size * here.left + (512 - shape.size * shape.capacity),
         left: shape.capacity,
     }
+}
+
+// The record after that one: in the same block, or the first of the next.
+pub fn next_record(shape: Shape, here: RecordAt, j: usize) -> RecordAt
+    requires { ⌜ Roomy shape × (Standing shape j here × (recordOffset shape j < 2 ^ 63)) ⌝ }
+    ensures { λ r. ⌜ Standing shape (j + 1) r ⌝ }
+{
+    if here.left > 1 {
+        return RecordAt {
+            at: here.at + shape.size,
+            left: here.left - 1,
+        };
+    }
+    next_block(shape, here, j)
 }

@@ -1,19 +1,23 @@
--- The laws of `specs/Below.antt` and `specs/Paths.antt` by subject.
+-- The laws of `specs/` by subject.
 --     Lineage   the walk along parents: what it meets, where it ends
 --     Room      the groups fit a set and a table
 --     Walks     a walk that ends takes no more steps than there are groups
 --     Under     `below`: its places, and its laws as an operation on sets
---     Reaching  a set that lies below another, by the parents of its groups
---     Paths     where a path stops and what it passes
---     Rings     groups whose parents end, as far as they are known
---     Known     groups that lie below a set, as far as they are known
---     Steps     what the loops need: one step of each
+--     Rings     the lowest group whose parents never end
+--     Steps     what the loops that fill the table need
+--     Alike     forests that are alike, as that of a table and that of the records which it was filled from
+--     Ordering  an order of the groups, walk by walk
+--     OrderTurns the loop that orders them
+--     InOrder   `below` of a set by one pass over the order
+--     OfImage   the forest and the rules of an image, by its records
 pub mod Lineage
 pub mod Room
 pub mod Walks
 pub mod Under
-pub mod Reaching
-pub mod Paths
 pub mod Rings
-pub mod Known
 pub mod Steps
+pub mod Alike
+pub mod Ordering
+pub mod OrderTurns
+pub mod InOrder
+pub mod OfImage

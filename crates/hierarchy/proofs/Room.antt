@@ -6,7 +6,7 @@ use Rattle.sets.specs.Groups.{width}
 use Rattle.header.specs.Layout.{groups}
 use Rattle.header.specs.Limits.{Counted}
 use Rattle.header.proofs.Editions.{counted-groups}
-use Rattle.hierarchy.specs.Paths.{tableRoom}
+use Rattle.hierarchy.specs.Forest.{tableRoom}
 
 pub groups-fit : (im : List ℕ) → Counted im → groups im ≤ width
 groups-fit im c = counted-groups im c

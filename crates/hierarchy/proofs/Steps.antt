@@ -1,109 +1,183 @@
--- What the loops need: one step of a path along parents, of a loop that asks whether a set lies below another, and of one
--- that fills the table. Assumes nothing.
-use Prim.Native.Nat.{ℕ, suc, _+_, _-_, _^_, _<_}
-use mathlib.Core.Path.{_≡_, refl, sym, ap, _∙_}
-use mathlib.Core.Bool.{Bool, true, false, _&&_, or-assoc, true≢false}
+-- What the loops that fill the table need: one step of each. Assumes nothing.
+use Prim.Native.Nat.{ℕ, suc, _+_, _-_, _≤_, _<_, zero-le}
+use mathlib.Core.Path.{_≡_, refl, sym, ap, _∙_, subst}
+use mathlib.Core.Bool.{Bool, true, false}
 use mathlib.Core.List.{List}
+use mathlib.Core.Logic.{_⊎_, inl, inr, ⊎-elim}
+use native.Mathlib.Nat.{le-refl, sub-self}
+use native.Mathlib.Numerals.{add-one}
 use native.Mathlib.Omega.{arith}
-use borrow.Author.Tests.{eqb-true, ne-eqb}
 use borrow.Author.Count.{below-more}
 use borrow.Author.Needs.{read-below}
-use lib.Bits.{or-zero-r}
-use lib.ListN.{length, getD, set}
-use lib.Seq.{getD-set-same}
-use Rattle.sets.specs.Sets.{has, one, allBelow, union, intersection, difference, within, empty, Lowest}
-use Rattle.sets.proofs.Has.{has-ext, one-has, union-has}
-use Rattle.sets.proofs.Within.{within-has, difference-within, difference-within-same}
-use Rattle.sets.proofs.Bounds.{below-within, part-below, difference-below}
-use Rattle.sets.proofs.Lowest.{lowest-in}
-use Rattle.header.specs.Layout.{editionOf, groups, userRecord}
-use Rattle.records.specs.Fields.{readGroups, writeGroups, defaultGroups, rowGroups}
-use Rattle.hierarchy.specs.Below.{parent, below, belowRule}
-use Rattle.hierarchy.specs.Paths.{stops, climbed, passed, Fits}
-use Rattle.hierarchy.proofs.Under.{below-limit}
-use Rattle.hierarchy.proofs.Paths.{climbed-on, passed-on, passed-stop, passed-none}
+use borrow.Author.Tests.{ltb-true, ltb-false}
+use lib.Dec.{ltb}
+use lib.ListN.{length, getD, set, length-set}
+use lib.Seq.{getD-set-same, getD-set-other}
+use Rattle.hierarchy.specs.Forest.{tableRoom, tableLength, orderAt}
+use Rattle.hierarchy.specs.Paths.{ancestor, Passes, Differ, Placed}
 
-union-assoc : (a b c : ℕ) → union (union a b) c ≡ union a (union b c)
-union-assoc a b c = has-ext (union (union a b) c) (union a (union b c)) (λ p. simp (union-has, or-assoc))
+-- ---- a loop that puts the parents
+pub stored-more : (parent : ℕ → ℕ) (table : List ℕ) (g w : ℕ) → g < length table → w ≡ parent g
+    → ((k : ℕ) → k < g → getD table k 0 ≡ parent k)
+    → (k : ℕ) → k < g + 1 → getD (set table g w) k 0 ≡ parent k
+stored-more parent table g w l is before =
+    below-more (λ (k : ℕ). getD (set table g w) k 0 ≡ parent k) g
+    (λ k h. read-below ℕ table g k w 0 (parent k) h (before k h)) (getD-set-same table g w 0 l ∙ is)
 
--- ---- a path that is at g with n steps left, where q is the parent's place
-module _ (im : List ℕ) (known n g q : ℕ) (some : 0 < n) (next : q ≡ parent im g) (on : stops (groups im) known g ≡ false) where
-  one-less : n ≡ suc (n - 1)
-  one-less = omega arith
+-- ---- a loop that gives the groups of a walk from g their places, from the last down
+pub placed-none : (parent : ℕ → ℕ) (g end : ℕ) (table places : List ℕ) → Placed parent g end end table places table places
+placed-none parent g end table places =
+    record {
+      parents = λ p h. refl;
+      lower = λ i h. refl;
+      order = λ i low high. absurd (omega arith);
+      place = λ i low high. absurd (omega arith);
+      other = λ p none. refl;
+    }
 
-  pub climb-on : climbed im known n g ≡ climbed im known (n - 1) q
-  climb-on = ap (λ (m : ℕ). climbed im known m g) one-less ∙ climbed-on im known (n - 1) g on ∙ rw next
+module _ (parent : ℕ → ℕ) (g from to end at : ℕ) (before were table places : List ℕ) (left : from < to) (inside : to ≤ end) (room : end ≤ tableRoom)
+    (differ : Differ tableRoom parent g (end - from)) (long : length table ≡ tableLength) (all : length places ≡ tableRoom)
+    (is : at ≡ ancestor parent (end - to) g) (so : Placed parent g to end before were table places) where
+  -- place i among those that are given now: the last, or one of those before
+  last : (i : ℕ) → to - 1 ≤ i → (i ≡ to - 1) ⊎ (to ≤ i)
+  last i h = at' (ltb i to) refl
+    where
+      at' : (t : Bool) → ltb i to ≡ t → (i ≡ to - 1) ⊎ (to ≤ i)
+      at' true e = inl (omega (arith, ltb-true i to e))
+      at' false e = inr (ltb-false i to e)
 
-  -- marked are the places before g
-  pub mark-on : (marked : ℕ) → union (union marked (one g)) (passed im known (n - 1) q) ≡ union marked (passed im known n g)
-  mark-on marked =
-      union-assoc marked (one g) (passed im known (n - 1) q)
-      ∙ ap (union marked)
-      (rw next (sym (passed-on im known (n - 1) g on)) ∙ ap (λ (m : ℕ). passed im known m g) (sym one-less))
+  here : end - 1 - (to - 1) ≡ end - to
+  here = omega arith
 
--- it stops here
-pub mark-stop : (im : List ℕ) (known n g marked : ℕ) → stops (groups im) known g ≡ true
-    → marked ≡ union marked (passed im known n g)
-mark-stop im known n g marked e = sym (or-zero-r marked) ∙ ap (union marked) (sym (passed-stop im known n g e))
+  at-inside : at < tableRoom
+  at-inside = rw is (differ .inside (end - to) (omega arith))
 
--- no steps are left
-module _ (im : List ℕ) (known n g : ℕ) (no : n ≡ 0) where
-  pub climb-none : climbed im known n g ≡ g
-  unfolding climbed
-  climb-none = rw no
+  new-order : (i : ℕ) → to - 1 ≤ i → i < end → orderAt (set table (255 + to) at) i ≡ ancestor parent (end - 1 - i) g
+  new-order i low high = ⊎-elim now earlier (last i low)
+    where
+      now : i ≡ to - 1 → orderAt (set table (255 + to) at) i ≡ ancestor parent (end - 1 - i) g
+      now e =
+          let slot : 256 + i ≡ 255 + to = omega arith in
+          ap (λ (k : ℕ). getD (set table (255 + to) at) k 0) slot
+          ∙ getD-set-same table (255 + to) at 0 (omega arith) ∙ is
+          ∙ ap (λ (k : ℕ). ancestor parent k g) (sym (ap (λ (k : ℕ). end - 1 - k) e ∙ here))
 
-  pub mark-none : (marked : ℕ) → marked ≡ union marked (passed im known n g)
-  mark-none marked =
-      sym (or-zero-r marked)
-      ∙ ap (union marked) (sym (ap (λ (m : ℕ). passed im known m g) no ∙ passed-none im known g))
+      earlier : to ≤ i → orderAt (set table (255 + to) at) i ≡ ancestor parent (end - 1 - i) g
+      earlier l = getD-set-other table (255 + to) (256 + i) at 0 (omega arith) ∙ so .order i l high
 
--- ---- the groups of s, as the code finds them
-pub groups-of : (im : List ℕ) (s all r n : ℕ) → n ≡ groups im → all ≡ allBelow n → r ≡ intersection s all
-    → r ≡ intersection s (allBelow (groups im))
-groups-of im s all r n count e is = is ∙ rw (e, count)
+  new-place : (i : ℕ) → to - 1 ≤ i → i < end → getD (set places at to) (ancestor parent (end - 1 - i) g) 0 ≡ i + 1
+  new-place i low high = ⊎-elim now earlier (last i low)
+    where
+      now : i ≡ to - 1 → getD (set places at to) (ancestor parent (end - 1 - i) g) 0 ≡ i + 1
+      now e =
+          let same : ancestor parent (end - 1 - i) g ≡ at = ap (λ (k : ℕ). ancestor parent k g) (ap (λ (k : ℕ). end - 1 - k) e ∙ here) ∙ sym is in
+          let room = at-inside in
+          ap (λ (k : ℕ). getD (set places at to) k 0) same ∙ getD-set-same places at to 0 (omega arith) ∙ omega arith
 
--- ---- a set s with a place that is no group does not lie below t
-pub lies-outside : (im : List ℕ) (s t : ℕ) → within s (allBelow (groups im)) ≡ false → within s (below im t) ≡ false
-lies-outside im s t o = at (within s (below im t)) refl
-  where
-    at : (b : Bool) → within s (below im t) ≡ b → b ≡ false
-    at true w =
-        let inside = below-within s (groups im) (part-below s (below im t) (groups im) w (below-limit im t)) in
-        absurd (true≢false (sym inside ∙ o))
-    at false w = refl
+      earlier : to ≤ i → getD (set places at to) (ancestor parent (end - 1 - i) g) 0 ≡ i + 1
+      earlier l =
+          let other : ancestor parent (end - 1 - i) g ≡ at → ⊥ =
+          λ e. let same = differ .differ (end - 1 - i) (end - to) (omega arith) (omega arith) (e ∙ is) in omega arith in
+          getD-set-other places at (ancestor parent (end - 1 - i) g) to 0 other ∙ so .place i l high
 
--- ---- a loop that asks whether a set s lies in t, place after place: q does
-pub lies-on : (s t q : ℕ) → has t q ≡ true → within (difference s (one q)) t ≡ within s t
-lies-on s t q m =
-    difference-within-same s t (one q) (λ p h k. rw (sym (eqb-true q p (sym (one-has q p) ∙ k))) m)
+  pub placed-more : Placed parent g (to - 1) end before were (set table (255 + to) at) (set places at to)
+  placed-more =
+      record {
+        parents = λ p h. getD-set-other table (255 + to) p at 0 (omega arith) ∙ so .parents p h;
+        lower = λ i h. getD-set-other table (255 + to) (256 + i) at 0 (omega arith) ∙ so .lower i (omega arith);
+        order = new-order;
+        place = new-place;
+        other =
+            λ p none.
+            let apart : p ≡ at → ⊥ =
+            λ e. none (to - 1) (omega arith) (omega arith) (e ∙ is ∙ ap (λ (k : ℕ). ancestor parent k g) (sym here)) in
+            getD-set-other places at p to 0 apart ∙ so .other p (λ i low high. none i (omega arith) high);
+      }
 
--- ---- a word of groups, whose lowest place is taken
-pub lowest-left : (w q : ℕ) → Lowest 64 w q → w < 2 ^ 64 → (w ≡ 0 → ⊥) → (q < 64) × (has w q ≡ true)
-unfolding empty
-lowest-left w q l h some = lowest-in 64 w q l h (ne-eqb w 0 some)
+-- ---- a loop that counts the groups of a walk from g: it is at the n-th
+pub record Passing (count : ℕ) (parent : ℕ → ℕ) (places : List ℕ) (g at n : ℕ) : Type 0 where
+  pub upto : n ≤ count + 1
+  pub is : at ≡ ancestor parent n g
+  pub free : (k : ℕ) → k < n → (ancestor parent k g < count) × (getD places (ancestor parent k g) 0 ≡ 0)
 
-pub fits-less : (im : List ℕ) (s from w q : ℕ) → w < 2 ^ 64 → Fits im s from w
-    → (difference w (one q) < 2 ^ 64) × Fits im s from (difference w (one q))
-fits-less im s from w q h f = (
-  difference-below w (one q) 64 h,
-  record {
-    inside = f .inside;
-    places = λ p m. f .places p (within-has (difference w (one q)) w (difference-within w (one q)) p m);
-  },
-)
+module _ (count : ℕ) (parent : ℕ → ℕ) (places : List ℕ) (g : ℕ) where
+  pub passing-start : Passing count parent places g g 0
+  unfolding ancestor
+  passing-start = record { upto = zero-le; is = refl; free = λ k h. absurd (omega arith) }
 
--- ---- the rule of a user, by the sets that its record holds: read, write, default and row
-pub rule-by : (im : List ℕ) (u : ℕ) (rec : List ℕ) (r w d o : ℕ) → rec ≡ userRecord im u
-    → r ≡ readGroups (editionOf im) rec → w ≡ writeGroups (editionOf im) rec → d ≡ defaultGroups (editionOf im) rec → o ≡ rowGroups (editionOf im) rec
-    → belowRule im u
-    ≡ (within w (below im r) && within d (below im r) && within o (below im d) && within o (below im w))
-unfolding belowRule
-rule-by im u rec r w d o e read write default row = rw (sym e, read, write, default, row)
+  module _ (at n : ℕ) (so : Passing count parent places g at n) where
+    pub passing-next : n ≤ count → at < count → getD places at 0 ≡ 0 → (q : ℕ) → q ≡ parent at → Passing count parent places g q (n + 1)
+    unfolding ancestor
+    passing-next left group none q next =
+        record {
+          upto = omega arith;
+          is = next ∙ ap parent (so .is) ∙ ap (λ (m : ℕ). ancestor parent m g) (sym (add-one n));
+          free =
+              below-more (λ (k : ℕ). (ancestor parent k g < count) × (getD places (ancestor parent k g) 0 ≡ 0)) n (so .free)
+              (subst (λ (p : ℕ). (p < count) × (getD places p 0 ≡ 0)) (so .is) (group, none));
+        }
 
--- ---- a loop that fills the table
-pub stored-more : (im table : List ℕ) (g w : ℕ) → g < length table → w ≡ parent im g
-    → ((k : ℕ) → k < g → getD table k 0 ≡ parent im k)
-    → (k : ℕ) → k < g + 1 → getD (set table g w) k 0 ≡ parent im k
-stored-more im table g w l is before =
-    below-more (λ (k : ℕ). getD (set table g w) k 0 ≡ parent im k) g
-    (λ k h. read-below ℕ table g k w 0 (parent im k) h (before k h)) (getD-set-same table g w 0 l ∙ is)
+    -- it has come to none, or to a group that has a place
+    pub passing-stop : (at < count → 0 < getD places at 0) → Passes count parent places g n
+    passing-stop stop =
+        record { upto = so .upto; free = so .free; stop = λ ends. subst (λ (p : ℕ). p < count → 0 < getD places p 0) (so .is) stop }
+
+    pub passing-on : count < n → Passes count parent places g n
+    passing-on long = record { upto = so .upto; free = so .free; stop = λ ends. absurd (omega arith) }
+
+-- that loop: the places from `to` on are given, and the walk is at the group that gets the one before
+pub record Putting (g from to end : ℕ) (before were table places : List ℕ) (at : ℕ) : Type 0 where
+  pub low : from ≤ to
+  pub high : to ≤ end
+  pub room : end ≤ tableRoom
+  pub long : length table ≡ tableLength
+  pub all : length places ≡ tableRoom
+  pub differ : Differ tableRoom (λ p. getD before p 0) g (end - from)
+  pub is : at ≡ ancestor (λ p. getD before p 0) (end - to) g
+  pub placed : Placed (λ p. getD before p 0) g to end before were table places
+
+pub putting-start : (g from end : ℕ) (table places : List ℕ) → (length table ≡ tableLength) × (length places ≡ tableRoom)
+    → (from ≤ end) × ((end ≤ tableRoom) × Differ tableRoom (λ p. getD table p 0) g (end - from))
+    → Putting g from end end table places table places g
+unfolding ancestor
+putting-start g from end table places long inside =
+    record {
+      low = inside .0;
+      high = le-refl end;
+      room = inside .1 .0;
+      long = long .0;
+      all = long .1;
+      differ = inside .1 .1;
+      is = ap (λ (n : ℕ). ancestor (λ p. getD table p 0) n g) (sym (sub-self end));
+      placed = placed-none (λ p. getD table p 0) g end table places;
+    }
+
+module _ (g from to end : ℕ) (before were table places : List ℕ) (at : ℕ) (so : Putting g from to end before were table places at) (left : from < to) where
+  pub putting-at : at < tableRoom
+  putting-at = rw (so .is) (so .differ .inside (end - to) (omega (arith, so .high)))
+
+  pub putting-next : (q : ℕ) → q ≡ getD (set table (255 + to) at) at 0
+      → Putting g from (to - 1) end before were (set table (255 + to) at) (set places at to) q
+  unfolding ancestor
+  putting-next q next =
+      let more =
+      placed-more (λ p. getD before p 0) g from to end at before were table places left (so .high) (so .room) (so .differ) (so .long) (so .all)
+      (so .is) (so .placed) in
+      let one : suc (end - to) ≡ end - (to - 1) = omega (arith, so .high) in
+      record {
+        low = omega arith;
+        high = omega (arith, so .high);
+        room = so .room;
+        long = length-set table (255 + to) at ∙ so .long;
+        all = length-set places at to ∙ so .all;
+        differ = so .differ;
+        is =
+            next ∙ more .parents at putting-at ∙ ap (λ (p : ℕ). getD before p 0) (so .is)
+            ∙ ap (λ (n : ℕ). ancestor (λ p. getD before p 0) n g) one;
+        placed = more;
+      }
+
+pub putting-end : (g from to end : ℕ) (before were table places : List ℕ) (at : ℕ) → Putting g from to end before were table places at → to ≤ from
+    → Placed (λ p. getD before p 0) g from end before were table places
+putting-end g from to end before were table places at so h =
+    subst (λ (n : ℕ). Placed (λ p. getD before p 0) g n end before were table places) (omega (arith, so .low)) (so .placed)

@@ -1,42 +1,38 @@
--- The path from a group along its parents, up to a place that is no group or that a set of known places has.
-use Prim.Native.Nat.{ℕ, zero, suc, _+_, _^_, _<_}
+-- The walk from a group along its parents, by which the groups get their places in the order.
+use Prim.Native.Nat.{ℕ, zero, suc, _+_, _-_, _≤_, _<_}
 use mathlib.Core.Path.{_≡_}
-use mathlib.Core.Bool.{Bool, true, false, cond, _||_}
 use mathlib.Core.List.{List}
-use lib.Dec.{leb}
 use lib.ListN.{getD}
-use Rattle.sets.specs.Sets.{has, none, one, union, collect, within}
-use Rattle.header.specs.Layout.{groups}
-use Rattle.hierarchy.specs.Below.{parent, below}
+use Rattle.hierarchy.specs.Forest.{firstRingIn, tableRoom, forestBy, orderAt, Ordered}
 
--- how many groups a table of parents has room for
-abbrev pub tableRoom : ℕ
-tableRoom = 256
+-- the n-th parent of g
+unfoldable pub ancestor : (ℕ → ℕ) → ℕ → ℕ → ℕ
+ancestor parent zero g = g
+ancestor parent (suc n) g = parent (ancestor parent n g)
 
--- of count groups: a path stops at g
-unfoldable pub stops : ℕ → ℕ → ℕ → Bool
-stops count known g = leb count g || has known g
+-- `places` has 0 for a group that has no place yet, else one more than its place. The walk from g passes n groups that have none, and then
+-- it comes to one that has, or to none; where n is more than there are groups, it goes on.
+pub record Passes (count : ℕ) (parent : ℕ → ℕ) (places : List ℕ) (g n : ℕ) : Type 0 where
+  pub upto : n ≤ count + 1
+  pub free : (k : ℕ) → k < n → (ancestor parent k g < count) × (getD places (ancestor parent k g) 0 ≡ 0)
+  pub stop : n ≤ count → ancestor parent n g < count → 0 < getD places (ancestor parent n g) 0
 
--- where the path from g is after n steps, or where it stopped before
-unfoldable pub climbed : List ℕ → ℕ → ℕ → ℕ → ℕ
-climbed im known zero g = g
-climbed im known (suc n) g = let rest = climbed im known n (parent im g) in cond (stops (groups im) known g) g rest
+-- the n groups of a walk from g differ
+pub record Differ (room : ℕ) (parent : ℕ → ℕ) (g n : ℕ) : Type 0 where
+  pub inside : (k : ℕ) → k < n → ancestor parent k g < room
+  pub differ : (j k : ℕ) → j < n → k < n → ancestor parent j g ≡ ancestor parent k g → j ≡ k
 
--- the places that it left in these steps
-unfoldable pub passed : List ℕ → ℕ → ℕ → ℕ → ℕ
-passed im known zero g = none
-passed im known (suc n) g = let rest = passed im known n (parent im g) in cond (stops (groups im) known g) none (union (one g) rest)
+-- the groups of a walk from g have the places from `from` up to `end`, g the last; the table and the places were `before` and `were`
+pub record Placed (parent : ℕ → ℕ) (g from end : ℕ) (before were table places : List ℕ) : Type 0 where
+  pub parents : (p : ℕ) → p < tableRoom → getD table p 0 ≡ getD before p 0
+  pub lower : (i : ℕ) → i < from → orderAt table i ≡ orderAt before i
+  pub order : (i : ℕ) → from ≤ i → i < end → orderAt table i ≡ ancestor parent (end - 1 - i) g
+  pub place : (i : ℕ) → from ≤ i → i < end → getD places (ancestor parent (end - 1 - i) g) 0 ≡ i + 1
+  pub other : (p : ℕ) → ((i : ℕ) → from ≤ i → i < end → p ≡ ancestor parent (end - 1 - i) g → ⊥) → getD places p 0 ≡ getD were p 0
 
--- the groups whose parent lies below s
-unfoldable pub reaching : List ℕ → ℕ → ℕ
-reaching im s = collect (λ g. has (below im s) (parent im g)) (groups im)
-
--- `reached` has groups only, and so has s. Place p of s is group from + p.
-pub record Fits (im : List ℕ) (reached from s : ℕ) : Type 0 where
-  pub inside : reached < 2 ^ groups im
-  pub places : (p : ℕ) → has s p ≡ true → from + p < groups im
-
--- r is a part of s, and the groups of s that it lacks have their parents, by the table, in `reached`
-pub record Unmet (table : List ℕ) (reached from s r : ℕ) : Type 0 where
-  pub part : within r s ≡ true
-  pub met : (p : ℕ) → has s p ≡ true → has r p ≡ false → has reached (getD table (from + p) 0) ≡ true
+-- of a search for the lowest group whose parents never end, which orders the groups: r is that group, the table keeps the parents, and
+-- where there is no such group it orders them
+pub record OrderFound (count : ℕ) (before table : List ℕ) (r : ℕ) : Type 0 where
+  pub ring : r ≡ firstRingIn (forestBy count before)
+  pub parents : (p : ℕ) → p < tableRoom → getD table p 0 ≡ getD before p 0
+  pub ordered : count ≤ r → Ordered count table

@@ -1,60 +1,48 @@
-// What groups reach, and the rules of a user's sets of groups among each other, by the profile.
+// What groups reach, and the rules of a user's sets of groups among each other, by the profile: by a table of parents,
+// and of an image.
 ghost use Prim.Native.Nat.{_<_};
 ghost use mathlib.Core.Path.{_≡_};
 ghost use Rattle.sets.specs.Groups.{placesOf};
-ghost use Rattle.sets.specs.Sets.{allBelow};
-ghost use Rattle.header.specs.Layout.{groups, users};
+ghost use Rattle.sets.specs.Sets.{within, allBelow};
+ghost use Rattle.header.specs.Layout.{groups};
 ghost use Rattle.header.specs.Limits.{Counted};
+ghost use Rattle.hierarchy.specs.Forest.{forestBy, OrderedBy};
 ghost use Rattle.hierarchy.specs.Below as groupwise;
-ghost use Rattle.hierarchy.specs.Below.{belowRule, releaseRule, groupSetsRule, firstBadBelow, Tabled};
+ghost use Rattle.hierarchy.specs.Below.{belowSets, releaseSets, setsRule, ofSets, firstBadBelow, Tabled};
+use crate::table;
 use crate::table::Table;
-use crate::table::below;
-use crate::table::lies_below;
 use header::layout;
 use header::profile::Profile;
 use header::profile::profile_of;
+use records::users::GroupSets;
 use records::users::group_sets;
 use sets::groups::Groups;
 
-// What the groups reach: all that lie below them; in the release profile themselves.
-pub fn reach(image: &[u8], table: &Table, s: Groups) -> Groups
-    requires { ⌜ Counted (now image) × Tabled (now image) (now table) ⌝ }
-    ensures { λ r. ⌜ placesOf r ≡ groupwise.reach (now (image .entry)) (placesOf s) ⌝ }
+// Do the write and default groups lie below the read ones, and the row groups below the default and the write ones? `all` are all groups.
+fn below_ok(count: usize, table: &Table, all: Groups, sets: GroupSets) -> bool
+    requires { ⌜ OrderedBy count (now table) × (placesOf all ≡ allBelow count) ⌝ }
+    ensures { λ r. ⌜ r ≡ ofSets (belowSets (forestBy count (now (table .entry)))) sets ⌝ }
 {
-    match profile_of(image) {
-        Profile::Tree => below(image, table, s),
-        Profile::Release => s,
-    }
-}
-
-// Do the user's write and default groups lie below the read ones, and the row groups below the default and the write ones?
-fn below_ok(image: &[u8], table: &Table, all: Groups, u: usize) -> bool
-    requires { ⌜ Counted (now image) × (Tabled (now image) (now table) × ((placesOf all ≡ allBelow (groups (now image))) × (u < users (now image)))) ⌝ }
-    ensures { λ r. ⌜ r ≡ belowRule (now (image .entry)) u ⌝ }
-{
-    let sets = group_sets(image, u);
     let read = sets.read;
     let write = sets.write;
     let default = sets.default;
     let row = sets.row;
-    if !lies_below(image, table, all, write, read) {
+    if !table::lies_below(count, table, all, write, read) {
         return false;
     }
-    if !lies_below(image, table, all, default, read) {
+    if !table::lies_below(count, table, all, default, read) {
         return false;
     }
-    if !lies_below(image, table, all, row, default) {
+    if !table::lies_below(count, table, all, row, default) {
         return false;
     }
-    lies_below(image, table, all, row, write)
+    table::lies_below(count, table, all, row, write)
 }
 
 // In the release profile default groups contain the read groups and row groups the default groups, and write groups are the read groups.
-fn release_ok(image: &[u8], u: usize) -> bool
-    requires { ⌜ Counted (now image) × (u < users (now image)) ⌝ }
-    ensures { λ r. ⌜ r ≡ releaseRule (now (image .entry)) u ⌝ }
+fn release_ok(sets: GroupSets) -> bool
+    ensures { λ r. ⌜ r ≡ ofSets releaseSets sets ⌝ }
 {
-    let sets = group_sets(image, u);
     let read = sets.read;
     let write = sets.write;
     let default = sets.default;
@@ -62,27 +50,48 @@ fn release_ok(image: &[u8], u: usize) -> bool
     read.within(default) & default.within(row) & write.same(read)
 }
 
-// A user's sets of groups among each other, by the profile.
-fn group_sets_ok(image: &[u8], table: &Table, all: Groups, u: usize) -> bool
-    requires { ⌜ Counted (now image) × (Tabled (now image) (now table) × ((placesOf all ≡ allBelow (groups (now image))) × (u < users (now image)))) ⌝ }
-    ensures { λ r. ⌜ r ≡ groupSetsRule (now (image .entry)) u ⌝ }
+// A user's sets of groups among each other, by the profile. `all` are all groups.
+pub fn sets_ok(profile: Profile, count: usize, table: &Table, all: Groups, sets: GroupSets) -> bool
+    requires { ⌜ OrderedBy count (now table) × (placesOf all ≡ allBelow count) ⌝ }
+    ensures { λ r. ⌜ r ≡ ofSets (setsRule profile (forestBy count (now (table .entry)))) sets ⌝ }
 {
-    match profile_of(image) {
-        Profile::Tree => below_ok(image, table, all, u),
-        Profile::Release => release_ok(image, u),
+    match profile {
+        Profile::Tree => below_ok(count, table, all, sets),
+        Profile::Release => release_ok(sets),
     }
 }
 
-// The lowest user whose groups break that rule; the number of users where there is none.
+// What the groups reach: all that lie below them; in the release profile themselves.
+pub fn reach(image: &[u8], table: &Table, s: Groups) -> Groups
+    requires { ⌜ Counted (now image) × Tabled (now image) (now table) ⌝ }
+    ensures { λ r. ⌜ placesOf r ≡ groupwise.reach (now (image .entry)) (placesOf s) ⌝ }
+{
+    match profile_of(image) {
+        Profile::Tree => table::below(layout::groups(image), table, s),
+        Profile::Release => s,
+    }
+}
+
+// Does every group of `set` lie below `other`? `all` are all groups.
+pub fn lies_below(image: &[u8], table: &Table, all: Groups, set: Groups, other: Groups) -> bool
+    requires { ⌜ Counted (now image) × (Tabled (now image) (now table) × (placesOf all ≡ allBelow (groups (now image)))) ⌝ }
+    ensures { λ r. ⌜ r ≡ within (placesOf set) (groupwise.below (now (image .entry)) (placesOf other)) ⌝ }
+{
+    table::lies_below(layout::groups(image), table, all, set, other)
+}
+
+// The lowest user whose groups break their rule; the number of users where there is none.
 pub fn first_bad_below(image: &[u8], table: &Table) -> usize
     requires { ⌜ Counted (now image) × Tabled (now image) (now table) ⌝ }
     ensures { λ r. ⌜ r ≡ firstBadBelow (now (image .entry)) ⌝ }
 {
-    let all = Groups::all_below(layout::groups(image));
-    let count = layout::users(image);
+    let profile = profile_of(image);
+    let count = layout::groups(image);
+    let all = Groups::all_below(count);
+    let users = layout::users(image);
     let mut u = 0;
-    while u < count {
-        if !group_sets_ok(image, table, all, u) {
+    while u < users {
+        if !sets_ok(profile, count, table, all, group_sets(image, u)) {
             return u;
         }
         u += 1;

@@ -1,4 +1,4 @@
 // Groups and their parents: rings of parents, and what lies below a set of groups.
 pub mod group_rules;
-pub mod parents;
+pub mod order;
 pub mod table;

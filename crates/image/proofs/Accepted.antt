@@ -17,7 +17,9 @@ use Rattle.records.specs.Rules.{contentRule}
 use Rattle.header.specs.Limits.{Counted}
 use Rattle.records.proofs.MeaningHeader.{counted}
 use Rattle.refusals.specs.declared.Refusal.{Refusal}
+use Rattle.hierarchy.specs.Forest.{firstRingIn}
 use Rattle.hierarchy.specs.Below.{endsRule, groupSetsRule, firstRing, firstBadBelow, AllEnd}
+use Rattle.hierarchy.proofs.OfImage.{first-bad-users}
 use Rattle.image.specs.declared.faults.Fault.{Fault}
 use Rattle.image.specs.declared.faults.Fault.the-variants.{Sound, Length, Block, Layout, Component, Label, User, Ring, Below}
 use Rattle.refusals.specs.declared.answers.Checked.{Checked}
@@ -110,7 +112,7 @@ module _ (im : List ℕ) (acc : IsAccepted im) where
       good-before rule (n - k) k i low h
 
   pub keeps : Keeps im
-  unfolding firstBadBlock firstBadContent firstRing firstBadBelow
+  unfolding firstBadBlock firstBadContent firstRingIn
   keeps =
       record {
         length = outer .0;
@@ -119,7 +121,7 @@ module _ (im : List ℕ) (acc : IsAccepted im) where
         fit = both-right (headerRule im) (fitRule im) (headed .0);
         contents = λ b l h. passed (contentRule im) 1 (blocksNeeded im) _ refl (filled .0) b l h;
         ends = λ g h. passed (endsRule im) 0 (groups im) _ (rw sub-zero) (ringless .0) g zero-le h;
-        below = λ u h. passed (groupSetsRule im) 0 (users im) _ (rw sub-zero) lowered u zero-le h;
+        below = λ u h. passed (groupSetsRule im) 0 (users im) _ (first-bad-users im ∙ rw sub-zero) lowered u zero-le h;
       }
 
 -- and an image that keeps every rule is accepted
@@ -143,14 +145,14 @@ module _ (im : List ℕ) (k : Keeps im) where
   no-content = nothing-bad (contentRule im) 1 (blocksNeeded im) some (k .contents)
 
   no-ring : ltb (firstRing im) (groups im) ≡ false
-  unfolding firstRing
+  unfolding firstRingIn
   no-ring = subst (λ (n : ℕ). ltb (firstBad (endsRule im) n 0) (groups im) ≡ false) (sub-zero (groups im))
       (nothing-bad (endsRule im) 0 (groups im) zero-le (λ i a b. k .ends i b))
 
   no-below : ltb (firstBadBelow im) (users im) ≡ false
-  unfolding firstBadBelow
-  no-below = subst (λ (n : ℕ). ltb (firstBad (groupSetsRule im) n 0) (users im) ≡ false) (sub-zero (users im))
-      (nothing-bad (groupSetsRule im) 0 (users im) zero-le (λ i a b. k .below i b))
+  no-below = rw (first-bad-users im)
+      (subst (λ (n : ℕ). ltb (firstBad (groupSetsRule im) n 0) (users im) ≡ false) (sub-zero (users im))
+      (nothing-bad (groupSetsRule im) 0 (users im) zero-le (λ i a b. k .below i b)))
 
   pub kept-accepted : IsAccepted im
   unfolding checkOf faultOf foundFault countedFault

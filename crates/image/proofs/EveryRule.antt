@@ -15,13 +15,14 @@ use Rattle.header.specs.Layout as layout
 use Rattle.header.specs.Layout.{profileOf, editionOf, groups, blocksNeeded, Fitted, countsOf, countOf, recordsOf, userRecord}
 use Rattle.header.proofs.Inside.{record-of}
 use Rattle.records.specs.Fields.{readGroups, writeGroups, defaultGroups, rowGroups}
-use Rattle.records.specs.Rules.{ruleOf, recordRule}
+use Rattle.records.specs.Rules.{recordRule}
 use Rattle.records.proofs.MeaningHeader.{HeaderKept, header-means, header-holds, fit-means, fit-holds}
 use Rattle.records.proofs.MeaningBlocks.{LayoutKept, content-means, contents-kept}
 use Rattle.records.proofs.MeaningComponents.{ComponentAmong, component-holds}
 use Rattle.records.proofs.MeaningLabels.{LabelAmong, label-holds}
 use Rattle.records.proofs.MeaningUsers.{UserKept, UserAmong, user-holds}
-use Rattle.hierarchy.specs.Below.{hasParent, Above, below, endsRule}
+use Rattle.hierarchy.specs.Forest.{endsIn}
+use Rattle.hierarchy.specs.Below.{forestOf, hasParent, Above, below}
 use Rattle.hierarchy.proofs.Lineage.{ends-top}
 use Rattle.hierarchy.proofs.Walks.{top-ends}
 use Rattle.hierarchy.proofs.Under.{below-above, above-below}
@@ -74,7 +75,7 @@ pub record EveryRule (im : List ℕ) : Type 0 where
 
 module _ (im : List ℕ) where
   under-means : (a b : ℕ) → within a (below im b) ≡ true → Under im a b
-  under-means a b e g h = below-above im b g (within-has a (below im b) e g h)
+  under-means a b e g h = below-above (forestOf im) b g (within-has a (below im b) e g h)
 
   under-kept : {rec : List ℕ} → BelowKept im rec → GroupsUnder im rec
   under-kept {rec} k =
@@ -91,7 +92,7 @@ module _ (im : List ℕ) where
       has-within a (below im b)
       (λ g h. let q = f g h in
       let p = e .parentsEnd g (exist g h) in
-      above-below im b g (q .0) (exist g h) (top-ends im g (p .0) (exist g h) (p .1 .0) (p .1 .1)) (q .1 .0) (q .1 .1))
+      above-below (forestOf im) b g (q .0) (exist g h) (top-ends (forestOf im) g (p .0) (exist g h) (p .1 .0) (p .1 .1)) (q .1 .0) (q .1 .1))
 
   released-kept : {rec : List ℕ} → ReleaseKept im rec → GroupsReleased im rec
   released-kept {rec} k =
@@ -129,7 +130,7 @@ module _ (im : List ℕ) where
   kept-sets e u h Release g = kept-released g
 
   pub accepted-keeps : IsAccepted im → EveryRule im
-  unfolding endsRule
+  unfolding endsIn
   accepted-keeps acc =
       let k = keeps im acc in
       record {
@@ -141,12 +142,11 @@ module _ (im : List ℕ) where
         components = component-among im acc;
         labels = label-among im acc;
         users = user-among im acc;
-        parentsEnd = λ g h. ends-top im (groups im) g (k .ends g h);
+        parentsEnd = λ g h. ends-top (forestOf im) (groups im) g (k .ends g h);
         groupSets = λ u h. sets-kept (userRecord im u) (profileOf im) (user-sets im acc u h);
       }
 
   record-holds : EveryRule im → (kind : Kind) (i : ℕ) → i < countOf im kind → recordRule im kind i ≡ true
-  unfolding ruleOf
   record-holds e Component i h = component-holds (countsOf im) (recordsOf im Component) i (e .components i h)
   record-holds e Label i h = label-holds (countsOf im) (recordsOf im Label) i (e .labels i h)
   record-holds e User i h = user-holds (countsOf im) (recordsOf im User) i (e .users i h)
@@ -160,8 +160,8 @@ module _ (im : List ℕ) where
         header = header-holds im (e .header);
         fit = fit-holds im (e .fitted);
         contents = λ b low high. contents-kept im (record-holds e) b low high (e .layouts b low high);
-        ends = λ g h. let p = e .parentsEnd g h in top-ends im g (p .0) h (p .1 .0) (p .1 .1);
-        below = λ u h. sets-holds im u (kept-sets e u h (profileOf im) (e .groupSets u h));
+        ends = λ g h. let p = e .parentsEnd g h in top-ends (forestOf im) g (p .0) h (p .1 .0) (p .1 .1);
+        below = λ u h. sets-holds im u h (kept-sets e u h (profileOf im) (e .groupSets u h));
       })
 
   pub accepted-exactly : IsAccepted im ↔ EveryRule im

@@ -18,7 +18,9 @@ use Rattle.header.specs.Layout.{groups, users, blocksNeeded, shapeOf, recordBlo
 use Rattle.header.specs.Header.{headerRule, fitRule}
 use Rattle.header.proofs.Inside.{held-is}
 use Rattle.records.specs.Rules.{layoutRule, recordRule, firstBadRecord, contentRule}
-use Rattle.hierarchy.specs.Below.{endsRule, groupSetsRule, firstRing, firstBadBelow}
+use Rattle.hierarchy.specs.Forest.{firstRingIn}
+use Rattle.hierarchy.specs.Below.{endsRule, groupSetsRule, firstBadBelow}
+use Rattle.hierarchy.proofs.OfImage.{first-bad-users}
 use Rattle.refusals.specs.declared.Refusal.the-variants.{ImageLayout, ParentRing}
 use Rattle.refusals.specs.declared.answers.Checked.the-variants.{Refused}
 use Rattle.image.specs.declared.faults.Fault.{Fault}
@@ -97,10 +99,11 @@ module _ (im : List ℕ) (sound : (headerRule im && fitRule im) ≡ true) where
 
   -- of all blocks, groups and users
   counted-meant : Meant im (countedFault im)
-  unfolding countedFault firstBadContent firstRing firstBadBelow
+  unfolding countedFault firstBadContent firstRingIn
   counted-meant =
-      at (ltb (firstBad (contentRule im) (blocksNeeded im - 1) 1) (blocksNeeded im)) refl
-      (ltb (firstBad (endsRule im) (groups im) 0) (groups im)) refl (ltb (firstBad (groupSetsRule im) (users im) 0) (users im)) refl
+      rw (first-bad-users im)
+      (at (ltb (firstBad (contentRule im) (blocksNeeded im - 1) 1) (blocksNeeded im)) refl
+      (ltb (firstBad (endsRule im) (groups im) 0) (groups im)) refl (ltb (firstBad (groupSetsRule im) (users im) 0) (users im)) refl)
     where
       b : ℕ
       b = firstBad (contentRule im) (blocksNeeded im - 1) 1
@@ -186,17 +189,17 @@ module _ (im : List ℕ) (framed : Framed im) where
   contents-none k = first-none (contentRule im) (blocksNeeded im) 1 (some im (k .header)) (k .contents)
 
   ring-told : (g : ℕ) → RingAtFault im g → faultOf im ≡ Ring g
-  unfolding countedFault firstRing
+  unfolding countedFault firstRingIn
   ring-told g k =
       let e : firstBad (endsRule im) (groups im) 0 ≡ g =
       bad-is (endsRule im) (groups im) 0 g zero-le (omega (arith, k .among)) (λ j low high. k .earlier j high) (k .fault) in
       framed-fault im framed ∙ rw (k .blocks .header, contents-none (k .blocks), e, lt-ltb g (groups im) (k .among))
 
   below-told : (u : ℕ) → BelowAtFault im u → faultOf im ≡ belowFault im u
-  unfolding countedFault firstRing firstBadBelow
+  unfolding countedFault firstRingIn
   below-told u k =
-      let e : firstBad (groupSetsRule im) (users im) 0 ≡ u =
-      bad-is (groupSetsRule im) (users im) 0 u zero-le (omega (arith, k .among)) (λ j low high. k .earlier j high) (k .fault) in
+      let e : firstBadBelow im ≡ u =
+      first-bad-users im ∙ bad-is (groupSetsRule im) (users im) 0 u zero-le (omega (arith, k .among)) (λ j low high. k .earlier j high) (k .fault) in
       let d : firstBad (endsRule im) (groups im) 0 ≡ 0 + groups im = all-good (endsRule im) (groups im) 0 (λ i a b. k .rings i (omega (arith, b))) in
       framed-fault im framed
       ∙ rw (

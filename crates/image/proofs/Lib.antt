@@ -9,4 +9,5 @@ pub mod Placed
 pub mod Policy
 mod Telling
 pub mod Told
+pub mod Tables
 mod Turns

@@ -1,6 +1,6 @@
 -- What callers may use of an accepted image. Assumes nothing.
 use Prim.Native.Nat.{ℕ, zero-le, _≤_, _<_}
-use mathlib.Core.Path.{_≡_, refl, sym, _∙_, subst}
+use mathlib.Core.Path.{_≡_, refl, sym, ap, _∙_, subst}
 use mathlib.Core.Bool.{Bool, true, false, true≢false}
 use mathlib.Core.List.{List}
 use native.Mathlib.Omega.{arith}
@@ -13,18 +13,19 @@ use Rattle.fields.proofs.Meaning.{same-means, same-refl, found-at, found-first,
 use Rattle.sets.specs.Sets.{within}
 use Rattle.header.specs.declared.layout.Kind.{Kind}
 use Rattle.header.specs.declared.layout.Kind.the-variants.{Component, Label, User}
-use Rattle.header.specs.Layout.{profileOf, byProfile, editionOf, components, labels, users, groups, countsOf, classAt, countOf, componentRecord, labelRecord, userRecord, recordsOf}
+use Rattle.header.specs.Layout.{profileOf, editionOf, components, labels, users, groups, countsOf, classAt, countOf, componentRecord, labelRecord, userRecord, recordsOf}
 use Rattle.header.proofs.Inside.{records-count, record-of}
 use Rattle.records.specs.Fields.{componentName, numericForm, tagOf, userName, readGroups, writeGroups, defaultGroups, rowGroups}
-use Rattle.records.specs.Rules.{parentCount, ruleOf, recordRule}
+use Rattle.records.specs.Rules.{parentCount, recordRule}
 use Rattle.records.proofs.MeaningBlocks.{records-kept}
 use Rattle.records.proofs.MeaningComponents.{ComponentKept, ComponentAmong, component-means, numeric-rise, component-unique}
 use Rattle.records.proofs.MeaningLabels.{LabelKept, LabelAmong, label-means, tags-rise, tag-unique}
 use Rattle.records.proofs.MeaningUsers.{UserKept, UserAmong, user-means, names-rise, user-unique}
-use Rattle.hierarchy.specs.Below.{endsRule, below, belowRule, releaseRule, groupSetsRule}
+use Rattle.hierarchy.specs.Below.{belowSets, releaseSets, setsRule, groupSetsIn, forestOf, endsRule, below, groupSetsRule}
 use Rattle.header.specs.declared.profile.Profile.{Profile}
 use Rattle.header.specs.declared.profile.Profile.the-variants.{Tree, Release}
 use Rattle.hierarchy.proofs.Under.{below-closed}
+use Rattle.hierarchy.proofs.OfImage.{user-record}
 use Rattle.image.specs.Check.{IsAccepted}
 use Rattle.image.specs.Lookup.{labelOfTag, userOfName}
 use Rattle.image.proofs.Accepted.{keeps}
@@ -36,17 +37,22 @@ pub record BelowKept (im rec : List ℕ) : Type 0 where
   pub rowBelowDefault : within (rowGroups (editionOf im) rec) (below im (defaultGroups (editionOf im) rec)) ≡ true
   pub rowBelowWrite : within (rowGroups (editionOf im) rec) (below im (writeGroups (editionOf im) rec)) ≡ true
 
-below-means : (im : List ℕ) (u : ℕ) → belowRule im u ≡ true → BelowKept im (userRecord im u)
-unfolding belowRule
-below-means im u e =
+-- the rule of the sets that the record holds, by the profile
+abbrev setsIn : Profile → List ℕ → List ℕ → Bool
+setsIn p im rec =
+    setsRule p (forestOf im) (readGroups (editionOf im) rec) (writeGroups (editionOf im) rec) (defaultGroups (editionOf im) rec) (rowGroups (editionOf im) rec)
+
+below-means : (im rec : List ℕ) → setsIn Tree im rec ≡ true → BelowKept im rec
+unfolding belowSets
+below-means im rec e =
     let q3 = parts _ _ e in
     let q2 = parts _ _ (q3 .0) in
     let q1 = parts _ _ (q2 .0) in
     record { writeBelowRead = q1 .0; defaultBelowRead = q1 .1; rowBelowDefault = q2 .1; rowBelowWrite = q3 .1 }
 
-below-holds : (im : List ℕ) (u : ℕ) → BelowKept im (userRecord im u) → belowRule im u ≡ true
-unfolding belowRule
-below-holds im u k = rw (k .writeBelowRead, k .defaultBelowRead, k .rowBelowDefault, k .rowBelowWrite)
+below-holds : (im rec : List ℕ) → BelowKept im rec → setsIn Tree im rec ≡ true
+unfolding belowSets
+below-holds im rec k = rw (k .writeBelowRead, k .defaultBelowRead, k .rowBelowDefault, k .rowBelowWrite)
 
 -- in the release profile default groups contain the read groups and row groups the default groups, and write groups are the read groups
 pub record ReleaseKept (im rec : List ℕ) : Type 0 where
@@ -54,37 +60,40 @@ pub record ReleaseKept (im rec : List ℕ) : Type 0 where
   pub defaultInRow : within (defaultGroups (editionOf im) rec) (rowGroups (editionOf im) rec) ≡ true
   pub writeIsRead : writeGroups (editionOf im) rec ≡ readGroups (editionOf im) rec
 
-release-means : (im : List ℕ) (u : ℕ) → releaseRule im u ≡ true → ReleaseKept im (userRecord im u)
-unfolding releaseRule
-release-means im u e =
+release-means : (im rec : List ℕ) → setsIn Release im rec ≡ true → ReleaseKept im rec
+unfolding releaseSets
+release-means im rec e =
     let q2 = parts _ _ e in
     let q1 = parts _ _ (q2 .0) in
     record { readInDefault = q1 .0; defaultInRow = q1 .1; writeIsRead = eqb-true _ _ (q2 .1) }
 
-release-holds : (im : List ℕ) (u : ℕ) → ReleaseKept im (userRecord im u) → releaseRule im u ≡ true
-unfolding releaseRule
-release-holds im u k = rw (k .readInDefault, k .defaultInRow, eq-eqb _ _ (k .writeIsRead))
+release-holds : (im rec : List ℕ) → ReleaseKept im rec → setsIn Release im rec ≡ true
+unfolding releaseSets
+release-holds im rec k = rw (k .readInDefault, k .defaultInRow, eq-eqb _ _ (k .writeIsRead))
 
 -- by the profile
 abbrev pub SetsKept : Profile → List ℕ → List ℕ → Type 0
 SetsKept Tree = BelowKept
 SetsKept Release = ReleaseKept
 
-pub sets-means : (im : List ℕ) (u : ℕ) → groupSetsRule im u ≡ true → SetsKept (profileOf im) im (userRecord im u)
-unfolding groupSetsRule
-sets-means im u = at (profileOf im)
-  where
-    at : (p : Profile) → byProfile p (belowRule im u) (releaseRule im u) ≡ true → SetsKept p im (userRecord im u)
-    at Tree e = below-means im u e
-    at Release e = release-means im u e
+-- the rule of the user at place u
+user-rule : (im : List ℕ) (u : ℕ) → u < users im → groupSetsRule im u ≡ setsIn (profileOf im) im (userRecord im u)
+unfolding groupSetsIn
+user-rule im u h = ap (setsIn (profileOf im) im) (user-record im u h)
 
-pub sets-holds : (im : List ℕ) (u : ℕ) → SetsKept (profileOf im) im (userRecord im u) → groupSetsRule im u ≡ true
-unfolding groupSetsRule
-sets-holds im u = at (profileOf im)
+pub sets-means : (im : List ℕ) (u : ℕ) → u < users im → groupSetsRule im u ≡ true → SetsKept (profileOf im) im (userRecord im u)
+sets-means im u h e = at (profileOf im) (sym (user-rule im u h) ∙ e)
   where
-    at : (p : Profile) → SetsKept p im (userRecord im u) → byProfile p (belowRule im u) (releaseRule im u) ≡ true
-    at Tree k = below-holds im u k
-    at Release k = release-holds im u k
+    at : (p : Profile) → setsIn p im (userRecord im u) ≡ true → SetsKept p im (userRecord im u)
+    at Tree e = below-means im (userRecord im u) e
+    at Release e = release-means im (userRecord im u) e
+
+pub sets-holds : (im : List ℕ) (u : ℕ) → u < users im → SetsKept (profileOf im) im (userRecord im u) → groupSetsRule im u ≡ true
+sets-holds im u h k = user-rule im u h ∙ at (profileOf im) k
+  where
+    at : (p : Profile) → SetsKept p im (userRecord im u) → setsIn p im (userRecord im u) ≡ true
+    at Tree k = below-holds im (userRecord im u) k
+    at Release k = release-holds im (userRecord im u) k
 
 module _ (im : List ℕ) (acc : IsAccepted im) where
   -- every record keeps its kind's rule, among the records of its kind
@@ -92,15 +101,12 @@ module _ (im : List ℕ) (acc : IsAccepted im) where
   record-kept = records-kept im (keeps im acc .contents)
 
   pub component-among : (i : ℕ) → i < components im → ComponentAmong (countsOf im) (recordsOf im Component) i
-  unfolding ruleOf
   component-among i h = component-means (countsOf im) (recordsOf im Component) i (record-kept Component i h)
 
   pub label-among : (k : ℕ) → k < labels im → LabelAmong (countsOf im) (recordsOf im Label) k
-  unfolding ruleOf
   label-among k h = label-means (countsOf im) (recordsOf im Label) k (record-kept Label k h)
 
   pub user-among : (u : ℕ) → u < users im → UserAmong (countsOf im) (recordsOf im User) u
-  unfolding ruleOf
   user-among u h = user-means (countsOf im) (recordsOf im User) u (record-kept User u h)
 
   -- so each is what a record of its kind must be
@@ -115,7 +121,7 @@ module _ (im : List ℕ) (acc : IsAccepted im) where
   user-kept u h = subst (UserKept (countsOf im)) (record-of im User u h) (user-among u h .kept)
 
   pub user-sets : (u : ℕ) → u < users im → SetsKept (profileOf im) im (userRecord im u)
-  user-sets u h = sets-means im u (keeps im acc .below u h)
+  user-sets u h = sets-means im u h (keeps im acc .below u h)
 
   -- tags, user names, and numeric forms inside a class rise strictly; class and name tell components apart
   listed : (kind : Kind) (i : ℕ) → i < countOf im kind → i < length (recordsOf im kind)
@@ -167,7 +173,7 @@ module _ (im : List ℕ) (acc : IsAccepted im) where
   parents-end = keeps im acc .ends
 
   pub below-within : (s t : ℕ) → within s (below im t) ≡ true → within (below im s) (below im t) ≡ true
-  below-within = below-closed im parents-end
+  below-within = below-closed (forestOf im) parents-end
 
   -- a look-up finds the one record that there is
   pub label-found : (k : ℕ) → k < labels im → labelOfTag im (tagOf (labelRecord im k)) ≡ k

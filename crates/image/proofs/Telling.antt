@@ -12,7 +12,7 @@ use Rattle.refusals.specs.declared.answers.Checked.{Checked}
 use Rattle.refusals.specs.declared.answers.Checked.the-variants.{Accepted, Refused}
 use Rattle.image.specs.declared.faults.Fault.{Fault}
 use Rattle.image.specs.Faults.{shownAs, recordFault}
-use Rattle.image.specs.Exactly.{recordRefusal}
+use Rattle.image.specs.Exactly.{recordRefusal, recordNumber}
 
 -- ---- the number and the values; 0 and none for an accepted image
 abbrev pub numberTold : Checked → ℕ
@@ -28,11 +28,6 @@ pub one-number : {f : Fault} (g : Fault) {r : Refusal} → f ≡ g → shownAs f
 one-number g q e = ap numberTold (ap shownAs (sym q) ∙ e)
 
 -- a record's refusal: its number is that of its kind, and its values are block and record
-abbrev pub recordNumber : Kind → ℕ
-recordNumber kind.Component = 32
-recordNumber kind.Label = 33
-recordNumber kind.User = 34
-
 pub record-line : (k : Kind) (b r : ℕ)
     → (shownAs (recordFault k b r) ≡ Refused (recordRefusal k b r))
     × ((numberOf (recordRefusal k b r) ≡ recordNumber k) × (valuesOf (recordRefusal k b r) ≡ b ∷ r ∷ []))

@@ -16,7 +16,9 @@ use Rattle.header.specs.Layout.{editionOf, groups, users, blocksNeeded, capacit
 use Rattle.header.specs.declared.layout.Shape.{Shape}
 use Rattle.header.proofs.Inside.{shape-roomy}
 use Rattle.header.specs.Header.{headerRule, fitRule}
+use Rattle.hierarchy.specs.Forest.{firstRingIn}
 use Rattle.hierarchy.specs.Below.{endsRule, groupSetsRule, firstRing, firstBadBelow}
+use Rattle.hierarchy.proofs.OfImage.{first-bad-users}
 use Rattle.image.specs.declared.faults.Fault.{Fault}
 use Rattle.image.specs.declared.faults.Fault.the-variants.{Sound, Length, Block, Layout, Ring}
 use Rattle.image.specs.Faults.{keyOf, keyBefore, lowest, faultUnless, faultsAt, contentFaults, belowFault, faultsOf}
@@ -76,12 +78,12 @@ module _ (im : List ℕ) where
       all = omega (arith, some)
 
   rings-lowest : lowest rings ≡ cond (ltb (firstRing im) (groups im)) (Ring (firstRing im)) Sound
-  unfolding firstRing nameBefore
+  unfolding firstRingIn nameBefore
   rings-lowest = lowest-at (endsRule im) Ring (λ i j h. two-numbers 4 i j [] [] h) (λ i. refl) (groups im) 0 ∙ rw zero-add
 
   belows-lowest : lowest belows ≡ cond (ltb (firstBadBelow im) (users im)) (belowFault im (firstBadBelow im)) Sound
-  unfolding firstBadBelow nameBefore
-  belows-lowest = lowest-at (groupSetsRule im) (belowFault im) (below-rise im) (λ i. refl) (users im) 0 ∙ rw zero-add
+  unfolding nameBefore
+  belows-lowest = lowest-at (groupSetsRule im) (belowFault im) (below-rise im) (λ i. refl) (users im) 0 ∙ rw (zero-add, first-bad-users im)
 
   -- what comes after each run has later keys
   from-belows : All (From (5 ∷ [])) (flatten (belows ∷ []))

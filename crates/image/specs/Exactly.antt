@@ -14,6 +14,7 @@ use Rattle.records.specs.Rules.{layoutRule, recordRule, contentRule}
 use Rattle.hierarchy.specs.Below.{endsRule, groupSetsRule}
 use Rattle.refusals.specs.declared.Refusal.{Refusal}
 use Rattle.refusals.specs.declared.Refusal.the-variants.{ComponentRecord, LabelRecord, UserRecord}
+use Rattle.refusals.specs.Refusals.{numberOf}
 
 -- neither 1 nor 2 is given
 pub record Framed (im : List ℕ) : Type 0 where
@@ -76,3 +77,7 @@ abbrev pub recordRefusal : Kind → ℕ → ℕ → Refusal
 recordRefusal Component b r = ComponentRecord b r
 recordRefusal Label b r = LabelRecord b r
 recordRefusal User b r = UserRecord b r
+
+-- its number, wherever the record stands
+abbrev pub recordNumber : Kind → ℕ
+recordNumber kind = numberOf (recordRefusal kind 0 0)

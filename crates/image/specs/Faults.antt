@@ -1,7 +1,7 @@
 -- The faults of an image and the order in which they are told. Every fault has a key, and the one with the lowest key is told: this is
 -- document 01's order of 1, 2 and the other image rules, and request R-2's order among the latter.
 use Prim.Native.Nat.{ℕ, zero, suc, _+_, _-_}
-use mathlib.Core.Bool.{Bool, cond, _&&_}
+use mathlib.Core.Bool.{Bool, true, false, cond, _&&_}
 use mathlib.Core.List.{List, [], _∷_, _++_, flatten}
 use Rattle.fields.specs.Names.{nameBefore}
 use Rattle.fields.specs.Scan.{listFrom}
@@ -31,6 +31,18 @@ shownAs (Label b r) = Refused (LabelRecord b r)
 shownAs (User b r) = Refused (UserRecord b r)
 shownAs (Ring g) = Refused (ParentRing g)
 shownAs (Below b r) = Refused (UserRecord b r)
+
+-- no rule is broken
+abbrev pub isSound : Fault → Bool
+isSound Sound = true
+isSound Length = false
+isSound (Block b) = false
+isSound (Layout b) = false
+isSound (Component b r) = false
+isSound (Label b r) = false
+isSound (User b r) = false
+isSound (Ring g) = false
+isSound (Below b r) = false
 
 -- ---- the order
 -- 1 first, then 2 by block. Then 31 to 34 by block: in a block its layout, which is 31, and then its records in order. Then 35 by group.

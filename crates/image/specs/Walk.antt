@@ -1,6 +1,7 @@
 -- What the code finds, in the order in which it looks. No public call is told by these definitions: proofs/Told.antt shows that the fault
 -- which is found is the one with the lowest key.
 use Prim.Native.Nat.{ℕ, _-_}
+use mathlib.Core.Path.{_≡_}
 use mathlib.Core.Bool.{cond, _&&_}
 use mathlib.Core.List.{List}
 use lib.Dec.{ltb}
@@ -9,7 +10,7 @@ use Rattle.blocks.specs.Blocks.{lengthRule, blockCount, firstBadBlock}
 use Rattle.header.specs.Layout.{groups, users, blocksNeeded, contentsOf}
 use Rattle.header.specs.Header.{headerRule, fitRule}
 use Rattle.records.specs.Rules.{layoutRule, firstBadRecord, contentRule}
-use Rattle.hierarchy.specs.Below.{firstRing, firstBadBelow}
+use Rattle.hierarchy.specs.Below.{firstRing, firstBadBelow, Tabled}
 use Rattle.image.specs.declared.faults.Fault.{Fault}
 use Rattle.image.specs.declared.faults.Fault.the-variants.{Sound, Length, Block, Layout, Ring}
 use Rattle.image.specs.Faults.{recordFault, belowFault}
@@ -24,12 +25,19 @@ contentFault im b =
     let held = contentsOf im b in
     cond (layoutRule im b) (recordFault (held .kind) b (firstBadRecord im b - held .from)) (Layout b)
 
--- once header and length are sound: the lowest block's contents, a ring of parents, a user's groups against below
+-- of all blocks after the header
+unfoldable pub contentsFault : List ℕ → Fault
+contentsFault im = cond (ltb (firstBadContent im) (blocksNeeded im)) (contentFault im (firstBadContent im)) Sound
+
+-- of the groups: a ring of parents, a user's groups against below
+abbrev pub groupFault : List ℕ → Fault
+groupFault im =
+    cond (ltb (firstRing im) (groups im)) (Ring (firstRing im))
+    (cond (ltb (firstBadBelow im) (users im)) (belowFault im (firstBadBelow im)) Sound)
+
+-- once header and length are sound: the lowest block's contents, then the groups
 unfoldable pub countedFault : List ℕ → Fault
-countedFault im =
-    cond (ltb (firstBadContent im) (blocksNeeded im)) (contentFault im (firstBadContent im))
-    (cond (ltb (firstRing im) (groups im)) (Ring (firstRing im))
-    (cond (ltb (firstBadBelow im) (users im)) (belowFault im (firstBadBelow im)) Sound))
+countedFault im = cond (ltb (firstBadContent im) (blocksNeeded im)) (contentFault im (firstBadContent im)) (groupFault im)
 
 -- of all: the length; the lowest block whose check or place is wrong; the header and a length unfit for its counts; the rest
 unfoldable pub foundFault : List ℕ → Fault
@@ -38,3 +46,8 @@ foundFault im =
     (cond (ltb (firstBadBlock im) (blockCount im)) (Block (firstBadBlock im))
     (cond (headerRule im && fitRule im) (countedFault im) (Layout 0)))
     Length
+
+-- the fault that is told is the right one; where there is none the table of groups is filled, for who asks on
+pub record Tells (im table : List ℕ) (right told : Fault) : Type 0 where
+  pub same : told ≡ right
+  pub filled : told ≡ Sound → Tabled im table

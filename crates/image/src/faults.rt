@@ -1,6 +1,6 @@
 // What is wrong with an image, and how it is told.
 ghost use mathlib.Core.Path.{_≡_};
-ghost use Rattle.image.specs.Faults.{shownAs, recordFault};
+ghost use Rattle.image.specs.Faults.{shownAs, isSound, recordFault};
 use header::layout::Kind;
 use refusals::Refusal;
 use refusals::answers::Checked;
@@ -38,6 +38,23 @@ pub fn shown(fault: Fault) -> Checked
         Fault::User(b, r) => Checked::Refused(Refusal::UserRecord(b, r)),
         Fault::Ring(g) => Checked::Refused(Refusal::ParentRing(g)),
         Fault::Below(b, r) => Checked::Refused(Refusal::UserRecord(b, r)),
+    }
+}
+
+// Is no rule broken?
+pub fn is_sound(fault: Fault) -> bool
+    ensures { λ r. ⌜ r ≡ isSound fault ⌝ }
+{
+    match fault {
+        Fault::Sound => true,
+        Fault::Length => false,
+        Fault::Block(_) => false,
+        Fault::Layout(_) => false,
+        Fault::Component(_, _) => false,
+        Fault::Label(_, _) => false,
+        Fault::User(_, _) => false,
+        Fault::Ring(_) => false,
+        Fault::Below(_, _) => false,
     }
 }
 

@@ -5,8 +5,9 @@ ghost use Rattle.header.specs.Layout.{users, blocksNeeded};
 ghost use Rattle.header.specs.Limits.{Counted};
 ghost use Rattle.image.specs.Check.{faultOf};
 ghost use Rattle.image.specs.Faults.{belowFault};
-ghost use Rattle.image.specs.Walk.{firstBadContent, contentFault, countedFault};
+ghost use Rattle.image.specs.Walk.{firstBadContent, contentFault, contentsFault, groupFault, countedFault, Tells};
 use crate::faults::Fault;
+use crate::faults::is_sound;
 use crate::faults::record_fault;
 use blocks::frame::first_bad_block;
 use blocks::frame::length_ok;
@@ -17,6 +18,7 @@ use header::rules::fit_ok;
 use header::rules::header_ok;
 use hierarchy::group_rules;
 use hierarchy::table;
+use hierarchy::table::Table;
 use records::blocks::content_ok;
 use records::blocks::first_bad_record;
 use records::blocks::layout_ok;
@@ -65,30 +67,48 @@ fn below_fault(image: &[u8], u: usize) -> Fault
     Fault::Below(block, slot)
 }
 
-// The first fault once the header and the length are sound.
-fn counted_fault(image: &[u8]) -> Fault
+// The first fault of the groups, once all records are sound. The table is lent: where there is no fault it is filled.
+fn group_fault(image: &[u8], table: &mut Table) -> Fault
     requires { ⌜ Counted (now image) ⌝ }
-    ensures { λ r. ⌜ r ≡ countedFault (now (image .entry)) ⌝ }
+    ensures { λ r. ⌜ Tells (now (image .entry)) (now (table .exit)) (groupFault (now (image .entry))) r ⌝ }
 {
-    let b = first_bad_content(image);
-    if b < layout::blocks_needed(image) {
-        return content_fault(image, b);
-    }
-    let mut parents = table::EMPTY;
-    table::fill(image, &mut parents);
-    let g = table::first_ring(image, &parents);
+    let g = table::first_ring(image, table);
     if g < layout::groups(image) {
         return Fault::Ring(g);
     }
-    let u = group_rules::first_bad_below(image, &parents);
+    let u = group_rules::first_bad_below(image, table);
     if u < layout::users(image) {
         return below_fault(image, u);
     }
     Fault::Sound
 }
 
-pub fn first_fault(image: &[u8]) -> Fault
-    ensures { λ r. ⌜ r ≡ faultOf (now (image .entry)) ⌝ }
+// The first fault of the blocks after the header.
+fn contents_fault(image: &[u8]) -> Fault
+    requires { ⌜ Counted (now image) ⌝ }
+    ensures { λ r. ⌜ r ≡ contentsFault (now (image .entry)) ⌝ }
+{
+    let b = first_bad_content(image);
+    if b < layout::blocks_needed(image) {
+        return content_fault(image, b);
+    }
+    Fault::Sound
+}
+
+// The first fault once the header and the length are sound.
+fn counted_fault(image: &[u8], table: &mut Table) -> Fault
+    requires { ⌜ Counted (now image) ⌝ }
+    ensures { λ r. ⌜ Tells (now (image .entry)) (now (table .exit)) (countedFault (now (image .entry))) r ⌝ }
+{
+    let fault = contents_fault(image);
+    if !is_sound(fault) {
+        return fault;
+    }
+    group_fault(image, table)
+}
+
+pub fn first_fault(image: &[u8], table: &mut Table) -> Fault
+    ensures { λ r. ⌜ Tells (now (image .entry)) (now (table .exit)) (faultOf (now (image .entry))) r ⌝ }
 {
     if !length_ok(image) {
         return Fault::Length;
@@ -100,5 +120,5 @@ pub fn first_fault(image: &[u8]) -> Fault
     if !(header_ok(image) & fit_ok(image)) {
         return Fault::Layout(0);
     }
-    counted_fault(image)
+    counted_fault(image, table)
 }

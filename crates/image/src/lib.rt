@@ -5,8 +5,10 @@ pub mod inspect;
 pub mod lookup;
 
 ghost use mathlib.Core.Path.{_≡_};
-ghost use Rattle.image.specs.Check.{checkOf};
+ghost use Rattle.image.specs.Check.{checkOf, ChecksTable};
 ghost use Rattle.image.specs.Lookup.{nameAnswer, namePart};
+use hierarchy::table;
+use hierarchy::table::Table;
 use refusals::Refusal;
 use refusals::answers::Checked;
 
@@ -14,7 +16,15 @@ use refusals::answers::Checked;
 pub fn check(image: &[u8]) -> Checked
     ensures { λ r. ⌜ r ≡ checkOf (now (image .entry)) ⌝ }
 {
-    faults::shown(inspect::first_fault(image))
+    let mut groups = table::EMPTY;
+    check_table(image, &mut groups)
+}
+
+// The same for a call that goes on to ask what lies below groups: it lends the table, which is filled where the image is accepted.
+pub fn check_table(image: &[u8], table: &mut Table) -> Checked
+    ensures { λ r. ⌜ ChecksTable (now (image .entry)) (now (table .exit)) r ⌝ }
+{
+    faults::shown(inspect::first_fault(image, table))
 }
 
 // How the look-up of a component's name by class and place ends. Refusals: 1, 2, 31 to 35, 18.

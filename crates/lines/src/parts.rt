@@ -9,9 +9,8 @@ use crate::line::line;
 use crate::refused::refusal_line;
 use access::rights::View;
 use header::layout;
-use hierarchy::table;
 use hierarchy::table::Table;
-use image::check;
+use image::check_table;
 use refusals::answers::Checked;
 use sessions::given::opened_rights;
 
@@ -100,16 +99,13 @@ pub fn first_part(image: &[u8], table: &mut Table, buffer: &mut [u8]) -> Part
     ensures { λ r. ⌜ FirstPart (now (image .entry)) (now (table .exit)) (now (buffer .exit)) r ⌝ }
 {
     let next = Cursor { user: 0, label: 0 };
-    let answer = check(image);
+    let answer = check_table(image, table);
     match answer {
-        Checked::Accepted => {
-            table::fill(image, table);
-            Part {
-                next,
-                length: 0,
-                more: true,
-            }
-        }
+        Checked::Accepted => Part {
+            next,
+            length: 0,
+            more: true,
+        },
         Checked::Refused(refusal) => {
             let length = refusal_line(refusal, buffer);
             Part {

@@ -1,19 +1,19 @@
 -- What each bit of the map tells, and how long the map is. Assumes nothing.
-use Prim.Native.Nat.{ℕ, _+_, _*_, _/_, _%_, _≤_, _<_}
+use Prim.Native.Nat.{ℕ, zero, suc, _+_, _-_, _*_, _/_, _%_, _≤_, _<_}
 use mathlib.Core.Path.{_≡_, refl, sym, ap, _∙_}
 use mathlib.Core.Bool.{Bool, true, false, _&&_}
 use mathlib.Core.List.{List}
-use native.Mathlib.Nat.{zero-add}
+use native.Mathlib.Nat.{zero-add, add-zero}
 use native.Mathlib.Omega.{arith}
 use borrow.Author.Tests.{lt-ltb, le-ltb, ltb-true, ltb-false}
 use lib.Dec.{ltb}
 use lib.ListN.{length, List·getD-eq-default}
 use lib.Seq.{ext-getD}
-use Rattle.fields.specs.Bytes.{byteAt}
+use Rattle.fields.specs.Bytes.{byteAt, AreBytes}
 use Rattle.fields.proofs.Scan.{list-length, list-at}
 use Rattle.fields.proofs.Meaning.{same-means, same-refl}
-use Rattle.sets.specs.Sets.{has}
-use Rattle.sets.proofs.Has.{none-has, has-ext, collect-below, collect-has}
+use Rattle.sets.specs.Sets.{has, collect}
+use Rattle.sets.proofs.Has.{none-has, has-ext, collect-below, collect-has, collect-pass}
 use Rattle.sets.proofs.Bounds.{below-lacks}
 use Rattle.header.specs.Layout.{labels}
 use Rattle.header.specs.Limits.{Counted}
@@ -44,6 +44,30 @@ module _ (im : List ℕ) (rights : Rights) where
   unfolding mapByte
   byte-below k = collect-below (λ i. readsRecord im rights (8 * k + i)) 8
 
+  -- past the last record no bit is set
+  past-last : (p : ℕ) → labels im ≤ p → readsRecord im rights p ≡ false
+  unfolding readsRecord
+  past-last p h = rw (le-ltb p (labels im) h)
+
+  -- so a byte has all its bits once the records are at their end
+  pub byte-upto : (k n : ℕ) → n ≤ 8 → (n < 8 → labels im ≤ 8 * k + n)
+      → collect (λ i. readsRecord im rights (8 * k + i)) n ≡ mapByte im rights k
+  unfolding mapByte
+  byte-upto k n small end = sym (spare (8 - n) (omega arith)) ∙ ap (collect f) all
+    where
+      f : ℕ → Bool
+      f i = readsRecord im rights (8 * k + i)
+
+      all : n + (8 - n) ≡ 8
+      all = omega arith
+
+      spare : (d : ℕ) → n + d ≤ 8 → collect f (n + d) ≡ collect f n
+      spare zero h = ap (collect f) (add-zero n)
+      spare (suc d) h =
+          let last : labels im ≤ 8 * k + (n + d) = omega (arith, end (omega arith)) in
+          let next : n + suc d ≡ n + d + 1 = omega arith in
+          ap (collect f) next ∙ collect-pass f (n + d) (past-last (8 * k + (n + d)) last) ∙ spare d (omega arith)
+
   -- every byte of it is a byte
   pub map-small : (k : ℕ) → byteAt (mapOf im rights) k < 256
   map-small k = at (ltb k (mapLength im)) refl
@@ -63,10 +87,10 @@ module _ (im : List ℕ) (rights : Rights) where
       ∙ rw (lt-ltb (p % 8) 8 low) (ap (readsRecord im rights) here)
 
   outside : (p : ℕ) → mapLength im ≤ p / 8 → bitOf (mapOf im rights) p ≡ readsRecord im rights p
-  unfolding bitOf readsRecord mapLength
+  unfolding bitOf mapLength
   outside p h =
       let past : labels im ≤ p = omega arith in
-      ap (λ (x : ℕ). has x (p % 8)) (List·getD-eq-default (mapOf im rights) 0 (rw map-long h)) ∙ none-has (p % 8) ∙ rw (le-ltb p (labels im) past)
+      ap (λ (x : ℕ). has x (p % 8)) (List·getD-eq-default (mapOf im rights) 0 (rw map-long h)) ∙ none-has (p % 8) ∙ sym (past-last p past)
 
   -- bit p, whatever p, is set exactly if there is a p-th label record and its label may be read
   pub bit-is : (p : ℕ) → bitOf (mapOf im rights) p ≡ readsRecord im rights p
@@ -90,7 +114,7 @@ module _ (im : List ℕ) (rights : Rights) where
   rule-enough bits e = rw (rule-means bits e, map-long) (length-holds im)
 
   -- ---- bytes with the right length and the right bits are the map
-  byte-same : (bits : List ℕ) → ((k : ℕ) → byteAt bits k < 256) → ((p : ℕ) → bitOf bits p ≡ readsRecord im rights p)
+  byte-same : (bits : List ℕ) → AreBytes bits → ((p : ℕ) → bitOf bits p ≡ readsRecord im rights p)
       → (k : ℕ) → byteAt bits k ≡ byteAt (mapOf im rights) k
   unfolding bitOf
   byte-same bits small right k = has-ext (byteAt bits k) (byteAt (mapOf im rights) k) (λ i. at i (ltb i 8) refl)
@@ -106,7 +130,7 @@ module _ (im : List ℕ) (rights : Rights) where
           let high : 8 ≤ i = ltb-false i 8 e in
           below-lacks (byteAt bits k) 8 (small k) i high ∙ sym (below-lacks (byteAt (mapOf im rights) k) 8 (map-small k) i high)
 
-  pub map-unique : (bits : List ℕ) → length bits ≡ mapLength im → ((k : ℕ) → byteAt bits k < 256)
+  pub map-unique : (bits : List ℕ) → length bits ≡ mapLength im → AreBytes bits
       → ((p : ℕ) → bitOf bits p ≡ readsRecord im rights p) → bits ≡ mapOf im rights
   map-unique bits long small right = ext-getD 0 bits (mapOf im rights) (long ∙ sym map-long) (λ k h. byte-same bits small right k)
 

@@ -1,48 +1,75 @@
-// A byte of a map: the bits of eight label records.
-ghost use Prim.Native.Nat.{_*_, _+_, _<_, _≤_};
+// A byte of a map: the bits of eight label records, or of those that are left.
+ghost use Prim.Native.Nat.{_*_, _+_, _<_, _≤_, min};
 ghost use mathlib.Core.Path.{_≡_};
 ghost use Rattle.header.specs.declared.layout.Kind.the-variants.{Label};
-ghost use Rattle.header.specs.Layout.{editionOf, Shaped};
+ghost use Rattle.header.specs.Layout.{editionOf, labels, Shaped, recordOffset, Standing};
 ghost use Rattle.header.specs.Limits.{Counted};
 ghost use Rattle.access.specs.Rights.{rightsOf};
 ghost use Rattle.maps.specs.Map.{readsRecord, mapByte};
 use access::record::reads_record;
 use access::rights::View;
+use header::contents::lower;
 use header::edition::Edition;
 use header::layout;
 use header::layout::Kind;
 use header::layout::Shape;
+use header::walk;
+use header::walk::RecordAt;
 use sets::word;
 
-// Is there a record at place p, and may its label be read? By the shape of the label records and the edition, which a map works out once.
-fn reads_place(image: &[u8], view: View, shape: Shape, edition: Edition, p: usize) -> bool
+// A byte, and where the walk over the label records stands after it.
+pub struct Byte {
+    pub bits: u8,
+    pub next: RecordAt,
+}
+
+// May the label of the record at place p, which begins at `at`, be read? By the shape of the label records and the edition, which a map works
+// out once.
+fn reads_place(
+    image: &[u8],
+    view: View,
+    shape: Shape,
+    edition: Edition,
+    p: usize,
+    at: usize,
+) -> bool
     requires { ⌜ Counted (now image) × (Shaped (now image) Label shape × (edition ≡ editionOf (now image))) ⌝ }
+    requires { ⌜ (p < labels (now image)) × (at ≡ recordOffset shape p) ⌝ }
     ensures { λ r. ⌜ r ≡ readsRecord (now (image .entry)) (rightsOf view) p ⌝ }
 {
-    if p >= shape.count {
-        return false;
-    }
     reads_record(
         view,
         edition,
-        layout::shaped_part(image, shape, Kind::Label, p),
+        layout::placed_part(image, shape, Kind::Label, p, at),
     )
 }
 
-// Byte k: bit i tells of the record at place 8 k + i.
-pub fn map_byte(image: &[u8], view: View, shape: Shape, edition: Edition, k: usize) -> u8
+// Byte k: bit i tells of the record at place 8 k + i. The walk goes on from where the byte before left it, so that nothing is divided here.
+pub fn map_byte(
+    image: &[u8],
+    view: View,
+    shape: Shape,
+    edition: Edition,
+    k: usize,
+    start: RecordAt,
+) -> Byte
     requires { ⌜ Counted (now image) × (Shaped (now image) Label shape × (edition ≡ editionOf (now image))) ⌝ }
-    requires { ⌜ k < 65536 ⌝ }
-    ensures { λ r. ⌜ r ≡ mapByte (now (image .entry)) (rightsOf view) k ⌝ }
+    requires { ⌜ (8 * k < labels (now image)) × Standing shape (8 * k) start ⌝ }
+    ensures { λ r. ⌜ (r .bits ≡ mapByte (now (image .entry)) (rightsOf view) k) × Standing shape (min (8 * k + 8) (labels (now (image .entry)))) (r .next) ⌝ }
 {
     let first = 8 * k;
-    let mut bits = 0u64;
+    let count = lower(8, shape.count - first);
+    let mut here = start;
+    let mut set = 0u64;
     let mut i = 0;
-    while i < 8 {
-        if reads_place(image, view, shape, edition, first + i) {
-            bits = word::with(bits, i);
+    while i < count {
+        let p = first + i;
+        if reads_place(image, view, shape, edition, p, here.at) {
+            set = word::with(set, i);
         }
+        here = walk::next_record(shape, here, p);
         i += 1;
     }
-    bits as u8
+    let bits = set as u8;
+    Byte { bits, next: here }
 }

@@ -14,6 +14,7 @@ use fields::names::same_name;
 use header::edition::edition_of;
 use header::layout;
 use header::layout::Kind;
+use header::walk;
 use refusals::Refusal;
 use sets::word;
 
@@ -41,9 +42,12 @@ fn put_map(image: &[u8], view: View, buffer: &mut [u8]) -> usize
     let shape = layout::shape_of(image, Kind::Label);
     let edition = edition_of(image);
     let count = map_length(image);
+    let mut here = walk::record_at(shape, 0);
     let mut k = 0;
     while k < count {
-        buffer[k] = map_byte(image, view, shape, edition, k);
+        let byte = map_byte(image, view, shape, edition, k, here);
+        buffer[k] = byte.bits;
+        here = byte.next;
         k += 1;
     }
     k

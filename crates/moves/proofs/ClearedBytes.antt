@@ -1,5 +1,5 @@
 -- The clearing move changes no byte but holders' privileges and the checks of their blocks; without holders it changes none. Assumes nothing.
-use Prim.Native.Nat.{ℕ, zero, suc, _+_, _-_, _*_, _/_, _%_, _≤_, _<_}
+use Prim.Native.Nat.{ℕ, zero, suc, _+_, _*_, _/_, _%_, _≤_, _<_}
 use mathlib.Core.Path.{_≡_, refl, sym, ap, _∙_, subst}
 use mathlib.Core.Bool.{Bool, true, false, not, _&&_, true≢false, and-true, and-false}
 use mathlib.Core.List.{List, []}
@@ -11,32 +11,29 @@ use borrow.Author.Tests.{eqb-true, eqb-false, ltb-true, ltb-false, eq-eqb, ne-eq
 use lib.Dec.{eqb, ltb}
 use lib.ListN.{length, List·getD-eq-default}
 use lib.Seq.{ext-getD}
-use Rattle.fields.specs.Bytes.{byteAt}
+use Rattle.fields.specs.Bytes.{byteAt, AreBytes}
 use Rattle.fields.proofs.PlacesWhere.{none-where}
 use Rattle.header.specs.declared.edition.Edition.{Edition}
 use Rattle.header.specs.declared.edition.Edition.the-variants.{One, Two}
 use Rattle.header.specs.declared.layout.Kind.{Kind}
 use Rattle.header.specs.declared.layout.Kind.the-variants.{Component, Label, User}
 use Rattle.header.specs.declared.layout.Shape.{Shape}
-use Rattle.header.specs.declared.profile.Profile.{Profile}
 use Rattle.header.specs.Layout.{editionOf, profileOf, levels, compartments, groups, users, labels, countsOf, recordSize, capacityOf, countOf, blocksNeeded, shapeOf, recordBlock, recordOffset, recordAt, userRecord, kindAt, contentsOf}
 use Rattle.header.proofs.Inside.{shape-roomy, slot-inside, blocks-after, held-is}
 use Rattle.records.specs.Fields.{privileges}
 use Rattle.image.specs.Check.{IsAccepted}
 use Rattle.image.proofs.EveryRule.{EveryRule, accepted-keeps}
-use Rattle.image.proofs.Accepted.{accepted-counted}
-use Rattle.header.proofs.Editions.{counted-users, counted-labels}
-use Rattle.writing.specs.Laid.{headerUsed, countsFrom}
-use Rattle.writing.proofs.Counted.{header-byte}
+use Rattle.writing.specs.Laid.{countsFrom}
+use Rattle.writing.proofs.CountBytes.{count-bytes}
+use Rattle.writing.proofs.SameBytes.{record-byte, needed-same, shape-same, body-same, block-same}
+use Rattle.writing.proofs.SameHeader.{header-same}
 use Rattle.moves.specs.declared.target.Move.the-variants.{Clear}
 use Rattle.moves.specs.Moved.{withoutCompaccess, clearUser, newRecords, newCounts, newImage}
 use Rattle.moves.specs.Holders.{isHolder, holders}
 use Rattle.moves.proofs.ClearedAlike.{cleared-byte, cleared-held}
 use Rattle.moves.proofs.CompaccessBits.{none-gone}
-use Rattle.moves.proofs.NewImage.{new-count, new-fits, old-length, moved-counts, moved-count, moved-record}
+use Rattle.moves.proofs.NewImage.{new-fits, new-limited, old-length, moved-counts, moved-count, moved-record}
 use Rattle.moves.proofs.MovedAccepted.{moved-accepted}
-use Rattle.moves.proofs.SameBytes.{record-byte, needed-same, shape-same, body-same, block-same}
-use Rattle.moves.proofs.SameHeader.{header-same}
 
 -- ---- the bytes that change
 -- where the privileges of the user at place u stand
@@ -58,15 +55,6 @@ pub record ClearedOnly (im new : List ℕ) : Type 0 where
   -- privileges lose COMPACCESS and no other
   pub held : (u : ℕ) → u < users im → byteAt new (privilegeByte im u) ≡ withoutCompaccess (byteAt im (privilegeByte im u))
 
--- the numbers of users and labels stand in four bytes of the header
-number-bytes : (p : Profile) (l c g users labels : ℕ) → users < 65536 → labels < 65536 → (j : ℕ) → j < 4
-    → byteAt (headerUsed (countsFrom One p l c g) users labels) (8 + j) < 256
-number-bytes p l c g users labels u b zero h = omega arith
-number-bytes p l c g users labels u b (suc zero) h = omega arith
-number-bytes p l c g users labels u b (suc (suc zero)) h = omega arith
-number-bytes p l c g users labels u b (suc (suc (suc zero))) h = omega arith
-number-bytes p l c g users labels u b (suc (suc (suc (suc j)))) h = absurd (omega arith)
-
 -- privileges stand inside their record, which stands inside its block
 user-size : (edition : Edition) → 32 ≤ recordSize edition User
 user-size One = omega arith
@@ -79,7 +67,7 @@ byte-block im b j u h at =
     let inside = slot-inside (shapeOf im User) roomy u in
     omega (arith, roomy .room, user-size (editionOf im))
 
-module _ (im : List ℕ) (acc : IsAccepted im) (old-edition : editionOf im ≡ One) (bytes : (i : ℕ) → byteAt im i < 256) where
+module _ (im : List ℕ) (acc : IsAccepted im) (old-edition : editionOf im ≡ One) (bytes : AreBytes im) where
   abbrev new : List ℕ
   new = newImage Clear im
 
@@ -101,19 +89,11 @@ module _ (im : List ℕ) (acc : IsAccepted im) (old-edition : editionOf im ≡ O
   labels-same = moved-count Clear im (old .fitted) old-edition Label
 
   -- the counts of the new header are bytes
-  new-bytes : (i : ℕ) → 8 ≤ i → i < 12 → byteAt new i < 256
+  new-bytes : (i : ℕ) → 8 ≤ i → i < 16 → byteAt new i < 256
   unfolding newImage
-  new-bytes i low high =
-      let fits = new-fits Clear im (old .fitted) old-edition in
-      let n-users = new-count Clear im User in
-      let n-labels = new-count Clear im Label in
-      let there : 8 + (i - 8) ≡ i = omega arith in
-      let few-users : length (newRecords Clear im User) < 65536 = omega (arith, counted-users im (accepted-counted im acc)) in
-      let few-labels : length (newRecords Clear im Label) < 65536 = omega (arith, counted-labels im (accepted-counted im acc)) in
-      subst (λ (k : ℕ). byteAt (newImage Clear im) k < 256) there
-      (rw (header-byte (newCounts Clear im) (newRecords Clear im) fits (8 + (i - 8)) (omega arith))
-      (number-bytes (profileOf im) (levels im) (compartments im) (groups im) (length (newRecords Clear im User)) (length (newRecords Clear im Label))
-      few-users few-labels (i - 8) (omega arith)))
+  new-bytes =
+      count-bytes (newCounts Clear im) (newRecords Clear im) (new-fits Clear im (old .fitted) old-edition)
+      (new-limited im (old .header) old-edition Clear refl)
 
   -- ---- records
   record-same : (kind : Kind) (i k : ℕ) → i < countOf im kind → (kind ≡ User → isHolder im i ≡ true → k ≡ 31 → ⊥)
@@ -150,7 +130,7 @@ module _ (im : List ℕ) (acc : IsAccepted im) (old-edition : editionOf im ≡ O
       → (j : ℕ) → j < 512 → byteAt new (512 * b + j) ≡ byteAt im (512 * b + j)
   whole zero high other =
       block-same im new old kept counts users-same labels-same 0 high
-      (header-same im new old kept counts users-same labels-same old-edition bytes new-bytes)
+      (header-same im new old kept counts users-same labels-same bytes new-bytes)
   whole (suc b) high other =
       block-same im new old kept counts users-same labels-same (suc b) high (λ j h. body (suc b) (omega arith) high j h (none j h))
     where

@@ -1,24 +1,19 @@
 -- What is read from bytes that two runs have in common, and a set of groups that is made wider. Assumes nothing.
-use Prim.Native.Nat.{ℕ, _+_, _-_, _≤_, _<_}
+use Prim.Native.Nat.{ℕ, _+_, _≤_, _<_}
 use mathlib.Core.Path.{_≡_, sym, ap, _∙_}
 use mathlib.Core.List.{List, _++_}
 use native.Mathlib.Nat.{add-zero, add-assoc}
 use native.Mathlib.Omega.{arith}
-use lib.ListN.{length, take, drop, length-append}
-use lib.Seq.{take-all, take-take, drop-drop, drop-at}
+use lib.ListN.{length, take, length-append}
+use lib.Seq.{take-all, drop-at}
 use Rattle.fields.specs.Bytes.{byteAt, part, number2, number4, number8}
-use Rattle.fields.proofs.Laws.{drop-take, part-length, part-byte}
+use Rattle.fields.proofs.Laws.{part-length, part-byte, part-part}
 use Rattle.sets.specs.Words.{joined}
 use Rattle.header.specs.declared.edition.Edition.the-variants.{One, Two}
 use Rattle.records.specs.Fields.{groupsAt}
 use Rattle.writing.specs.Laid.{zeros}
 use Rattle.writing.proofs.Sealed.{part-first, zeros-length}
 use Rattle.moves.specs.Moved.{wideSet}
-
--- ---- a part of a part
-pub part-part : (s : List ℕ) (k n i m : ℕ) → i + m ≤ n → part (part s k n) i m ≡ part s (k + i) m
-part-part s k n i m h =
-    ap (take m) (drop-take i n (drop k s)) ∙ take-take m (n - i) (drop i (drop k s)) (omega arith) ∙ ap (take m) (drop-drop i k s)
 
 -- the second of two runs, one after the other
 pub part-next : (s t : List ℕ) (k n : ℕ) → length s ≡ k → length t ≡ n → part (s ++ t) k n ≡ t

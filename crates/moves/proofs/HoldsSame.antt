@@ -9,11 +9,14 @@ use lib.Dec.{eqb, ltb}
 use Rattle.header.specs.declared.edition.Edition.{Edition}
 use Rattle.header.specs.declared.edition.Edition.the-variants.{One}
 use Rattle.header.specs.declared.layout.Kind.the-variants.{Component, Label, User}
-use Rattle.header.specs.Layout.{editionOf, profileOf, levels, compartments, groups, users, labels, components, Counts, classFirst}
+use Rattle.header.specs.declared.counts.Counts.{Counts}
+use Rattle.header.specs.Layout.{editionOf, profileOf, levels, compartments, groups, users, labels, components, classFirst}
 use Rattle.header.specs.Layout.{componentRecord, labelRecord, userRecord}
 use Rattle.header.specs.Limits.{Counted}
 use Rattle.records.specs.Fields.{parentOf, noParent}
+use Rattle.hierarchy.specs.Forest.{hasParentIn}
 use Rattle.hierarchy.specs.Below.{parent, hasParent}
+use Rattle.hierarchy.proofs.OfImage.{parent-record}
 use Rattle.moves.specs.declared.target.Move.{Move}
 use Rattle.moves.specs.declared.target.Move.the-variants.{Up, Clear}
 use Rattle.moves.specs.Moved.{editionAfter, newImage}
@@ -85,19 +88,22 @@ module _ (which : Move) (im : List ℕ) (k : Counted im) (old : editionOf im ≡
       (component-alike which (componentRecord im i) (old-length im (k .fitted) old Component i h))
 
   parent-moved : (g : ℕ) → g < groups im → parent new g ≡ cond (eqb (parent im g) 255) (noParent (editionAfter which)) (parent im g)
-  unfolding parent classFirst components
+  unfolding classFirst components
   parent-moved g h =
       let i : ℕ = levels im + compartments im + g in
-      ap (λ (n : Counts). parentOf (editionOf new) (componentRecord new (n .levels + n .compartments + g))) (moved-counts which im (k .fitted) old)
+      let p : ℕ = parentOf (editionOf im) (componentRecord im i) in
+      let there : g < groups new = omega (arith, groups-same) in
+      rw (parent-record new g there, parent-record im g h)
+      (ap (λ (n : Counts). parentOf (editionOf new) (componentRecord new (n .levels + n .compartments + g))) (moved-counts which im (k .fitted) old)
       ∙ component-moved i (omega arith) .parent
-      ∙ ap₂ (λ (e f : Edition). cond (eqb (parent im g) (noParent e)) (noParent f) (parent im g)) old (moved-edition which im (k .fitted) old)
+      ∙ ap₂ (λ (e f : Edition). cond (eqb p (noParent e)) (noParent f) p) old (moved-edition which im (k .fitted) old))
 
   parents-moved : (g : ℕ) → g < groups im → hasParent new g ≡ hasParent im g
-  unfolding hasParent
+  unfolding hasParentIn
   parents-moved g h = ap₂ ltb (parent-moved g h) groups-same ∙ wide-has (groups im) (parent im g) few-groups which
 
   parent-same : (g : ℕ) → g < groups im → hasParent im g ≡ true → parent new g ≡ parent im g
-  unfolding hasParent
+  unfolding hasParentIn
   parent-same g h e = parent-moved g h ∙ wide-same (groups im) (parent im g) few-groups which e
 
   pub moved-holds : HoldsTheSame (heldAfter which) im new

@@ -8,7 +8,7 @@ use native.Mathlib.Omega.{arith}
 use borrow.Author.Tests.{eq-eqb}
 use lib.Dec.{eqb, leb}
 use lib.ListN.{length, take, drop}
-use Rattle.fields.specs.Bytes.{byteAt}
+use Rattle.fields.specs.Bytes.{AreBytes}
 use Rattle.fields.proofs.PlacesWhere.{nowhere}
 use Rattle.refusals.specs.declared.Refusal.the-variants.{Room, CompaccessHolders, MoveLimits}
 use Rattle.refusals.specs.declared.answers.Checked.the-variants.{Accepted}
@@ -171,7 +171,7 @@ pub record ClearedBy (im buffer after : List ℕ) (n : ℕ) : Type 0 where
   pub room : n ≤ length buffer
   pub kept : KeptByClearing im (take n after)
   -- of an image that is made of bytes
-  pub only : ((i : ℕ) → byteAt im i < 256) → ClearedOnly im (take n after)
+  pub only : AreBytes im → ClearedOnly im (take n after)
   pub later : drop n after ≡ drop n buffer
 
 pub cleared-by-call : (im buffer after : List ℕ) (n : ℕ) → clearCompaccessOf im buffer ≡ (filled.Done n, after) → ClearedBy im buffer after n

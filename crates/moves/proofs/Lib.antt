@@ -14,8 +14,6 @@ pub mod MovedAccepted
 pub mod OldAccepted
 pub mod KeptByMove
 pub mod Steps
-pub mod SameBytes
-pub mod SameHeader
 pub mod ClearedBytes
 pub mod LessPrivileges
 pub mod KeptByClearing

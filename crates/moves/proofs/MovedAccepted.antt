@@ -14,7 +14,8 @@ use Rattle.sets.specs.Sets.{difference}
 use Rattle.header.specs.declared.edition.Edition.the-variants.{One}
 use Rattle.header.specs.declared.layout.Kind.{Kind}
 use Rattle.header.specs.declared.layout.Kind.the-variants.{Component, Label, User}
-use Rattle.header.specs.Layout.{editionOf, profileOf, levels, compartments, groups, users, Counts, countsOf, recordSize, countOf, recordsOf, userRecord}
+use Rattle.header.specs.declared.counts.Counts.{Counts}
+use Rattle.header.specs.Layout.{editionOf, profileOf, levels, compartments, groups, users, countsOf, recordSize, countOf, recordsOf, userRecord}
 use Rattle.header.specs.Limits.{Counted}
 use Rattle.header.proofs.Inside.{records-count, record-of}
 use Rattle.records.specs.Fields.{privileges}
@@ -77,7 +78,6 @@ module _ (which : Move) (im : List ℕ) (acc : IsAccepted im) (old : editionOf i
 
   module _ (taken : takenRule which im ≡ true) where
     record-up : (kind : Kind) (i : ℕ) → i < countOf im kind → ruleOf kind (newCounts which im) (newRecords which im kind) i ≡ true
-    unfolding ruleOf
     record-up Component i h =
         let few : groups im ≤ 255 = omega (arith, old-groups im old (known .groupsLimit)) in
         component-holds (newCounts which im) (newRecords which im Component) i

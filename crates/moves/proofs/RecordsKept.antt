@@ -16,7 +16,8 @@ use Rattle.header.specs.declared.layout.Kind.{Kind}
 use Rattle.header.specs.declared.layout.Kind.the-variants.{Component, Label, User}
 use Rattle.header.specs.declared.profile.Profile.{Profile}
 use Rattle.header.specs.declared.profile.Profile.the-variants.{Tree, Release}
-use Rattle.header.specs.Layout.{byProfile, Counts, recordSize, classFirst, classAt}
+use Rattle.header.specs.declared.counts.Counts.{Counts}
+use Rattle.header.specs.Layout.{byProfile, recordSize, classFirst, classAt}
 use Rattle.records.specs.Fields.{parentOf, noParent, numericForm, componentName, tagOf, userName, privileges}
 use Rattle.records.specs.Rules.{recordIn, parentCount}
 use Rattle.records.proofs.MeaningComponents.{ParentKept, ComponentKept, ComponentAmong}

@@ -54,10 +54,10 @@ module _ {change : ℕ → ℕ} (im new : List ℕ) (same : HoldsTheSame change 
       let k = same .user u h in
       rw (
         rights-after u h label,
-        same .sameProfile,
-        same .sameGroups,
         k .groupsRead,
         below-alike im new same (readGroups (editionOf im) (userRecord im u)),
+        same .sameProfile,
+        same .sameGroups,
         k .compartmentsRead,
         k .levelMinimum,
         k .levelMaximum,

@@ -11,7 +11,8 @@ use Rattle.header.specs.declared.edition.Edition.{Edition}
 use Rattle.header.specs.declared.edition.Edition.the-variants.{One, Two}
 use Rattle.header.specs.declared.layout.Kind.{Kind}
 use Rattle.header.specs.declared.layout.Kind.the-variants.{Component, Label, User}
-use Rattle.header.specs.Layout.{profileOf, levels, compartments, groups, Counts, recordsOf}
+use Rattle.header.specs.declared.counts.Counts.{Counts}
+use Rattle.header.specs.Layout.{profileOf, levels, compartments, groups, recordsOf}
 use Rattle.records.specs.Fields.{parentOf, noParent, privileges, placeOfCompaccess}
 use Rattle.writing.specs.Laid.{bytes2, zeros, countsFrom, imageOf}
 use Rattle.moves.specs.declared.target.Move.{Move}

@@ -19,16 +19,17 @@ use header::layout::Kind;
 use header::profile::profile_of;
 use refusals::Refusal;
 use writing::block::put_header;
+use writing::laying::length_for;
 
 // How many bytes the new image has: the header's block, and those of the three kinds.
 pub(crate) fn new_length(which: Move, image: &[u8]) -> usize
     requires { ⌜ Fitted (now image) × (editionOf (now image) ≡ One) ⌝ }
     ensures { λ r. ⌜ r ≡ length (newImage which (now (image .entry))) ⌝ }
 {
-    let components = blocks_for(which, image, Kind::Component);
-    let labels = blocks_for(which, image, Kind::Label);
-    let users = blocks_for(which, image, Kind::User);
-    512 * (1 + components + labels + users)
+    let components = layout::components(image);
+    let labels = layout::labels(image);
+    let users = layout::users(image);
+    length_for(edition_after(which), components, labels, users)
 }
 
 // Writes the header: the profile and the counts as they were, under the new edition.

@@ -16,15 +16,15 @@ use header::layout;
 use header::layout::Kind;
 use writing::block::put_end;
 use writing::block::put_head;
+use writing::laying;
 
 // How many blocks the records of the kind need.
 pub(crate) fn blocks_for(which: Move, image: &[u8], kind: Kind) -> usize
     requires { ⌜ 512 ≤ length (now image) ⌝ }
     ensures { λ r. ⌜ (r ≡ newBlocks which (now (image .entry)) kind) × (r < 131092) ⌝ }
 {
-    let held = layout::capacity(edition_after(which), kind);
     let count = layout::count(image, kind);
-    (count + (held - 1)) / held
+    laying::blocks_for(edition_after(which), kind, count)
 }
 
 // Writes the records of the kind from place `from` up to `to`, one after the other.

@@ -9,6 +9,8 @@ ghost use Rattle.writing.specs.Laid.{bytes2};
 ghost use Rattle.moves.specs.Moved.{wideParent, wideSet, upComponent, upLabel, upUser, upRecord};
 use buffers::given::put;
 use header::layout::Kind;
+use writing::block::high;
+use writing::block::low;
 use writing::block::put_zeros;
 
 // A parent's place, or none as edition 2 has it.
@@ -27,9 +29,7 @@ fn put_number(x: usize, buffer: &mut [u8], at: usize) -> usize
     requires { ⌜ (x < 65536) × (at + 2 ≤ length (now buffer)) ⌝ }
     ensures { λ r. ⌜ Written (now (buffer .entry)) at (bytes2 x) (now (buffer .exit)) r ⌝ }
 {
-    let low = (x % 256) as u8;
-    let high = (x / 256) as u8;
-    let bytes = [low, high];
+    let bytes = [low(x), high(x)];
     put(&bytes, buffer, at)
 }
 

@@ -3,5 +3,9 @@ pub mod MeaningComponents
 pub mod MeaningHeader
 pub mod MeaningLabels
 pub mod MeaningUsers
+pub mod Parts
 pub mod Rising
 pub mod Rooms
+pub mod Running
+pub mod SetWords
+pub mod LabelTests

@@ -15,9 +15,11 @@ use Rattle.fields.proofs.Both.{parts, either, both, or-left, or-right}
 use Rattle.fields.proofs.Meaning.{zero-rest, rest-zero, NameKept, name-means, name-holds, differ-means, same-means}
 use Rattle.fields.proofs.Scan.{everywhere-at, all-good}
 use Rattle.header.specs.declared.edition.Edition.{Edition}
-use Rattle.header.specs.Layout.{Counts, classFirst, classAt}
+use Rattle.header.specs.declared.counts.Counts.{Counts}
+use Rattle.header.specs.declared.layout.Kind.the-variants.{Component}
+use Rattle.header.specs.Layout.{classFirst, classAt}
 use Rattle.records.specs.Fields.{classOf, componentNameField, componentName, numericForm, parentOf, noParent, componentEnd}
-use Rattle.records.specs.Rules.{recordIn, classStart, parentCount, parentRule, componentShape, numericRule, otherName, newNameRule, componentRule}
+use Rattle.records.specs.Rules.{recordIn, classStart, parentCount, parentRule, componentShape, numericAfter, otherName, newNameRule, ruleOf}
 use Rattle.records.proofs.Rising.{rise, apart}
 
 -- ---- the class at a place: levels, then compartments, then groups
@@ -133,12 +135,10 @@ module _ (n : Counts) (records : List (List ℕ)) (i : ℕ) where
   abbrev pub NumericRises : Type 0
   NumericRises = (i ≡ classStart n i) ⊎ (numericForm (recordIn records (i - 1)) < numericForm (recordIn records i))
 
-  pub numeric-means : numericRule n records i ≡ true → NumericRises
-  unfolding numericRule
+  pub numeric-means : numericAfter n i (recordIn records (i - 1)) (recordIn records i) ≡ true → NumericRises
   numeric-means e = ⊎-elim (λ p. inl (eqb-true _ _ p)) (λ p. inr (ltb-true _ _ p)) (either _ _ e)
 
-  pub numeric-holds : NumericRises → numericRule n records i ≡ true
-  unfolding numericRule
+  pub numeric-holds : NumericRises → numericAfter n i (recordIn records (i - 1)) (recordIn records i) ≡ true
   numeric-holds = ⊎-elim (λ p. or-left _ _ (eq-eqb _ _ p)) (λ p. or-right (eqb i (classStart n i)) _ (lt-ltb _ _ p))
 
   -- no earlier component of the class has its name
@@ -172,8 +172,8 @@ module _ (n : Counts) (records : List (List ℕ)) (i : ℕ) where
     pub rises : NumericRises
     pub nameNew : NameNew
 
-  pub component-means : componentRule n records i ≡ true → ComponentAmong
-  unfolding componentRule
+  pub component-means : ruleOf Component n records i ≡ true → ComponentAmong
+  unfolding ruleOf
   component-means e =
       let q2 = parts _ _ e in
       let q1 = parts _ _ (q2 .0) in
@@ -183,8 +183,8 @@ module _ (n : Counts) (records : List (List ℕ)) (i : ℕ) where
         nameNew = new-name-means (q2 .1);
       }
 
-  pub component-holds : ComponentAmong → componentRule n records i ≡ true
-  unfolding componentRule
+  pub component-holds : ComponentAmong → ruleOf Component n records i ≡ true
+  unfolding ruleOf
   component-holds a =
       rw (component-shape-holds (n .edition) (classAt n i) (parentCount n) (recordIn records i) (a .kept), numeric-holds (a .rises), new-name-holds (a .nameNew))
 

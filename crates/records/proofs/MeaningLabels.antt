@@ -1,6 +1,6 @@
 -- What the rules of label records mean, both ways: a rule holds exactly if what it says holds. Assumes nothing.
 use Prim.Native.Nat.{ℕ, _-_, _≤_, _<_}
-use mathlib.Core.Path.{_≡_, sym}
+use mathlib.Core.Path.{_≡_, refl, sym}
 use mathlib.Core.Bool.{true}
 use mathlib.Core.List.{List}
 use mathlib.Core.Logic.{_⊎_, inl, inr, ⊎-elim}
@@ -16,9 +16,10 @@ use Rattle.sets.specs.Sets.{has, within, allBelow}
 use Rattle.sets.proofs.Has.{allBelow-has}
 use Rattle.sets.proofs.Bounds.{within-below, below-has}
 use Rattle.sets.proofs.Within.{has-within}
-use Rattle.header.specs.Layout.{Counts}
+use Rattle.header.specs.declared.counts.Counts.{Counts}
+use Rattle.header.specs.declared.layout.Kind.the-variants.{Label}
 use Rattle.records.specs.Fields.{tagOf, labelLevel, labelCompartments, labelGroups}
-use Rattle.records.specs.Rules.{recordIn, labelShape, tagRule, labelRule}
+use Rattle.records.specs.Rules.{recordIn, labelShape, tagAfter, ruleOf}
 use Rattle.records.proofs.Rising.{rise, apart}
 
 -- a set names only places that exist
@@ -74,12 +75,10 @@ module _ (records : List (List ℕ)) (k : ℕ) where
   abbrev pub TagRises : Type 0
   TagRises = (k ≡ 0) ⊎ (tagOf (recordIn records (k - 1)) < tagOf (recordIn records k))
 
-  pub tag-means : tagRule records k ≡ true → TagRises
-  unfolding tagRule
+  pub tag-means : tagAfter k (recordIn records (k - 1)) (recordIn records k) ≡ true → TagRises
   tag-means e = ⊎-elim (λ p. inl (eqb-true _ _ p)) (λ p. inr (ltb-true _ _ p)) (either _ _ e)
 
-  pub tag-holds : TagRises → tagRule records k ≡ true
-  unfolding tagRule
+  pub tag-holds : TagRises → tagAfter k (recordIn records (k - 1)) (recordIn records k) ≡ true
   tag-holds = ⊎-elim (λ p. or-left _ _ (eq-eqb _ _ p)) (λ p. or-right (eqb k 0) _ (lt-ltb _ _ p))
 
 module _ (n : Counts) (records : List (List ℕ)) (k : ℕ) where
@@ -87,15 +86,15 @@ module _ (n : Counts) (records : List (List ℕ)) (k : ℕ) where
     pub kept : LabelKept n (recordIn records k)
     pub rises : TagRises records k
 
-  pub label-means : labelRule n records k ≡ true → LabelAmong
-  unfolding labelRule
+  pub label-means : ruleOf Label n records k ≡ true → LabelAmong
+  unfolding ruleOf
   label-means e =
-      let q = parts _ _ e in
+      let q = parts _ _ (parts _ _ e .0) in
       record { kept = label-shape-means n (recordIn records k) (q .0); rises = tag-means records k (q .1) }
 
-  pub label-holds : LabelAmong → labelRule n records k ≡ true
-  unfolding labelRule
-  label-holds a = both _ _ (label-shape-holds n (recordIn records k) (a .kept)) (tag-holds records k (a .rises))
+  pub label-holds : LabelAmong → ruleOf Label n records k ≡ true
+  unfolding ruleOf
+  label-holds a = both _ _ (both _ _ (label-shape-holds n (recordIn records k) (a .kept)) (tag-holds records k (a .rises))) refl
 
 -- ---- all of them
 module _ (records : List (List ℕ)) (rises : (k : ℕ) → k < length records → TagRises records k) where

@@ -18,9 +18,10 @@ use Rattle.sets.proofs.Bounds.{below-lacks}
 use Rattle.sets.proofs.Within.{within-has, has-within}
 use Rattle.header.specs.declared.edition.Edition.{Edition}
 use Rattle.header.specs.declared.profile.Profile.{Profile}
-use Rattle.header.specs.Layout.{Counts}
+use Rattle.header.specs.declared.counts.Counts.{Counts}
+use Rattle.header.specs.declared.layout.Kind.the-variants.{User}
 use Rattle.records.specs.Fields.{userNameField, userName, privileges, hasCompaccess, maximumLevel, minimumLevel, defaultLevel, rowLevel, readCompartments, writeCompartments, defaultCompartments, rowCompartments, readGroups, writeGroups, defaultGroups, rowGroups, userEnd}
-use Rattle.records.specs.Rules.{recordIn, userLevelsRule, userCompartmentsRule, userGroupsRule, bansCompaccess, privilegesRule, userShape, userNameRule, userRule}
+use Rattle.records.specs.Rules.{recordIn, userLevelsRule, userCompartmentsRule, userGroupsRule, bansCompaccess, privilegesRule, userShape, userNameAfter, ruleOf}
 use Rattle.records.proofs.MeaningLabels.{exist-means, exist-holds}
 use Rattle.records.proofs.Rising.{rise, apart}
 
@@ -191,12 +192,10 @@ module _ (records : List (List ℕ)) (u : ℕ) where
   abbrev pub NameRises : Type 0
   NameRises = (u ≡ 0) ⊎ (nameBefore (userName (recordIn records (u - 1))) (userName (recordIn records u)) ≡ true)
 
-  pub user-name-means : userNameRule records u ≡ true → NameRises
-  unfolding userNameRule
+  pub user-name-means : userNameAfter u (recordIn records (u - 1)) (recordIn records u) ≡ true → NameRises
   user-name-means e = ⊎-elim (λ p. inl (eqb-true _ _ p)) (λ p. inr p) (either _ _ e)
 
-  pub user-name-holds : NameRises → userNameRule records u ≡ true
-  unfolding userNameRule
+  pub user-name-holds : NameRises → userNameAfter u (recordIn records (u - 1)) (recordIn records u) ≡ true
   user-name-holds = ⊎-elim (λ p. or-left _ _ (eq-eqb _ _ p)) (λ p. or-right (eqb u 0) _ p)
 
 module _ (n : Counts) (records : List (List ℕ)) (u : ℕ) where
@@ -204,15 +203,15 @@ module _ (n : Counts) (records : List (List ℕ)) (u : ℕ) where
     pub kept : UserKept n (recordIn records u)
     pub rises : NameRises records u
 
-  pub user-means : userRule n records u ≡ true → UserAmong
-  unfolding userRule
+  pub user-means : ruleOf User n records u ≡ true → UserAmong
+  unfolding ruleOf
   user-means e =
-      let q = parts _ _ e in
+      let q = parts _ _ (parts _ _ e .0) in
       record { kept = user-shape-means n (recordIn records u) (q .0); rises = user-name-means records u (q .1) }
 
-  pub user-holds : UserAmong → userRule n records u ≡ true
-  unfolding userRule
-  user-holds a = both _ _ (user-shape-holds n (recordIn records u) (a .kept)) (user-name-holds records u (a .rises))
+  pub user-holds : UserAmong → ruleOf User n records u ≡ true
+  unfolding ruleOf
+  user-holds a = both _ _ (both _ _ (user-shape-holds n (recordIn records u) (a .kept)) (user-name-holds records u (a .rises))) refl
 
 -- ---- all of them
 module _ (records : List (List ℕ)) (rises : (u : ℕ) → u < length records → NameRises records u) where

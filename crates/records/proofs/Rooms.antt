@@ -5,7 +5,6 @@ use Rattle.header.specs.declared.edition.Edition.{Edition}
 use Rattle.header.specs.declared.edition.Edition.the-variants.{One, Two}
 use Rattle.header.specs.declared.layout.Kind.the-variants.{Label, User}
 use Rattle.header.specs.Layout.{byEdition, recordSize}
-use Rattle.records.specs.Fields.{componentEnd, userEnd}
 
 -- the bytes of a set of groups
 abbrev pub setSize : Edition → ℕ
@@ -21,11 +20,3 @@ pub user-rooms : (edition : Edition)
     × ((byEdition edition 88 136 + setSize edition ≤ recordSize edition User) × (byEdition edition 96 168 + setSize edition ≤ recordSize edition User)))
 user-rooms One = (omega arith, (omega arith, (omega arith, omega arith)))
 user-rooms Two = (omega arith, (omega arith, (omega arith, omega arith)))
-
-pub component-room : (edition : Edition) → componentEnd edition ≤ 40
-component-room One = omega arith
-component-room Two = omega arith
-
-pub user-room : (edition : Edition) → userEnd edition ≤ recordSize edition User
-user-room One = omega arith
-user-room Two = omega arith

@@ -1,21 +1,19 @@
--- What the rules of records ask of the header, as the value that code works out once for a block.
+-- What the rules of records ask of the header, as the value that code works out once.
 use Prim.Native.Nat.{ℕ, _-_, _≤_}
 use mathlib.Core.Path.{_≡_}
-use mathlib.Core.List.{List}
 use Rattle.sets.specs.Sets.{allBelow}
-use Rattle.sets.specs.Groups.{placesOf}
-use Rattle.header.specs.Layout as layout
+use Rattle.sets.specs.Groups.{width, placesOf}
 use Rattle.header.specs.declared.layout.Shape.{Shape}
-use Rattle.header.specs.Layout.{editionOf, recordOffset}
+use Rattle.header.specs.Layout.{recordOffset}
 use Rattle.records.specs.declared.existing.Existing.{Existing}
 
--- the edition, how many levels there are, and the compartments and groups that exist
-pub record Exist (im : List ℕ) (e : Existing) : Type 0 where
-  pub edition : e .edition ≡ editionOf im
-  pub levels : e .levels ≡ layout.levels im
-  pub compartments : e .compartments ≡ allBelow (layout.compartments im)
-  pub groups : placesOf (e .groups) ≡ allBelow (layout.groups im)
+-- the compartments and the groups that exist are those that its counts name; a word holds the former, a set of groups the latter
+pub record Exist (e : Existing) : Type 0 where
+  pub few : e .counts .compartments ≤ 64
+  pub fewGroups : e .counts .groups ≤ width
+  pub compartments : e .compartments ≡ allBelow (e .counts .compartments)
+  pub groups : placesOf (e .groups) ≡ allBelow (e .counts .groups)
 
--- `previous` is where the record before that at place i begins, if there is one
+-- `previous` is where the record before that at place i begins; the first has itself there
 abbrev pub Previous : Shape → ℕ → ℕ → Type 0
-Previous shape i previous = 1 ≤ i → previous ≡ recordOffset shape (i - 1)
+Previous shape i previous = previous ≡ recordOffset shape (i - 1)

@@ -1,26 +1,34 @@
 -- The rules of an image's records: of a record by itself, and of a record among those before it in the list of its kind; and of a block:
 -- its layout and its records. Each is a Boolean; proofs/Meaning*.antt say what each means for places and bytes.
-use Prim.Native.Nat.{ℕ, _+_, _-_, _*_}
+use Prim.Native.Nat.{ℕ, zero, suc, _+_, _-_, _*_, _/_}
 use mathlib.Core.Bool.{Bool, true, false, cond, not, _&&_, _||_}
 use mathlib.Core.List.{List, []}
 use lib.Dec.{eqb, leb, ltb}
-use lib.ListN.{drop, getD}
+use lib.ListN.{length, drop, getD}
 use Rattle.fields.specs.Bytes.{byteAt, part, allZero}
 use Rattle.fields.specs.Names.{nameRule, sameBytes, nameBefore}
-use Rattle.fields.specs.Scan.{firstBad, everywhere}
+use Rattle.fields.specs.Scan.{firstBad, everywhere, listFrom}
 use Rattle.sets.specs.Sets.{within, allBelow}
 use Rattle.header.specs.declared.edition.Edition.{Edition}
 use Rattle.header.specs.declared.edition.Edition.the-variants.{One, Two}
 use Rattle.header.specs.declared.profile.Profile.{Profile}
 use Rattle.header.specs.declared.layout.Kind.{Kind}
 use Rattle.header.specs.declared.layout.Kind.the-variants.{Component, Label, User}
-use Rattle.header.specs.Layout.{byProfile, Counts, countsOf, classFirst, classAt, kindByte, recordAt, recordsOf, contentsOf}
+use Rattle.header.specs.declared.counts.Counts.{Counts}
+use Rattle.header.specs.Layout.{byProfile, countsOf, classFirst, classAt, kindByte, recordSize, recordAt, recordsOf, contentsOf}
 use Rattle.records.specs.Fields.{classOf, componentNameField, componentName, numericForm, parentOf, noParent, componentEnd, tagOf, labelLevel, labelCompartments, labelGroups, userNameField, userName, privileges, hasCompaccess, maximumLevel, minimumLevel, defaultLevel, rowLevel, readCompartments, writeCompartments, defaultCompartments, rowCompartments, readGroups, writeGroups, defaultGroups, rowGroups, userEnd}
 
 -- ---- lists of records
 -- the record at place i
 abbrev pub recordIn : List (List ℕ) → ℕ → List ℕ
 recordIn records i = getD records i []
+
+-- the records of that many bytes in a run of them, one right after the other: the one at place j, and all
+abbrev pub runRecord : ℕ → List ℕ → ℕ → List ℕ
+runRecord size run j = part run (size * j) size
+
+unfoldable pub runRecords : ℕ → List ℕ → List (List ℕ)
+runRecords size run = listFrom (runRecord size run) (length run / size) 0
 
 -- ---- components: levels, then compartments, then groups
 -- the place of the first component of the class that the counts put at place i
@@ -40,16 +48,18 @@ componentShape edition class count rec =
 
 -- of two records that clash the later is at fault: each of the rules below looks at records before its own. Where all before rise, the one
 -- right before is enough
--- inside a class the numeric form rises strictly
-unfoldable pub numericRule : Counts → List (List ℕ) → ℕ → Bool
-numericRule n records i =
-    eqb i (classStart n i) || ltb (numericForm (recordIn records (i - 1))) (numericForm (recordIn records i))
+-- inside a class the numeric form rises strictly: of the component at place i, and the one right before it
+abbrev pub numericAfter : Counts → ℕ → List ℕ → List ℕ → Bool
+numericAfter n i previous rec = eqb i (classStart n i) || ltb (numericForm previous) (numericForm rec)
 
 -- the component has another name
 unfoldable pub otherName : List ℕ → List ℕ → Bool
 otherName name rec = not (sameBytes (componentName rec) name)
 
--- the same of the component at place j of an image
+-- the same of the component at place j of a run, and of an image
+abbrev pub runNamed : List ℕ → List ℕ → ℕ → Bool
+runNamed run name j = otherName name (runRecord 40 run j)
+
 abbrev pub othersNamed : List ℕ → List ℕ → ℕ → Bool
 othersNamed im name j = otherName name (recordAt im Component j)
 
@@ -62,11 +72,6 @@ newNameRule n records i =
 abbrev pub parentCount : Counts → ℕ
 parentCount n = byProfile (n .profile) (n .groups) 0
 
--- the component at place i, among all
-unfoldable pub componentRule : Counts → List (List ℕ) → ℕ → Bool
-componentRule n records i =
-    componentShape (n .edition) (classAt n i) (parentCount n) (recordIn records i) && numericRule n records i && newNameRule n records i
-
 -- ---- labels
 -- what a label record must be, whatever the others are: tag 1 to 99,999,999, level and sets that exist, the rest unused
 unfoldable pub labelShape : Counts → List ℕ → Bool
@@ -75,12 +80,8 @@ labelShape n rec =
     && within (labelCompartments rec) (allBelow (n .compartments)) && within (labelGroups (n .edition) rec) (allBelow (n .groups))
 
 -- tags rise strictly
-unfoldable pub tagRule : List (List ℕ) → ℕ → Bool
-tagRule records k = eqb k 0 || ltb (tagOf (recordIn records (k - 1))) (tagOf (recordIn records k))
-
--- the label at place k, among all
-unfoldable pub labelRule : Counts → List (List ℕ) → ℕ → Bool
-labelRule n records k = labelShape n (recordIn records k) && tagRule records k
+abbrev pub tagAfter : ℕ → List ℕ → List ℕ → Bool
+tagAfter k previous rec = eqb k 0 || ltb (tagOf previous) (tagOf rec)
 
 -- ---- users
 -- minimum ≤ row level ≤ default ≤ maximum, and the maximum exists, so that all four do
@@ -119,18 +120,40 @@ userShape n rec =
     && userLevelsRule (n .levels) rec && userCompartmentsRule (n .compartments) rec && userGroupsRule (n .edition) (n .groups) rec
 
 -- user names rise strictly in byte order
-unfoldable pub userNameRule : List (List ℕ) → ℕ → Bool
-userNameRule records u = eqb u 0 || nameBefore (userName (recordIn records (u - 1))) (userName (recordIn records u))
-
--- the user at place u, among all
-unfoldable pub userRule : Counts → List (List ℕ) → ℕ → Bool
-userRule n records u = userShape n (recordIn records u) && userNameRule records u
+abbrev pub userNameAfter : ℕ → List ℕ → List ℕ → Bool
+userNameAfter u previous rec = eqb u 0 || nameBefore (userName previous) (userName rec)
 
 -- ---- a record of any kind, among the records of its kind
+-- what is asked of the record at place i and the one right before it; before the first stands the first itself
+abbrev pub afterRule : Kind → Counts → ℕ → List ℕ → List ℕ → Bool
+afterRule Component n i previous rec = componentShape (n .edition) (classAt n i) (parentCount n) rec && numericAfter n i previous rec
+afterRule Label n k previous rec = labelShape n rec && tagAfter k previous rec
+afterRule User n u previous rec = userShape n rec && userNameAfter u previous rec
+
+-- the same of the records of a run, of which the first is at place k and comes right after the record `previous`: the record before the one
+-- at place j of the run, and what is asked of that one and it
+abbrev pub runBefore : ℕ → List ℕ → List ℕ → ℕ → List ℕ
+runBefore size previous run zero = previous
+runBefore size previous run (suc j) = runRecord size run j
+
+unfoldable pub runRule : Kind → Counts → ℕ → List ℕ → List ℕ → ℕ → Bool
+runRule kind n k previous run j =
+    let size = recordSize (n .edition) kind in
+    afterRule kind n (k + j) (runBefore size previous run j) (runRecord size run j)
+
+-- the place in the run of the first that breaks it; their number where none does
+abbrev pub firstBadOfRun : Kind → Counts → ℕ → List ℕ → List ℕ → ℕ
+firstBadOfRun kind n k previous run = firstBad (runRule kind n k previous run) (length run / recordSize (n .edition) kind) 0
+
+-- what is asked of a record among all before it: of a component that its name is new
+abbrev pub freshRule : Kind → Counts → List (List ℕ) → ℕ → Bool
+freshRule Component n records i = newNameRule n records i
+freshRule Label n records i = true
+freshRule User n records i = true
+
+-- both: the rule of the record at place i
 unfoldable pub ruleOf : Kind → Counts → List (List ℕ) → ℕ → Bool
-ruleOf Component = componentRule
-ruleOf Label = labelRule
-ruleOf User = userRule
+ruleOf kind n records i = afterRule kind n i (recordIn records (i - 1)) (recordIn records i) && freshRule kind n records i
 
 -- a record of an image, among the image's
 abbrev pub recordRule : List ℕ → Kind → ℕ → Bool

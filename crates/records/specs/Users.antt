@@ -1,7 +1,10 @@
 -- A user's levels and sets, as the values that code hands on.
-use Prim.Native.Nat.{ℕ}
+use Prim.Native.Nat.{ℕ, _+_}
 use mathlib.Core.Path.{_≡_}
+use mathlib.Core.Bool.{Bool, _&&_}
 use mathlib.Core.List.{List}
+use Rattle.fields.specs.Bytes.{number8}
+use Rattle.sets.specs.Sets.{within}
 use Rattle.sets.specs.Groups.{placesOf}
 use Rattle.header.specs.declared.edition.Edition.{Edition}
 use Rattle.records.specs.declared.users.Levels.{Levels}
@@ -24,3 +27,9 @@ pub record GroupsAre (edition : Edition) (rec : List ℕ) (sets : GroupSets) : T
   pub write : placesOf (sets .write) ≡ writeGroups edition rec
   pub default : placesOf (sets .default) ≡ defaultGroups edition rec
   pub row : placesOf (sets .row) ≡ rowGroups edition rec
+
+-- four words of a record, `size` bytes apart, of which the first begins at k, have only places of `all`
+abbrev pub fourWithin : List ℕ → ℕ → ℕ → ℕ → Bool
+fourWithin rec k size all =
+    within (number8 rec k) all && within (number8 rec (k + size)) all && within (number8 rec (k + size + size)) all
+    && within (number8 rec (k + size + size + size)) all

@@ -1,22 +1,61 @@
 // A block after the header: its layout, then its records in order.
-ghost use Prim.Native.Nat.{_-_, _^_, _<_, _≤_};
+ghost use Prim.Native.Nat.{_-_, _<_, _≤_};
 ghost use mathlib.Core.Path.{_≡_};
+ghost use lib.ListN.{length};
 ghost use Rattle.fields.specs.Scan.{firstBad};
-ghost use Rattle.header.specs.Layout.{countOf, blocksNeeded, Roomy, Shaped, recordOffset, OneRun};
-ghost use Rattle.records.specs.Rules.{recordRule, layoutRule, firstBadRecord, contentRule};
+ghost use Rattle.header.specs.declared.edition.Edition.the-variants.{One};
+ghost use Rattle.header.specs.Layout.{countsOf, recordSize, countOf, blocksNeeded, Fitted, Shaped, recordOffset, recordAt, recordsOf, OneRun};
+ghost use Rattle.records.specs.Rules.{afterRule, freshRule, recordRule, layoutRule, firstBadRecord, contentRule};
 ghost use Rattle.header.specs.Limits.{Counted};
 ghost use Rattle.records.specs.Existing.{Exist, Previous};
+use crate::components::class_start;
 use crate::components::component_ok;
+use crate::components::first_named;
 use crate::existing::Existing;
 use crate::existing::existing_in;
 use crate::labels::label_ok;
 use crate::users::user_ok;
+use fields::names::Letters;
+use fields::names::name_in;
 use fields::numbers::all_zero;
 use header::contents::block_contents;
+use header::counts::Counts;
 use header::layout;
 use header::layout::Kind;
 use header::layout::Shape;
 use header::layout::kind_byte;
+
+// A record and the one right before it.
+pub fn after_ok(existing: Existing, kind: Kind, i: usize, previous: &[u8], rec: &[u8]) -> bool
+    requires { ⌜ Exist existing × (length (now rec) ≡ recordSize (existing .counts .edition) kind) ⌝ }
+    requires { ⌜ (recordSize One kind ≤ length (now rec)) × (recordSize One kind ≤ length (now previous)) ⌝ }
+    ensures { λ r. ⌜ r ≡ afterRule kind (existing .counts) i (now (previous .entry)) (now (rec .entry)) ⌝ }
+{
+    match kind {
+        Kind::Component => {
+            let counts = existing.counts;
+            component_ok(counts, i, previous, rec)
+        }
+        Kind::Label => label_ok(existing, i, previous, rec),
+        Kind::User => user_ok(existing, i, previous, rec),
+    }
+}
+
+// Inside a class the names of components differ.
+fn fresh_ok(image: &[u8], counts: Counts, kind: Kind, i: usize, rec: &[u8]) -> bool
+    requires { ⌜ Fitted (now image) × ((counts ≡ countsOf (now image)) × (i < countOf (now image) kind)) ⌝ }
+    requires { ⌜ (now rec ≡ recordAt (now image) kind i) × (recordSize One kind ≤ length (now rec)) ⌝ }
+    ensures { λ r. ⌜ r ≡ freshRule kind counts (recordsOf (now (image .entry)) kind) i ⌝ }
+{
+    match kind {
+        Kind::Component => {
+            let name = name_in(&rec[1..32]);
+            first_named(image, class_start(counts, i), i, Letters::Exact, name) == i
+        }
+        Kind::Label => true,
+        Kind::User => true,
+    }
+}
 
 // The record begins at `at`, and the one before it at `previous`.
 fn record_ok(
@@ -28,26 +67,21 @@ fn record_ok(
     at: usize,
     previous: usize,
 ) -> bool
-    requires { ⌜ Counted (now image) × (Exist (now image) existing × (Shaped (now image) kind shape × ((i < countOf (now image) kind) × (at ≡ recordOffset shape i)))) ⌝ }
-    requires { ⌜ Previous shape i previous ⌝ }
+    requires { ⌜ Fitted (now image) × (Exist existing × ((existing .counts ≡ countsOf (now image)) × Shaped (now image) kind shape)) ⌝ }
+    requires { ⌜ (i < countOf (now image) kind) × ((at ≡ recordOffset shape i) × Previous shape i previous) ⌝ }
     ensures { λ r. ⌜ r ≡ recordRule (now (image .entry)) kind i ⌝ }
 {
-    match kind {
-        Kind::Component => component_ok(image, i),
-        Kind::Label => label_ok(image, existing, shape, i, at, previous),
-        Kind::User => user_ok(image, i),
-    }
+    let counts = existing.counts;
+    let rec = layout::placed_part(image, shape, kind, i, at);
+    let earlier = layout::placed_part(image, shape, kind, place_before(i), previous);
+    after_ok(existing, kind, i, earlier, rec) & fresh_ok(image, counts, kind, i, rec)
 }
 
-// Where the record before that at place i begins, if there is one.
-fn previous_offset(shape: Shape, i: usize) -> usize
-    requires { ⌜ Roomy shape × (1 ≤ i → recordOffset shape (i - 1) < 2 ^ 63) ⌝ }
-    ensures { λ r. ⌜ Previous shape i r ⌝ }
+// The place before i; the first has itself there.
+fn place_before(i: usize) -> usize
+    ensures { λ r. ⌜ r ≡ i - 1 ⌝ }
 {
-    if i == 0 {
-        return 0;
-    }
-    layout::record_offset(shape, i - 1)
+    if i == 0 { 0 } else { i - 1 }
 }
 
 // The records stand in one block, so that the next one begins where one ends.
@@ -58,7 +92,7 @@ fn first_bad(image: &[u8], kind: Kind, from: usize, to: usize) -> usize
     let existing = existing_in(image);
     let shape = layout::shape_of(image, kind);
     let mut at = layout::record_offset(shape, from);
-    let mut previous = previous_offset(shape, from);
+    let mut previous = layout::record_offset(shape, place_before(from));
     let mut i = from;
     while i < to {
         if !record_ok(image, existing, shape, kind, i, at, previous) {

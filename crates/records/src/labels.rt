@@ -3,11 +3,11 @@ ghost use Prim.Native.Nat.{_<_, _≤_};
 ghost use mathlib.Core.Path.{_≡_};
 ghost use lib.ListN.{length};
 ghost use Rattle.header.specs.declared.layout.Kind.the-variants.{Label};
-ghost use Rattle.header.specs.Layout.{editionOf, labels, countsOf, recordSize, Shaped, recordOffset, labelRecord, recordsOf};
+ghost use Rattle.header.specs.Layout.{labels, recordSize, Shaped, labelRecord};
 ghost use Rattle.records.specs.Fields.{tagOf};
-ghost use Rattle.records.specs.Rules.{labelShape, tagRule, recordRule};
+ghost use Rattle.records.specs.Rules.{labelShape, afterRule};
 ghost use Rattle.header.specs.Limits.{Counted};
-ghost use Rattle.records.specs.Existing.{Exist, Previous};
+ghost use Rattle.records.specs.Existing.{Exist};
 use crate::existing::Existing;
 use crate::group_sets::group_set;
 use fields::numbers::all_zero;
@@ -34,47 +34,27 @@ pub fn tag(image: &[u8], k: usize) -> u32
 }
 
 // What a record must be whatever the others are.
-fn shape_ok(image: &[u8], existing: Existing, rec: &[u8]) -> bool
-    requires { ⌜ Exist (now image) existing × ((length (now rec) ≡ recordSize (editionOf (now image)) Label) × (24 ≤ length (now rec))) ⌝ }
-    ensures { λ r. ⌜ r ≡ labelShape (countsOf (now (image .entry))) (now (rec .entry)) ⌝ }
+fn shape_ok(existing: Existing, rec: &[u8]) -> bool
+    requires { ⌜ Exist existing × ((length (now rec) ≡ recordSize (existing .counts .edition) Label) × (24 ≤ length (now rec))) ⌝ }
+    ensures { λ r. ⌜ r ≡ labelShape (existing .counts) (now (rec .entry)) ⌝ }
 {
-    let edition = existing.edition;
+    let counts = existing.counts;
+    let edition = counts.edition;
     let all = existing.groups;
     let tag = number4(rec, 0);
     (1 <= tag)
         & (tag <= 99999999)
-        & ((rec[4] as usize) < existing.levels)
+        & ((rec[4] as usize) < counts.levels)
         & all_zero(&rec[5..8])
         & word::within(number8(rec, 8), existing.compartments)
         & group_set(edition, rec, 16).within(all)
 }
 
-// Tags rise strictly. `here` is the tag of the record at place k; the record before it begins at `previous`.
-fn tag_ok(image: &[u8], shape: Shape, k: usize, previous: usize, here: u32) -> bool
-    requires { ⌜ Counted (now image) × (Shaped (now image) Label shape × ((k < labels (now image)) × Previous shape k previous)) ⌝ }
-    requires { ⌜ here ≡ tagOf (labelRecord (now image) k) ⌝ }
-    ensures { λ r. ⌜ r ≡ tagRule (recordsOf (now (image .entry)) Label) k ⌝ }
+// The label at place k, and the record right before it.
+pub fn label_ok(existing: Existing, k: usize, previous: &[u8], rec: &[u8]) -> bool
+    requires { ⌜ Exist existing × ((length (now rec) ≡ recordSize (existing .counts .edition) Label) × (24 ≤ length (now rec))) ⌝ }
+    requires { ⌜ 24 ≤ length (now previous) ⌝ }
+    ensures { λ r. ⌜ r ≡ afterRule Label (existing .counts) k (now (previous .entry)) (now (rec .entry)) ⌝ }
 {
-    if k == 0 {
-        return true;
-    }
-    let rec = layout::placed_part(image, shape, Kind::Label, k - 1, previous);
-    number4(rec, 0) < here
-}
-
-// The record begins at `at`, and the one before it at `previous`.
-pub fn label_ok(
-    image: &[u8],
-    existing: Existing,
-    shape: Shape,
-    k: usize,
-    at: usize,
-    previous: usize,
-) -> bool
-    requires { ⌜ Counted (now image) × (Exist (now image) existing × (Shaped (now image) Label shape × ((k < labels (now image)) × (at ≡ recordOffset shape k)))) ⌝ }
-    requires { ⌜ Previous shape k previous ⌝ }
-    ensures { λ r. ⌜ r ≡ recordRule (now (image .entry)) Label k ⌝ }
-{
-    let rec = layout::placed_part(image, shape, Kind::Label, k, at);
-    shape_ok(image, existing, rec) & tag_ok(image, shape, k, previous, number4(rec, 0))
+    shape_ok(existing, rec) & ((k == 0) | (number4(previous, 0) < number4(rec, 0)))
 }

@@ -1,7 +1,11 @@
 // The records of an image: what they hold, and the rules that each keeps.
 pub mod blocks;
+pub mod component_run;
 pub mod components;
 pub mod existing;
 pub mod group_sets;
+pub mod label_run;
 pub mod labels;
+pub mod runs;
+pub mod user_run;
 pub mod users;

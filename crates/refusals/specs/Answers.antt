@@ -49,6 +49,11 @@ verdictGiven Yes = done 1
 verdictGiven No = done 0
 verdictGiven (verdict.Refused r) = refusalGiven r
 
+-- the number given back; 0 where it is done
+abbrev pub numberGiven : Given → ℕ
+numberGiven (done value) = 0
+numberGiven (refused number values) = number
+
 -- the values returned beside a number, in one number; 0 where there is none
 abbrev pub placeGiven : Given → ℕ
 placeGiven (done value) = 0

@@ -6,10 +6,11 @@ use Rattle.sets.specs.Words.{joined}
 use Rattle.records.specs.Fields.{groupsAt}
 use Rattle.fields.specs.Bytes.{number2, number4, number8, all}
 use Rattle.fields.specs.Names.{nameByte, nameIn, sameBytes, smallLetter, folded}
-use Rattle.fields.specs.Scan.{firstBad}
+use Rattle.fields.specs.Scan.{firstBad, listFrom}
 use Rattle.sets.specs.Sets.{has, difference, empty, allBelow, within, meets, collect}
-use Rattle.header.specs.Layout.{levels, compartments, groups, labels, components, firstBlock, blocksFor, recordOffset, recordAt, classFirst, editionOf, profileOf}
-use Rattle.hierarchy.specs.Below.{parent, hasParent, lineageWithin, lineage, below, reach}
+use Rattle.header.specs.Layout.{levels, compartments, groups, labels, components, firstBlock, blocksFor, recordOffset, recordAt, classFirst, editionOf, profileOf, recordsOf}
+use Rattle.hierarchy.specs.Forest.{hasParentIn, lineageWithinIn, lineageIn, belowIn}
+use Rattle.hierarchy.specs.Below.{parentIn, reach}
 use Rattle.refusals.specs.declared.answers.Checked.the-variants.{Accepted}
 use Rattle.image.specs.Check.{checkOf}
 use Rattle.image.specs.Lookup.{componentIndex, labelOfTag}
@@ -66,7 +67,7 @@ cases-shortly (c ∷ cases) = rw (answer-shortly casesImage cases-known (c .ques
 
 -- ---- the proof
 computed : map (λ (c : Case). shortly casesImage (c .question)) proved ≡ map (λ (c : Case). c .expected) proved
-unfolding proved mayRead mayWrite knownTag labelAt readsLabel readTests readLevelRule readGroupsRule groupTest readCompartmentsRule compaccessReads holdsCompaccess readsAll writesAll writesLabel writeTests writeLevelRule writeSetsRule writeGroupsRule writeCompartmentsRule compaccessWrites rightsAt writeCompartmentsOf writeGroupsOf casesImage number2 number4 number8 has difference empty within meets collect firstBad levels compartments groups labels components firstBlock blocksFor recordOffset recordAt parent classFirst hasParent lineageWithin lineage below labelOfTag labelChange sessionLabelAnswer rowInside sessionGroupsRule all textByte smallLetter folded nameByte nameIn sameBytes componentIndex split isName isList shapeRule matches placeOfName readNames allBelow entryAt listed listText section textOf labelExists acceptedAnswer mergeLevels mergeSets lettersRule mergedLabel mergeOf editionOf groupsAt joined treeSetsRule profileOf reach
+unfolding proved mayRead mayWrite knownTag labelAt readsLabel readTests readLevelRule readGroupsRule groupTest readCompartmentsRule compaccessReads holdsCompaccess readsAll writesAll writesLabel writeTests writeLevelRule writeSetsRule writeGroupsRule writeCompartmentsRule compaccessWrites rightsAt writeCompartmentsOf writeGroupsOf casesImage number2 number4 number8 has difference empty within meets collect firstBad levels compartments groups labels components firstBlock blocksFor recordOffset recordAt recordsOf listFrom parentIn classFirst hasParentIn lineageWithinIn lineageIn belowIn labelOfTag labelChange sessionLabelAnswer rowInside sessionGroupsRule all textByte smallLetter folded nameByte nameIn sameBytes componentIndex split isName isList shapeRule matches placeOfName readNames allBelow entryAt listed listText section textOf labelExists acceptedAnswer mergeLevels mergeSets lettersRule mergedLabel mergeOf editionOf groupsAt joined treeSetsRule profileOf reach
 computed = refl
 
 pub all-cases : map asked proved ≡ map (λ (c : Case). c .expected) proved

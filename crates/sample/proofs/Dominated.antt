@@ -8,11 +8,12 @@ use lib.Dec.{lit≤, lit<}
 use Rattle.sets.specs.Words.{joined}
 use Rattle.records.specs.Fields.{groupsAt}
 use Rattle.fields.specs.Bytes.{number2, number4, number8}
-use Rattle.fields.specs.Scan.{firstBad}
+use Rattle.fields.specs.Scan.{firstBad, listFrom}
 use Rattle.sets.specs.Sets.{has, within, meets, empty, collect}
 use Rattle.sets.proofs.Bounds.{none-below}
-use Rattle.header.specs.Layout.{levels, compartments, groups, components, firstBlock, blocksFor, recordOffset, recordAt, classFirst, editionOf, profileOf}
-use Rattle.hierarchy.specs.Below.{parent, hasParent, lineageWithin, lineage, below, reach}
+use Rattle.header.specs.Layout.{levels, compartments, groups, components, firstBlock, blocksFor, recordOffset, recordAt, classFirst, editionOf, profileOf, recordsOf}
+use Rattle.hierarchy.specs.Forest.{hasParentIn, lineageWithinIn, lineageIn, belowIn}
+use Rattle.hierarchy.specs.Below.{parentIn, reach}
 use Rattle.refusals.specs.declared.answers.Verdict.the-variants.{Yes, No}
 use Rattle.refusals.specs.Answers.{verdictOf}
 use Rattle.labels.specs.Label.{Marks, marks, labelExists}
@@ -46,7 +47,7 @@ computed : ((dominates cooperative north dock ≡ true) × (dominates cooperativ
     × (dominates cooperative dock north ≡ false))
     × ((dominates cooperative north northSouth ≡ true) × (dominates cooperative northSouth south ≡ true)
     × (dominates cooperative north south ≡ false))
-unfolding cooperative number2 number4 number8 firstBad has within meets empty collect levels compartments groups components firstBlock blocksFor recordOffset recordAt classFirst parent hasParent lineageWithin lineage below groupTest dominatesLevel dominatesCompartments dominatesGroups dominates editionOf groupsAt joined profileOf reach
+unfolding cooperative number2 number4 number8 firstBad has within meets empty collect levels compartments groups components firstBlock blocksFor recordOffset recordAt classFirst recordsOf listFrom parentIn hasParentIn lineageWithinIn lineageIn belowIn groupTest dominatesLevel dominatesCompartments dominatesGroups dominates editionOf groupsAt joined profileOf reach
 computed = ((refl, refl, refl), (refl, refl, refl))
 
 -- the policy has every label at CREW of its four groups

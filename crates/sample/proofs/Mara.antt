@@ -6,10 +6,11 @@ use Rattle.sets.specs.Words.{joined}
 use Rattle.records.specs.Fields.{groupsAt}
 use Rattle.fields.specs.Bytes.{number2, number4, number8, all}
 use Rattle.fields.specs.Names.{nameByte, nameIn, sameBytes, smallLetter, folded}
-use Rattle.fields.specs.Scan.{firstBad}
+use Rattle.fields.specs.Scan.{firstBad, listFrom}
 use Rattle.sets.specs.Sets.{has, within, meets, collect}
-use Rattle.header.specs.Layout.{levels, compartments, groups, users, labels, components, firstBlock, blocksFor, recordOffset, recordAt, classFirst, editionOf, profileOf}
-use Rattle.hierarchy.specs.Below.{parent, hasParent, lineageWithin, lineage, below, reach}
+use Rattle.header.specs.Layout.{levels, compartments, groups, users, labels, components, firstBlock, blocksFor, recordOffset, recordAt, classFirst, editionOf, profileOf, recordsOf}
+use Rattle.hierarchy.specs.Forest.{hasParentIn, lineageWithinIn, lineageIn, belowIn}
+use Rattle.hierarchy.specs.Below.{parentIn, reach}
 use Rattle.refusals.specs.declared.answers.Checked.the-variants.{Accepted}
 use Rattle.image.specs.Lookup.{componentIndex, userOfName}
 use Rattle.labels.specs.Text.{colon, textByte, split, isName, isList, shapeRule}
@@ -37,7 +38,7 @@ pub mara-opens-cases : openOf casesImage name ≡ session mara
 mara-opens-cases = opens-in-both .1
 
 passes-in-both : (lentAnswer cooperative mara ≡ Accepted) × (lentAnswer casesImage mara ≡ Accepted)
-unfolding lentAnswer sessionRule sessionLabelAnswer rowLabelAnswer rowInside sessionGroupsRule rightsAt writeCompartmentsOf writeGroupsOf cooperative casesImage number2 number4 number8 within meets collect levels compartments groups users labels components firstBlock blocksFor recordOffset recordAt parent classFirst hasParent lineageWithin lineage below editionOf groupsAt joined profileOf reach
+unfolding lentAnswer sessionRule sessionLabelAnswer rowLabelAnswer rowInside sessionGroupsRule rightsAt writeCompartmentsOf writeGroupsOf cooperative casesImage number2 number4 number8 within meets collect levels compartments groups users labels components firstBlock blocksFor recordOffset recordAt recordsOf listFrom parentIn classFirst hasParentIn lineageWithinIn lineageIn belowIn editionOf groupsAt joined profileOf reach
 passes-in-both = (rw sample-accepted, rw cases-accepted)
 
 pub mara-passes : lentAnswer cooperative mara ≡ Accepted
@@ -49,5 +50,5 @@ mara-passes-cases = passes-in-both .1
 -- ---- in the report's
 -- P10 holds there too: the calls of HiddenInstance.antt have it
 pub p10 : setLabelOf cooperative mara (vault ++ colon ∷ kiln ++ colon ∷ dock) ≡ (withLabel mara (marks 2 1 4), Accepted)
-unfolding setLabelOf labelChange sessionLabelAnswer rowInside sessionGroupsRule rightsAt writeCompartmentsOf writeGroupsOf cooperative number2 number4 number8 all textByte smallLetter folded nameByte nameIn sameBytes firstBad has within meets collect levels compartments groups users labels components firstBlock blocksFor recordOffset recordAt componentIndex classFirst parent hasParent lineageWithin lineage below split isName isList shapeRule matches placeOfName readNames editionOf groupsAt joined profileOf reach
+unfolding setLabelOf labelChange sessionLabelAnswer rowInside sessionGroupsRule rightsAt writeCompartmentsOf writeGroupsOf cooperative number2 number4 number8 all textByte smallLetter folded nameByte nameIn sameBytes firstBad has within meets collect levels compartments groups users labels components firstBlock blocksFor recordOffset recordAt componentIndex classFirst recordsOf listFrom parentIn hasParentIn lineageWithinIn lineageIn belowIn split isName isList shapeRule matches placeOfName readNames editionOf groupsAt joined profileOf reach
 p10 = rw mara-passes

@@ -8,9 +8,10 @@ use Rattle.fields.specs.Bytes.{number2, number4, number8}
 use Rattle.fields.specs.Names.{sameBytes}
 use Rattle.fields.specs.Scan.{listFrom}
 use Rattle.sets.specs.Sets.{has, empty, within, meets, collect}
-use Rattle.header.specs.Layout.{levels, compartments, groups, users, labels, components, firstBlock, blocksFor, recordOffset, recordAt, classFirst, editionOf, profileOf}
+use Rattle.header.specs.Layout.{levels, compartments, groups, users, labels, components, firstBlock, blocksFor, recordOffset, recordAt, classFirst, editionOf, profileOf, recordsOf}
 use Rattle.records.specs.Fields.{groupsAt}
-use Rattle.hierarchy.specs.Below.{parent, hasParent, lineageWithin, lineage, below, reach}
+use Rattle.hierarchy.specs.Forest.{hasParentIn, lineageWithinIn, lineageIn, belowIn}
+use Rattle.hierarchy.specs.Below.{parentIn, reach}
 use Rattle.labels.specs.GroupTest.{groupTest}
 use Rattle.labels.specs.Label.{labelAt}
 use Rattle.access.specs.Rights.{writeCompartmentsOf, writeGroupsOf, rightsAt}
@@ -22,11 +23,11 @@ use Rattle.sample.specs.TwoTables.{glazed, maraMap, glazedMap}
 use Rattle.sample.proofs.Mara.{mara}
 
 pub mara-map : mapOf cooperative (sessionRights cooperative mara) ≡ maraMap
-unfolding mapOf mapByte mapLength readsRecord labelAt listFrom readsLabel readTests readLevelRule readGroupsRule groupTest readCompartmentsRule compaccessReads holdsCompaccess readsAll rightsAt writeCompartmentsOf writeGroupsOf cooperative number2 number4 number8 has empty within meets collect levels compartments groups users labels components firstBlock blocksFor recordOffset recordAt parent classFirst hasParent lineageWithin lineage below editionOf groupsAt joined profileOf reach
+unfolding mapOf mapByte mapLength readsRecord labelAt listFrom readsLabel readTests readLevelRule readGroupsRule groupTest readCompartmentsRule compaccessReads holdsCompaccess readsAll rightsAt writeCompartmentsOf writeGroupsOf cooperative number2 number4 number8 has empty within meets collect levels compartments groups users labels components firstBlock blocksFor recordOffset recordAt recordsOf parentIn classFirst hasParentIn lineageWithinIn lineageIn belowIn editionOf groupsAt joined profileOf reach
 mara-map = refl
 
 pub glazed-map : mapOf cooperative (sessionRights cooperative glazed) ≡ glazedMap
-unfolding mapOf mapByte mapLength readsRecord labelAt listFrom readsLabel readTests readLevelRule readGroupsRule groupTest readCompartmentsRule compaccessReads holdsCompaccess readsAll rightsAt writeCompartmentsOf writeGroupsOf cooperative number2 number4 number8 has empty within meets collect levels compartments groups users labels components firstBlock blocksFor recordOffset recordAt parent classFirst hasParent lineageWithin lineage below editionOf groupsAt joined profileOf reach
+unfolding mapOf mapByte mapLength readsRecord labelAt listFrom readsLabel readTests readLevelRule readGroupsRule groupTest readCompartmentsRule compaccessReads holdsCompaccess readsAll rightsAt writeCompartmentsOf writeGroupsOf cooperative number2 number4 number8 has empty within meets collect levels compartments groups users labels components firstBlock blocksFor recordOffset recordAt recordsOf parentIn classFirst hasParentIn lineageWithinIn lineageIn belowIn editionOf groupsAt joined profileOf reach
 glazed-map = refl
 
 pub mara-right : mapRule cooperative (sessionRights cooperative mara) maraMap ≡ true

@@ -5,12 +5,13 @@ use mathlib.Core.Bool.{true, false}
 use Rattle.sets.specs.Words.{joined}
 use Rattle.fields.specs.Bytes.{number2, number4, number8, all}
 use Rattle.fields.specs.Names.{nameByte, nameIn, sameBytes, smallLetter, folded}
-use Rattle.fields.specs.Scan.{firstBad}
+use Rattle.fields.specs.Scan.{firstBad, listFrom}
 use Rattle.sets.specs.Sets.{has, empty, within, meets, collect}
 use Rattle.refusals.specs.declared.Refusal.the-variants.{NoUser, RowLabelOutside, SessionRules}
-use Rattle.header.specs.Layout.{levels, compartments, groups, users, labels, components, firstBlock, blocksFor, recordOffset, recordAt, classFirst, userRecord, editionOf, profileOf}
+use Rattle.header.specs.Layout.{levels, compartments, groups, users, labels, components, firstBlock, blocksFor, recordOffset, recordAt, classFirst, userRecord, editionOf, profileOf, recordsOf}
 use Rattle.records.specs.Fields.{privileges, groupsAt}
-use Rattle.hierarchy.specs.Below.{parent, hasParent, lineageWithin, lineage, below, reach}
+use Rattle.hierarchy.specs.Forest.{hasParentIn, lineageWithinIn, lineageIn, belowIn}
+use Rattle.hierarchy.specs.Below.{parentIn, reach}
 use Rattle.refusals.specs.declared.answers.Checked.the-variants.{Accepted, Refused}
 use Rattle.image.specs.Lookup.{componentIndex, labelOfTag, userOfName}
 use Rattle.labels.specs.Text.{textByte, split, isName, isList, shapeRule}
@@ -43,7 +44,7 @@ pub record Ever : Type 0 where
   pub never77 : readableAtMaximum cooperative 0 77 ≡ false
 
 pub ever : Ever
-unfolding readableAtMaximum maximumReadLabel mayRead knownTag labelAt readsLabel readTests readLevelRule readGroupsRule groupTest readCompartmentsRule compaccessReads holdsCompaccess readsAll rightsAt writeCompartmentsOf writeGroupsOf cooperative number2 number4 number8 has empty within meets collect firstBad levels compartments groups users labels components firstBlock blocksFor recordOffset recordAt parent classFirst hasParent lineageWithin lineage below labelOfTag editionOf groupsAt joined profileOf reach
+unfolding readableAtMaximum maximumReadLabel mayRead knownTag labelAt readsLabel readTests readLevelRule readGroupsRule groupTest readCompartmentsRule compaccessReads holdsCompaccess readsAll rightsAt writeCompartmentsOf writeGroupsOf cooperative number2 number4 number8 has empty within meets collect firstBad levels compartments groups users labels components firstBlock blocksFor recordOffset recordAt recordsOf listFrom parentIn classFirst hasParentIn lineageWithinIn lineageIn belowIn labelOfTag editionOf groupsAt joined profileOf reach
 ever = record { ever10 = refl; ever30 = refl; never20 = refl; never0 = refl; never77 = refl }
 
 -- ---- sessions that read all of that
@@ -56,24 +57,24 @@ pub record Verdicts (s : SessionMarks) : Type 0 where
   pub writes30 : mayWrite cooperative (sessionRights cooperative s) 30 ≡ false
 
 pub mara-verdicts : Verdicts mara
-unfolding mayRead knownTag labelAt readsLabel readTests readLevelRule readGroupsRule groupTest readCompartmentsRule compaccessReads holdsCompaccess readsAll mayWrite writesAll writesLabel writeTests writeLevelRule writeSetsRule writeGroupsRule writeCompartmentsRule compaccessWrites rightsAt writeCompartmentsOf writeGroupsOf cooperative number2 number4 number8 has empty within meets collect firstBad levels compartments groups users labels components firstBlock blocksFor recordOffset recordAt parent classFirst hasParent lineageWithin lineage below labelOfTag editionOf groupsAt joined treeSetsRule profileOf reach
+unfolding mayRead knownTag labelAt readsLabel readTests readLevelRule readGroupsRule groupTest readCompartmentsRule compaccessReads holdsCompaccess readsAll mayWrite writesAll writesLabel writeTests writeLevelRule writeSetsRule writeGroupsRule writeCompartmentsRule compaccessWrites rightsAt writeCompartmentsOf writeGroupsOf cooperative number2 number4 number8 has empty within meets collect firstBad levels compartments groups users labels components firstBlock blocksFor recordOffset recordAt recordsOf listFrom parentIn classFirst hasParentIn lineageWithinIn lineageIn belowIn labelOfTag editionOf groupsAt joined treeSetsRule profileOf reach
 mara-verdicts = record { reads10 = refl; reads30 = refl; hides20 = refl; hides0 = refl; writes10 = refl; writes30 = refl }
 
 pub vaulted-passes : lentAnswer cooperative vaulted ≡ Accepted
-unfolding lentAnswer sessionRule sessionLabelAnswer rowLabelAnswer rowInside sessionGroupsRule rightsAt writeCompartmentsOf writeGroupsOf cooperative number2 number4 number8 within meets collect levels compartments groups users labels components firstBlock blocksFor recordOffset recordAt parent classFirst hasParent lineageWithin lineage below editionOf groupsAt joined profileOf reach
+unfolding lentAnswer sessionRule sessionLabelAnswer rowLabelAnswer rowInside sessionGroupsRule rightsAt writeCompartmentsOf writeGroupsOf cooperative number2 number4 number8 within meets collect levels compartments groups users labels components firstBlock blocksFor recordOffset recordAt recordsOf listFrom parentIn classFirst hasParentIn lineageWithinIn lineageIn belowIn editionOf groupsAt joined profileOf reach
 vaulted-passes = rw sample-accepted
 
 pub vaulted-verdicts : Verdicts vaulted
-unfolding mayRead knownTag labelAt readsLabel readTests readLevelRule readGroupsRule groupTest readCompartmentsRule compaccessReads holdsCompaccess readsAll mayWrite writesAll writesLabel writeTests writeLevelRule writeSetsRule writeGroupsRule writeCompartmentsRule compaccessWrites rightsAt writeCompartmentsOf writeGroupsOf cooperative number2 number4 number8 has empty within meets collect firstBad levels compartments groups users labels components firstBlock blocksFor recordOffset recordAt parent classFirst hasParent lineageWithin lineage below labelOfTag editionOf groupsAt joined treeSetsRule profileOf reach
+unfolding mayRead knownTag labelAt readsLabel readTests readLevelRule readGroupsRule groupTest readCompartmentsRule compaccessReads holdsCompaccess readsAll mayWrite writesAll writesLabel writeTests writeLevelRule writeSetsRule writeGroupsRule writeCompartmentsRule compaccessWrites rightsAt writeCompartmentsOf writeGroupsOf cooperative number2 number4 number8 has empty within meets collect firstBad levels compartments groups users labels components firstBlock blocksFor recordOffset recordAt recordsOf listFrom parentIn classFirst hasParentIn lineageWithinIn lineageIn belowIn labelOfTag editionOf groupsAt joined treeSetsRule profileOf reach
 vaulted-verdicts = record { reads10 = refl; reads30 = refl; hides20 = refl; hides0 = refl; writes10 = refl; writes30 = refl }
 
 -- ---- a session that reads less than she could ever read
 pub bare-passes : lentAnswer cooperative bare ≡ Accepted
-unfolding lentAnswer sessionRule sessionLabelAnswer rowLabelAnswer rowInside sessionGroupsRule rightsAt writeCompartmentsOf writeGroupsOf cooperative number2 number4 number8 within meets collect levels compartments groups users labels components firstBlock blocksFor recordOffset recordAt parent classFirst hasParent lineageWithin lineage below editionOf groupsAt joined profileOf reach
+unfolding lentAnswer sessionRule sessionLabelAnswer rowLabelAnswer rowInside sessionGroupsRule rightsAt writeCompartmentsOf writeGroupsOf cooperative number2 number4 number8 within meets collect levels compartments groups users labels components firstBlock blocksFor recordOffset recordAt recordsOf listFrom parentIn classFirst hasParentIn lineageWithinIn lineageIn belowIn editionOf groupsAt joined profileOf reach
 bare-passes = rw sample-accepted
 
 pub glazed-passes : lentAnswer cooperative glazed ≡ Accepted
-unfolding lentAnswer sessionRule sessionLabelAnswer rowLabelAnswer rowInside sessionGroupsRule rightsAt writeCompartmentsOf writeGroupsOf cooperative number2 number4 number8 within meets collect levels compartments groups users labels components firstBlock blocksFor recordOffset recordAt parent classFirst hasParent lineageWithin lineage below editionOf groupsAt joined profileOf reach
+unfolding lentAnswer sessionRule sessionLabelAnswer rowLabelAnswer rowInside sessionGroupsRule rightsAt writeCompartmentsOf writeGroupsOf cooperative number2 number4 number8 within meets collect levels compartments groups users labels components firstBlock blocksFor recordOffset recordAt recordsOf listFrom parentIn classFirst hasParentIn lineageWithinIn lineageIn belowIn editionOf groupsAt joined profileOf reach
 glazed-passes = rw sample-accepted
 
 pub record LessVerdicts (s : SessionMarks) : Type 0 where
@@ -83,22 +84,22 @@ pub record LessVerdicts (s : SessionMarks) : Type 0 where
   pub hides0 : mayRead cooperative (sessionRights cooperative s) 0 ≡ false
 
 pub glazed-verdicts : LessVerdicts glazed
-unfolding mayRead knownTag labelAt readsLabel readTests readLevelRule readGroupsRule groupTest readCompartmentsRule compaccessReads holdsCompaccess readsAll rightsAt writeCompartmentsOf writeGroupsOf cooperative number2 number4 number8 has empty within meets collect firstBad levels compartments groups users labels components firstBlock blocksFor recordOffset recordAt parent classFirst hasParent lineageWithin lineage below labelOfTag editionOf groupsAt joined profileOf reach
+unfolding mayRead knownTag labelAt readsLabel readTests readLevelRule readGroupsRule groupTest readCompartmentsRule compaccessReads holdsCompaccess readsAll rightsAt writeCompartmentsOf writeGroupsOf cooperative number2 number4 number8 has empty within meets collect firstBad levels compartments groups users labels components firstBlock blocksFor recordOffset recordAt recordsOf listFrom parentIn classFirst hasParentIn lineageWithinIn lineageIn belowIn labelOfTag editionOf groupsAt joined profileOf reach
 glazed-verdicts = record { hides10 = refl; reads30 = refl; hides20 = refl; hides0 = refl }
 
 -- ---- label changes
 -- the row label CREW:KILN:DOCK does not lie inside CREW:GLAZE:NORTH
 pub glaze-refused : setLabelOf cooperative vaulted textGlaze ≡ (vaulted, Refused RowLabelOutside)
-unfolding setLabelOf labelChange sessionLabelAnswer rowInside sessionGroupsRule rightsAt writeCompartmentsOf writeGroupsOf cooperative number2 number4 number8 all textByte smallLetter folded nameByte nameIn sameBytes firstBad has within meets collect levels compartments groups users labels components firstBlock blocksFor recordOffset recordAt componentIndex classFirst parent hasParent lineageWithin lineage below split isName isList shapeRule matches placeOfName readNames editionOf groupsAt joined profileOf reach
+unfolding setLabelOf labelChange sessionLabelAnswer rowInside sessionGroupsRule rightsAt writeCompartmentsOf writeGroupsOf cooperative number2 number4 number8 all textByte smallLetter folded nameByte nameIn sameBytes firstBad has within meets collect levels compartments groups users labels components firstBlock blocksFor recordOffset recordAt componentIndex classFirst recordsOf listFrom parentIn hasParentIn lineageWithinIn lineageIn belowIn split isName isList shapeRule matches placeOfName readNames editionOf groupsAt joined profileOf reach
 glaze-refused = rw vaulted-passes
 
 pub crew-accepted : setRowLabelOf cooperative vaulted textCrew ≡ (bare, Accepted)
-unfolding setRowLabelOf rowLabelChange rowLabelAnswer rightsAt writeCompartmentsOf writeGroupsOf cooperative number2 number4 number8 all textByte smallLetter folded nameByte nameIn sameBytes firstBad has within meets collect levels compartments groups users labels components firstBlock blocksFor recordOffset recordAt componentIndex classFirst parent hasParent lineageWithin lineage below split isName isList shapeRule matches placeOfName readNames editionOf groupsAt joined profileOf reach
+unfolding setRowLabelOf rowLabelChange rowLabelAnswer rightsAt writeCompartmentsOf writeGroupsOf cooperative number2 number4 number8 all textByte smallLetter folded nameByte nameIn sameBytes firstBad has within meets collect levels compartments groups users labels components firstBlock blocksFor recordOffset recordAt componentIndex classFirst recordsOf listFrom parentIn hasParentIn lineageWithinIn lineageIn belowIn split isName isList shapeRule matches placeOfName readNames editionOf groupsAt joined profileOf reach
 crew-accepted = rw vaulted-passes
 
 -- CREW does
 pub glaze-accepted : setLabelOf cooperative bare textGlaze ≡ (glazed, Accepted)
-unfolding setLabelOf labelChange sessionLabelAnswer rowInside sessionGroupsRule rightsAt writeCompartmentsOf writeGroupsOf cooperative number2 number4 number8 all textByte smallLetter folded nameByte nameIn sameBytes firstBad has within meets collect levels compartments groups users labels components firstBlock blocksFor recordOffset recordAt componentIndex classFirst parent hasParent lineageWithin lineage below split isName isList shapeRule matches placeOfName readNames editionOf groupsAt joined profileOf reach
+unfolding setLabelOf labelChange sessionLabelAnswer rowInside sessionGroupsRule rightsAt writeCompartmentsOf writeGroupsOf cooperative number2 number4 number8 all textByte smallLetter folded nameByte nameIn sameBytes firstBad has within meets collect levels compartments groups users labels components firstBlock blocksFor recordOffset recordAt componentIndex classFirst recordsOf listFrom parentIn hasParentIn lineageWithinIn lineageIn belowIn split isName isList shapeRule matches placeOfName readNames editionOf groupsAt joined profileOf reach
 glaze-accepted = rw bare-passes
 
 -- ---- refusals of an opening and of a lent session
@@ -107,5 +108,5 @@ unfolding openOf openAccepted cooperative number2 nameIn sameBytes firstBad leve
 mark-refused = rw sample-accepted
 
 pub too-low-refused : lentAnswer cooperative tooLow ≡ Refused SessionRules
-unfolding lentAnswer sessionRule sessionLabelAnswer rowLabelAnswer rowInside sessionGroupsRule rightsAt writeCompartmentsOf writeGroupsOf cooperative number2 number4 number8 within meets collect levels compartments groups users labels components firstBlock blocksFor recordOffset recordAt parent classFirst hasParent lineageWithin lineage below editionOf groupsAt joined profileOf reach
+unfolding lentAnswer sessionRule sessionLabelAnswer rowLabelAnswer rowInside sessionGroupsRule rightsAt writeCompartmentsOf writeGroupsOf cooperative number2 number4 number8 within meets collect levels compartments groups users labels components firstBlock blocksFor recordOffset recordAt recordsOf listFrom parentIn classFirst hasParentIn lineageWithinIn lineageIn belowIn editionOf groupsAt joined profileOf reach
 too-low-refused = rw sample-accepted

@@ -11,8 +11,9 @@ use Rattle.sets.specs.Sets.{has, allBelow, within, meets, collect}
 use Rattle.blocks.specs.Blocks.{lengthRule, blockAt, sumA, sumB, checkRule, placeRule, blockRule, blockCount, firstBadBlock}
 use Rattle.header.specs.Layout.{levels, compartments, groups, users, labels, components, firstBlock, blocksFor, blocksNeeded, recordOffset, recordAt, contentsOf, kindAt, classAt, classFirst, recordsOf, editionOf, profileOf}
 use Rattle.header.specs.Header.{headerRule, fitRule, countsRule}
-use Rattle.records.specs.Rules.{parentRule, componentShape, numericRule, newNameRule, componentRule, labelShape, tagRule, labelRule, userLevelsRule, userCompartmentsRule, userGroupsRule, privilegesRule, userShape, userNameRule, userRule, ruleOf, layoutRule, firstBadRecord, contentRule, otherName}
-use Rattle.hierarchy.specs.Below.{parent, hasParent, endsWithin, endsRule, firstRing, lineageWithin, lineage, below, belowRule, firstBadBelow, groupSetsRule, reach}
+use Rattle.records.specs.Rules.{parentRule, componentShape, newNameRule, labelShape, userLevelsRule, userCompartmentsRule, userGroupsRule, privilegesRule, userShape, ruleOf, layoutRule, firstBadRecord, contentRule, otherName}
+use Rattle.hierarchy.specs.Forest.{hasParentIn, endsWithinIn, endsIn, firstRingIn, lineageWithinIn, lineageIn, belowIn}
+use Rattle.hierarchy.specs.Below.{parentIn, belowSets, firstBadSets, groupSetsIn, reach}
 use Rattle.refusals.specs.declared.answers.Checked.the-variants.{Accepted}
 use Rattle.image.specs.declared.faults.Fault.the-variants.{Sound}
 use Rattle.image.specs.Walk.{firstBadContent, contentFault, countedFault, foundFault}
@@ -28,13 +29,13 @@ use Rattle.access.specs.NewLabels.{sessionGroupsRule, rowInside, sessionLabelAn
 use Rattle.access.specs.Verdicts.{knownTag, mayRead, mayWrite, readsAll, writesAll, holdsCompaccess, readLevelRule, readGroupsRule, readCompartmentsRule}
 use Rattle.access.specs.Verdicts.{compaccessReads, readTests, readsLabel, writeLevelRule, writeCompartmentsRule, releaseSetsRule, writeSetsRule}
 use Rattle.access.specs.Verdicts.{compaccessWrites, writeTests, writesLabel}
-use Rattle.hierarchy.specs.Below.{releaseRule}
+use Rattle.hierarchy.specs.Below.{releaseSets}
 use Rattle.sessions.specs.Session.{SessionMarks, lentAnswer, sessionRights}
 use Rattle.sample.specs.Partners.{partners, ofNorth, ofBoth}
 use Rattle.sample.proofs.Sample.{sound-accepted}
 
 partners-sound : foundFault partners ≡ Sound
-unfolding partners number2 number4 number8 all nameByte nameIn nameRule sameBytes nameBefore firstBad has allBelow within meets collect lengthRule blockAt sumA sumB checkRule placeRule blockRule blockCount firstBadBlock levels compartments groups users labels components firstBlock blocksFor blocksNeeded recordOffset recordAt contentsOf kindAt headerRule fitRule classAt classFirst parentRule componentShape numericRule otherName newNameRule componentRule labelShape tagRule labelRule userLevelsRule userCompartmentsRule userGroupsRule privilegesRule userShape userNameRule userRule ruleOf recordsOf listFrom layoutRule firstBadRecord contentRule parent hasParent endsWithin endsRule firstRing lineageWithin lineage below belowRule firstBadBelow firstBadContent contentFault countedFault foundFault editionOf countsRule groupsAt joined groupSetsRule profileOf reach releaseRule
+unfolding partners number2 number4 number8 all nameByte nameIn nameRule sameBytes nameBefore firstBad has allBelow within meets collect lengthRule blockAt sumA sumB checkRule placeRule blockRule blockCount firstBadBlock levels compartments groups users labels components firstBlock blocksFor blocksNeeded recordOffset recordAt contentsOf kindAt headerRule fitRule classAt classFirst parentRule componentShape otherName newNameRule labelShape userLevelsRule userCompartmentsRule userGroupsRule privilegesRule userShape ruleOf recordsOf listFrom layoutRule firstBadRecord contentRule parentIn hasParentIn endsWithinIn endsIn firstRingIn lineageWithinIn lineageIn belowIn belowSets firstBadSets firstBadContent contentFault countedFault foundFault editionOf countsRule groupsAt joined groupSetsIn profileOf reach releaseSets
 partners-sound = refl
 
 pub partners-accepted : checkOf partners ≡ Accepted

@@ -5,10 +5,11 @@ use Rattle.sets.specs.Words.{joined}
 use Rattle.records.specs.Fields.{groupsAt}
 use Rattle.fields.specs.Bytes.{number2, number4, number8}
 use Rattle.fields.specs.Names.{nameIn}
-use Rattle.fields.specs.Scan.{firstBad}
+use Rattle.fields.specs.Scan.{firstBad, listFrom}
 use Rattle.sets.specs.Sets.{has, empty, within, meets, collect}
-use Rattle.header.specs.Layout.{levels, compartments, groups, users, labels, components, firstBlock, blocksFor, recordOffset, recordAt, classFirst, editionOf, profileOf}
-use Rattle.hierarchy.specs.Below.{parent, hasParent, lineageWithin, lineage, below, reach}
+use Rattle.header.specs.Layout.{levels, compartments, groups, users, labels, components, firstBlock, blocksFor, recordOffset, recordAt, classFirst, editionOf, profileOf, recordsOf}
+use Rattle.hierarchy.specs.Forest.{hasParentIn, lineageWithinIn, lineageIn, belowIn}
+use Rattle.hierarchy.specs.Below.{parentIn, reach}
 use Rattle.labels.specs.GroupTest.{groupTest}
 use Rattle.access.specs.Rights.{writeCompartmentsOf, writeGroupsOf, rightsAt}
 use Rattle.access.specs.Verdicts.{readsAll, writesAll, holdsCompaccess, readLevelRule, readGroupsRule, readCompartmentsRule, compaccessReads, readTests, readsLabel, writeLevelRule, writeGroupsRule, writeCompartmentsRule, writeSetsRule, compaccessWrites, writeTests, writesLabel, treeSetsRule}
@@ -23,5 +24,5 @@ pub sample-output : outputOf cooperative
     ≡ 77 ∷ 65 ∷ 82 ∷ 65 ∷ 32 ∷ 49 ∷ 48 ∷ 32 ∷ 114 ∷ 119 ∷ 10
     ∷ 77 ∷ 65 ∷ 82 ∷ 65 ∷ 32 ∷ 50 ∷ 48 ∷ 32 ∷ 45 ∷ 45 ∷ 10
     ∷ 77 ∷ 65 ∷ 82 ∷ 65 ∷ 32 ∷ 51 ∷ 48 ∷ 32 ∷ 114 ∷ 45 ∷ 10 ∷ []
-unfolding outputOf reportOf usersFrom linesFrom lineAt ending decimal digitCount defaultSession defaultLabel defaultRowLabel labelAt readsLabel readTests readLevelRule readGroupsRule groupTest readCompartmentsRule compaccessReads holdsCompaccess readsAll writesAll writesLabel writeTests writeLevelRule writeSetsRule writeGroupsRule writeCompartmentsRule compaccessWrites rightsAt writeCompartmentsOf writeGroupsOf cooperative number2 number4 number8 nameIn has empty within meets collect firstBad levels compartments groups users labels components firstBlock blocksFor recordOffset recordAt parent classFirst hasParent lineageWithin lineage below editionOf groupsAt joined treeSetsRule profileOf reach
+unfolding outputOf reportOf usersFrom linesFrom lineAt ending decimal digitCount defaultSession defaultLabel defaultRowLabel labelAt readsLabel readTests readLevelRule readGroupsRule groupTest readCompartmentsRule compaccessReads holdsCompaccess readsAll writesAll writesLabel writeTests writeLevelRule writeSetsRule writeGroupsRule writeCompartmentsRule compaccessWrites rightsAt writeCompartmentsOf writeGroupsOf cooperative number2 number4 number8 nameIn has empty within meets collect firstBad levels compartments groups users labels components firstBlock blocksFor recordOffset recordAt recordsOf listFrom parentIn classFirst hasParentIn lineageWithinIn lineageIn belowIn editionOf groupsAt joined treeSetsRule profileOf reach
 sample-output = rw sample-accepted

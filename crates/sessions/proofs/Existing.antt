@@ -15,7 +15,7 @@ use Rattle.records.specs.Fields.{readCompartments, writeCompartments, readGroup
 use Rattle.records.proofs.MeaningLabels.{exist-holds}
 use Rattle.records.proofs.MeaningUsers.{UserKept}
 use Rattle.labels.proofs.Existing.{means-exists}
-use Rattle.hierarchy.specs.Below.{below, reach}
+use Rattle.hierarchy.specs.Below.{forestOf, below, reach}
 use Rattle.hierarchy.proofs.Under.{below-limit}
 use Rattle.refusals.specs.declared.answers.Checked.the-variants.{Accepted}
 use Rattle.image.proofs.Policy.{user-kept}
@@ -55,7 +55,7 @@ module _ (im : List ℕ) (s : SessionMarks) (lent : lentAnswer im s ≡ Accepted
       read = readGroups (editionOf im) (userRecord im (s .user))
 
       at : (p : Profile) → byProfile p (within set (below im read)) (within set (allBelow (groups im)) && within read set) ≡ true → set < 2 ^ groups im
-      at Tree e = part-below set (below im read) (groups im) e (below-limit im read)
+      at Tree e = part-below set (below im read) (groups im) e (below-limit (forestOf im) read)
       at Release e = within-below set (groups im) (parts (within set (allBelow (groups im))) (within read set) e .0)
 
   -- the row label's level and compartments lie in the session's, its groups in the write groups or, in the release profile, among all
@@ -88,7 +88,7 @@ module _ (im : List ℕ) (s : SessionMarks) (lent : lentAnswer im s ≡ Accepted
       at Tree e =
           part-below set (intersection (below im label) (below im write)) (groups im)
           (parts (within set (intersection (below im label) (below im write))) true e .0)
-          (intersection-below (below im label) (below im write) (groups im) (below-limit im label))
+          (intersection-below (below im label) (below im write) (groups im) (below-limit (forestOf im) label))
       at Release e = within-below set (groups im) (parts (within set (allBelow (groups im))) (within label set) e .0)
 
   pub session-labels-exist : (labelExists im (s .label) ≡ true) × (labelExists im (s .row) ≡ true)

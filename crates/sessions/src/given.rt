@@ -16,9 +16,8 @@ use access::new_labels::session_label_answer;
 use access::rights::View;
 use access::rights::rights_at;
 use header::layout;
-use hierarchy::table;
 use hierarchy::table::Table;
-use image::check;
+use image::check_table;
 use refusals::Refusal;
 use refusals::answers::Checked;
 
@@ -29,11 +28,10 @@ pub enum Lent {
 }
 
 // 19 unless the user's place exists and both labels meet their rules.
-fn lent_accepted(image: &[u8], table: &mut Table, session: Session) -> Lent
-    requires { ⌜ IsAccepted (now image) ⌝ }
-    ensures { λ r. ⌜ LentGives (now (image .entry)) (now (table .exit)) (sessionOf session) r ⌝ }
+fn lent_accepted(image: &[u8], table: &Table, session: Session) -> Lent
+    requires { ⌜ IsAccepted (now image) × Tabled (now image) (now table) ⌝ }
+    ensures { λ r. ⌜ LentGives (now (image .entry)) (now (table .entry)) (sessionOf session) r ⌝ }
 {
-    table::fill(image, table);
     let user = session.user as usize;
     if user >= layout::users(image) {
         return Lent::Refused(Refusal::SessionRules);
@@ -52,12 +50,12 @@ fn lent_accepted(image: &[u8], table: &mut Table, session: Session) -> Lent
     Lent::At(view)
 }
 
-// The session's rights, and the table of parents that they were found by; the table is the caller's scratch room. Refusals: 1, 2,
-// 3, 19.
+// The session's rights, and the table of groups that the check filled and they were found by; the table is the caller's scratch room.
+// Refusals: 1, 2, 31 to 35, 19.
 pub fn lent_rights(image: &[u8], table: &mut Table, session: Session) -> Lent
     ensures { λ r. ⌜ LentGives (now (image .entry)) (now (table .exit)) (sessionOf session) r ⌝ }
 {
-    let answer = check(image);
+    let answer = check_table(image, table);
     match answer {
         Checked::Accepted => lent_accepted(image, table, session),
         Checked::Refused(refusal) => Lent::Refused(refusal),

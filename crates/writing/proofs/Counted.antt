@@ -17,7 +17,8 @@ use Rattle.header.specs.declared.layout.Kind.the-variants.{Component, Label, Us
 use Rattle.header.specs.declared.layout.Shape.{Shape}
 use Rattle.header.specs.declared.profile.Profile.{Profile}
 use Rattle.header.specs.declared.profile.Profile.the-variants.{Tree, Release}
-use Rattle.header.specs.Layout.{editionOf, profileOf, byEdition, levels, compartments, groups, users, labels, components, Counts, countsOf}
+use Rattle.header.specs.declared.counts.Counts.{Counts}
+use Rattle.header.specs.Layout.{editionOf, profileOf, byEdition, levels, compartments, groups, users, labels, components, countsOf}
 use Rattle.header.specs.Layout.{recordSize, capacityOf, blocksFor, countOf, blocksOf, firstBlock, blocksNeeded, Fitted, shapeOf}
 use Rattle.writing.specs.Laid.{profileByte, headerUsed, headerBlock, blocksIn, firstIn, imageOf, Fits}
 use Rattle.writing.proofs.Sealed.{sealed-byte}

@@ -1,17 +1,17 @@
--- A block written in three steps: its used bytes, zeros, and the sums of both. Assumes nothing.
+-- A block written in three steps: its used bytes, zeros up to its end, and over the last two of them the sums. Assumes nothing.
 use Prim.Native.Nat.{ℕ, suc, _+_, _-_, _≤_, _<_}
-use mathlib.Core.Path.{_≡_, sym, ap, ap₂, _∙_, subst}
-use mathlib.Core.List.{List, [], _∷_, _++_}
+use mathlib.Core.Path.{_≡_, refl, sym, ap, ap₂, _∙_, subst}
+use mathlib.Core.List.{List, [], _∷_, _++_, append-assoc}
 use native.Mathlib.Nat.{add-sub-cancel-left, le-refl}
 use native.Mathlib.Omega.{arith}
-use lib.ListN.{length, take, drop, set}
-use lib.Seq.{take-take, length-take-le, drop-append-le}
+use lib.ListN.{length, take, drop, set, length-append, replicate-append-replicate}
+use lib.Seq.{take-at, take-take, length-take-le, drop-append-le}
 use Rattle.fields.specs.Bytes.{part}
 use Rattle.fields.proofs.Laws.{drop-take, part-length}
 use Rattle.blocks.specs.Blocks.{sumA, sumB, sumsOf}
 use Rattle.blocks.specs.declared.frame.Checksum.{Checksum}
 use Rattle.buffers.specs.Pasting.{Written}
-use Rattle.buffers.proofs.Left.{Left, byte-alone, left-start, left-turn, left-end, written-long, written-taken, written-then}
+use Rattle.buffers.proofs.Left.{Left, byte-alone, left-start, left-turn, left-end, written-long, written-taken, written-then, written-over}
 use Rattle.writing.specs.Laid.{zeros, bodyOf, endOf, sealed}
 use Rattle.writing.proofs.Sealed.{zeros-length, sumA-below, sumB-below}
 
@@ -61,31 +61,47 @@ module _ (s : List ℕ) (at : ℕ) (found : Checksum) (e : found ≡ sumsOf (tak
   found-b : found .b ≡ sumB 0 0 (part s at 510)
   found-b = ap (λ (x : Checksum). x .b) e ∙ ap (sumB 0 0) first-bytes
 
--- ---- zeros and then the sums are a block's end
+-- ---- zeros up to the end, and the sums over the last two of them, are a block's end
 module _ {b mid : List ℕ} (at n : ℕ) {r : ℕ} (fits : n ≤ 510) (room : at + 512 ≤ length b)
-    (v : Written b (at + n) (zeros (510 - n)) mid r) where
-  zeros-fit : at + n + length (zeros (510 - n)) ≤ length b
-  zeros-fit = rw (zeros-length (510 - n)) (omega arith)
+    (v : Written b (at + n) (zeros (512 - n)) mid r) where
+  zeros-fit : at + n + length (zeros (512 - n)) ≤ length b
+  zeros-fit = rw (zeros-length (512 - n)) (omega arith)
+
+  two-more : zeros (512 - n) ≡ zeros (510 - n) ++ zeros 2
+  two-more =
+      let more : 510 - n + 2 ≡ 512 - n = omega arith in
+      ap zeros (sym more) ∙ sym (replicate-append-replicate (510 - n) 2 0)
 
   -- room for the sums
-  pub sums-room : r + 2 ≤ length mid
-  sums-room = omega (arith, v .stop, zeros-length (510 - n), written-long zeros-fit v)
+  pub sums-room : at + 510 + 2 ≤ length mid
+  sums-room = omega (arith, written-long zeros-fit v)
 
   body-there : part mid at 510 ≡ bodyOf (part b at n)
   unfolding bodyOf
   body-there =
       let used : length (part b at n) ≡ n = part-length b at n (omega arith) in
-      let upto : r - at ≡ 510 = omega (arith, v .stop, zeros-length (510 - n)) in
+      let upto : r - at ≡ 512 = omega (arith, v .stop, zeros-length (512 - n)) in
       let from : at + n - at ≡ n = omega arith in
+      let whole : part mid at 512 ≡ (part b at n ++ zeros (510 - n)) ++ zeros 2 =
       ap (part mid at) (sym upto) ∙ written-part at (omega arith) zeros-fit v
-      ∙ ap₂ (λ (i j : ℕ). part b at i ++ zeros (510 - j)) from (sym used)
+      ∙ ap₂ (λ (i : ℕ) (z : List ℕ). part b at i ++ z) from two-more ∙ sym (append-assoc (part b at n) (zeros (510 - n)) (zeros 2)) in
+      let long : length (part b at n ++ zeros (510 - n)) ≡ 510 =
+      omega (arith, length-append (part b at n) (zeros (510 - n)), zeros-length (510 - n)) in
+      sym (take-take 510 512 (drop at mid) (omega arith)) ∙ ap (take 510) whole
+      ∙ take-at (part b at n ++ zeros (510 - n)) (zeros 2) 510 long ∙ ap (λ (j : ℕ). part b at n ++ zeros (510 - j)) (sym used)
 
   pub end-written : (found : Checksum) → found ≡ sumsOf (take (at + 512 - at) (drop at mid)) → {after : List ℕ} {q : ℕ}
-      → Written mid r (found .a ∷ found .b ∷ []) after q → Written b (at + n) (endOf (part b at n)) after q
+      → Written mid (at + 510) (found .a ∷ found .b ∷ []) after q → Written b (at + n) (endOf (part b at n)) after q
   unfolding endOf
-  end-written found e w =
+  end-written found e {after} {q} w =
       let used : length (part b at n) ≡ n = part-length b at n (omega arith) in
-      rw (used, ← body-there, ← found-a mid at found e, ← found-b mid at found e) (written-then zeros-fit v w)
+      let there : at + n + length (zeros (510 - n)) ≡ at + 510 = omega (arith, zeros-length (510 - n)) in
+      let first : Written b (at + n) (zeros (510 - n) ++ zeros 2) mid r = subst (λ (z : List ℕ). Written b (at + n) z mid r) two-more v in
+      let inside : at + n + length (zeros (510 - n) ++ zeros 2) ≤ length b =
+      subst (λ (z : List ℕ). at + n + length z ≤ length b) two-more zeros-fit in
+      let sums : Written mid (at + n + length (zeros (510 - n))) (found .a ∷ found .b ∷ []) after q = rw there w in
+      rw (used, ← body-there, ← found-a mid at found e, ← found-b mid at found e)
+      (written-over (zeros (510 - n)) (zeros 2) inside first refl sums)
 
 -- ---- used bytes and then their end are a block
 module _ {b used mid : List ℕ} (at : ℕ) {r : ℕ} (fits : length used ≤ 510) (room : at + 512 ≤ length b) (v : Written b at used mid r) where

@@ -1,6 +1,6 @@
 -- The header and the length of an image that is laid out keep their rules where the counts keep their limits. Assumes nothing.
 use Prim.Native.Nat.{ℕ, _+_, _≤_, _<_}
-use mathlib.Core.Path.{_≡_, sym, ap, _∙_}
+use mathlib.Core.Path.{_≡_, ap, _∙_}
 use mathlib.Core.Bool.{true}
 use mathlib.Core.List.{List, _++_}
 use mathlib.Core.Logic.{_⊎_, inl, inr}
@@ -13,7 +13,8 @@ use Rattle.header.specs.declared.profile.Profile.{Profile}
 use Rattle.header.specs.declared.profile.Profile.the-variants.{Tree, Release}
 use Rattle.header.specs.declared.layout.Kind.{Kind}
 use Rattle.header.specs.declared.layout.Kind.the-variants.{Component, Label, User}
-use Rattle.header.specs.Layout.{byEdition, Counts, capacityOf, blocksFor}
+use Rattle.header.specs.declared.counts.Counts.{Counts}
+use Rattle.header.specs.Layout.{byEdition, capacityOf, blocksFor}
 use Rattle.header.specs.Header.{headerRule, fitRule}
 use Rattle.header.specs.Limits.{limitsIn}
 use Rattle.blocks.specs.Blocks.{lengthRule}

@@ -10,7 +10,8 @@ use Rattle.blocks.specs.Blocks.{blockAt}
 use Rattle.header.specs.declared.edition.Edition.{Edition}
 use Rattle.header.specs.declared.layout.Kind.{Kind}
 use Rattle.header.specs.declared.layout.Kind.the-variants.{Component, Label, User}
-use Rattle.header.specs.Layout.{Counts, byEdition, kindByte, recordSize, capacityOf}
+use Rattle.header.specs.declared.counts.Counts.{Counts}
+use Rattle.header.specs.Layout.{byEdition, kindByte, recordSize, capacityOf}
 use Rattle.header.proofs.Editions.{kind-roomy, in-either}
 use Rattle.writing.specs.Laid.{profileByte, Sized, blockOf, headerUsed, headerBlock, blocksIn, firstIn, kindLaid, imageOf}
 use Rattle.writing.proofs.Sealed.{sealed-length, part-first, part-second}

@@ -12,7 +12,8 @@ use Rattle.blocks.specs.Blocks.{blockAt}
 use Rattle.header.specs.declared.edition.Edition.{Edition}
 use Rattle.header.specs.declared.layout.Kind.{Kind}
 use Rattle.header.specs.declared.layout.Shape.{Shape}
-use Rattle.header.specs.Layout.{Counts, kindByte, recordSize, capacityOf, Roomy, recordOffset, recordAt, recordsOf}
+use Rattle.header.specs.declared.counts.Counts.{Counts}
+use Rattle.header.specs.Layout.{kindByte, recordSize, capacityOf, Roomy, recordOffset, recordAt, recordsOf}
 use Rattle.header.proofs.Inside.{block-among, slot-inside, records-count, record-of}
 use Rattle.header.proofs.Editions.{kind-roomy}
 use Rattle.writing.specs.Laid.{blockOf, firstIn, imageOf, Fits}

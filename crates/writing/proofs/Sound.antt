@@ -13,7 +13,8 @@ use Rattle.header.specs.declared.layout.Kind.{Kind}
 use Rattle.header.specs.declared.layout.Kind.the-variants.{Label, User}
 use Rattle.header.specs.declared.layout.Shape.{Shape}
 use Rattle.header.specs.declared.layout.Contents.{Contents}
-use Rattle.header.specs.Layout.{Counts, kindByte, recordSize, capacityOf, blocksNeeded, kindAt, held, contentsOf}
+use Rattle.header.specs.declared.counts.Counts.{Counts}
+use Rattle.header.specs.Layout.{kindByte, recordSize, capacityOf, blocksNeeded, kindAt, held, contentsOf}
 use Rattle.header.proofs.Inside.{kind-among}
 use Rattle.records.specs.Rules.{layoutRule}
 use Rattle.records.proofs.MeaningBlocks.{LayoutKept, layout-holds}

@@ -11,7 +11,8 @@ use Rattle.header.specs.declared.profile.Profile.{Profile}
 use Rattle.header.specs.declared.profile.Profile.the-variants.{Tree, Release}
 use Rattle.header.specs.declared.layout.Kind.{Kind}
 use Rattle.header.specs.declared.layout.Kind.the-variants.{Component, Label, User}
-use Rattle.header.specs.Layout.{Counts, kindByte, recordSize, capacityOf, blocksFor}
+use Rattle.header.specs.declared.counts.Counts.{Counts}
+use Rattle.header.specs.Layout.{kindByte, recordSize, capacityOf, blocksFor}
 use Rattle.header.specs.Limits.{limitsIn}
 
 -- ---- a block
@@ -70,7 +71,7 @@ headerUsed n users labels = headOf 80 0 0 ++ headerFields (n .edition) (profileB
 unfoldable pub headerBlock : Counts → ℕ → ℕ → List ℕ
 headerBlock n users labels = sealed (headerUsed n users labels)
 
--- the counts of an image's components, as code is handed them
+-- the counts of that edition and profile, with so many components of each class
 abbrev pub countsFrom : Edition → Profile → ℕ → ℕ → ℕ → Counts
 countsFrom edition profile levels compartments groups =
     record { edition = edition; profile = profile; levels = levels; compartments = compartments; groups = groups }

@@ -28,14 +28,14 @@ pub fn put_zeros(buffer: &mut [u8], at: usize, n: usize) -> usize
 }
 
 // The low byte of a number.
-fn low(x: usize) -> u8
+pub fn low(x: usize) -> u8
     ensures { λ r. ⌜ r ≡ x % 256 ⌝ }
 {
     (x % 256) as u8
 }
 
 // The high byte of a number of two bytes.
-fn high(x: usize) -> u8
+pub fn high(x: usize) -> u8
     requires { ⌜ x < 65536 ⌝ }
     ensures { λ r. ⌜ r ≡ x / 256 ⌝ }
 {
@@ -51,18 +51,18 @@ pub fn put_head(kind: u8, count: u8, place: usize, buffer: &mut [u8], at: usize)
     put(&head, buffer, at)
 }
 
-// Writes what follows the n used bytes of a block, which stand at `at` already: zeros and the two sums. The sums are of the bytes before them, so
-// that what stood in bytes 510 and 511 does not matter.
+// Writes what follows the n used bytes of a block, which stand at `at` already: zeros and the two sums. The zeros go up to the block's end, so that
+// the sums read no byte that was not written before; the sums then stand over the last two.
 pub fn put_end(buffer: &mut [u8], at: usize, n: usize) -> usize
     requires { ⌜ (n ≤ 510) × (at + 512 ≤ length (now buffer)) ⌝ }
     ensures { λ r. ⌜ Written (now (buffer .entry)) (at + n) (endOf (part (now (buffer .entry)) at n)) (now (buffer .exit)) r ⌝ }
 {
-    let end = put_zeros(buffer, at + n, 510 - n);
+    put_zeros(buffer, at + n, 512 - n);
     let found = sums(&buffer[at..at + 512]);
     let a = found.a as u8;
     let b = found.b as u8;
     let check = [a, b];
-    put(&check, buffer, end)
+    put(&check, buffer, at + 510)
 }
 
 // Writes a block: its head, its payload, unused bytes and sums.

@@ -1,7 +1,7 @@
 use mathlib.Core.Path.{subst}
 use Rattle.refusals.specs.Answers.{PlaceFits}
 use Rattle.buffers.specs.declared.answers.Filled.{Filled}
-use Rattle.abi.specs.Answers.{filledGiven}
+use Rattle.buffers.specs.Filling.{filledGiven}
 use borrow.Author.Needs.{needs}
 use Rattle.abi.proofs.codes.filled_code.Statement.{statement}
 use Rattle.abi.proofs.codes.filled_code.Tie as tie

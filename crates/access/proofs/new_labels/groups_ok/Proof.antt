@@ -5,6 +5,7 @@ use borrow.Author.Needs.{needs}
 use Rattle.sets.specs.Sets.{allBelow}
 use Rattle.header.proofs.Inside.{header-inside}
 use Rattle.header.proofs.Editions.{counted-groups}
+use Rattle.hierarchy.proofs.OfImage.{in-tree}
 use Rattle.access.specs.NewLabels.{sessionGroupsRule}
 use Rattle.access.proofs.new_labels.groups_ok.Statement.{statement}
 use Rattle.access.proofs.new_labels.groups_ok.Tie as tie
@@ -48,7 +49,8 @@ returns c =
     let case = c .before in
     let told = case .before .before in
     let sets = told .before .before .before in
-    rw (sym (told .profile-of .ensures) ∙ case .enum-told .given .1, c .lies-below .ensures, sets .group-sets .ensures .read)
+    let tree = sym (told .profile-of .ensures) ∙ case .enum-told .given .1 in
+    rw (c .lies-below .ensures, sets .group-sets .ensures .read) (in-tree _ _ _ tree)
 
 returns-2 : tie.Need-returns-2
 unfolding sessionGroupsRule

@@ -114,56 +114,22 @@ returns-4 c =
     (rw (← number .number8 .ensures) (sym (inside .before .within .ensures) ∙ not-false _ (inside .if3 .left)))
     (rw (← number .number8 .ensures, ← c .before .is-empty .ensures, ← c .before .before .holds-compaccess .ensures) (c .if4 .taken))
 
-enum-told : tie.Need-enum-told
-enum-told c = search needs
-
 group-set-requires : tie.Need-group-set-requires
-group-set-requires c κs =
-    let held = c .before .before .before in
-    let start = held .before .before .before .before .before .before .before .before .before .before .before .before in
-    rw (c .enum-told .given .1) at (start .pre)
+group-set-requires c κs = search needs
 
-groups-pass-requires : tie.Need-groups-pass-requires
-groups-pass-requires c κs = search needs
-
-enum-told-2 : tie.Need-enum-told-2
-enum-told-2 c = search needs
-
-group-set-requires-2 : tie.Need-group-set-requires-2
-group-set-requires-2 c κs =
-    let held = c .before .before .before in
-    let start = held .before .before .before .before .before .before .before .before .before .before .before .before in
-    rw (c .enum-told2 .given .1) at (start .pre)
-
-groups-pass-requires-2 : tie.Need-groups-pass-requires-2
-groups-pass-requires-2 c κs = search needs
+passes-requires : tie.Need-passes-requires
+passes-requires c κs = search needs
 
 returns-5 : tie.Need-returns-5
 unfolding readLevelRule readCompartmentsRule readGroupsRule
 returns-5 c =
-    let told = c .before .before in
-    let held = told .before .before .before in
+    let held = c .before .before in
     let inside = held .before .before .before in
     let number = inside .before .before in
     let level = number .before in
     let seen = level .before .before .before in
     let none = sym (seen .before .reads-all .ensures) ∙ seen .if1 .left in
-    c .groups-pass .ensures ∙ rw (c .before .group-set .ensures, ← told .enum-told .given .1)
-    (by-groups _ _ none (le-leb _ _ (level .if2 .left))
-    (rw (← number .number8 .ensures) (sym (inside .before .within .ensures) ∙ not-false _ (inside .if3 .left)))
-    (rw (← number .number8 .ensures, ← held .before .is-empty .ensures, ← held .before .before .holds-compaccess .ensures) (held .if4 .left)))
-
-returns-6 : tie.Need-returns-6
-unfolding readLevelRule readCompartmentsRule readGroupsRule
-returns-6 c =
-    let told = c .before .before in
-    let held = told .before .before .before in
-    let inside = held .before .before .before in
-    let number = inside .before .before in
-    let level = number .before in
-    let seen = level .before .before .before in
-    let none = sym (seen .before .reads-all .ensures) ∙ seen .if1 .left in
-    c .groups-pass2 .ensures ∙ rw (c .before .group-set2 .ensures, ← told .enum-told2 .given .1)
+    c .passes .ensures ∙ rw (c .before .group-set .ensures)
     (by-groups _ _ none (le-leb _ _ (level .if2 .left))
     (rw (← number .number8 .ensures) (sym (inside .before .within .ensures) ∙ not-false _ (inside .if3 .left)))
     (rw (← number .number8 .ensures, ← held .before .is-empty .ensures, ← held .before .before .holds-compaccess .ensures) (held .if4 .left)))
@@ -182,11 +148,6 @@ reads-record-spec =
     holds-compaccess-requires
     is-empty-requires
     returns-4
-    enum-told
     group-set-requires
-    groups-pass-requires
-    enum-told-2
-    group-set-requires-2
-    groups-pass-requires-2
-    returns-5
-    returns-6)
+    passes-requires
+    returns-5)

@@ -1,154 +1,147 @@
-use Prim.Native.Nat.{_+_, _≤_, _-_, _*_}
-use mathlib.Core.Path.{_≡_}
+use Prim.Native.Nat.{ℕ}
+use mathlib.Core.Path.{ap₂}
 use native.Mathlib.Omega.{arith}
-use Rattle.blocks.proofs.Sums.{Pairs, pairs-start, pairs-step, pairs-last, pairs-sums}
+use Rattle.blocks.proofs.Joins.{columns-small, first-sum, second-sum}
+use borrow.Author.Needs.{needs}
 use Rattle.blocks.proofs.frame.sums.Statement.{statement}
 use Rattle.blocks.proofs.frame.sums.Tie as tie
+use Rattle.blocks.proofs.frame.sums.Reads as reads
+use Rattle.blocks.proofs.frame.sums.Lts as lts
+use Rattle.blocks.proofs.columns.half_columns.Reads as half-columns-reads
+use Rattle.blocks.proofs.columns.join.Reads as join-reads
+use Rattle.blocks.proofs.columns.wide.Reads as wide-reads
 
-abbrev Inv-loop : tie.InvT-loop
-Inv-loop block c₀ d₀ high₀ low₀ w₀ i₀ c d high low w i =
-    (w + i ≡ 128) × ((c ≤ 510 * i) × ((d ≤ 510 * i) × ((high ≤ 510 * i) × ((low ≤ 510 * i) × Pairs block c d (high * 256 + low) i))))
+-- src/frame.rt:31:33
+sub-half-columns : tie.Need-sub-half-columns
+sub-half-columns c = search needs
 
-abbrev μ-loop : tie.MeasureT-loop
-μ-loop block c₀ d₀ high₀ low₀ w₀ i₀ c d high low w i = 128 - i
+-- src/frame.rt:31:33
+part-half-columns-start : tie.Need-part-half-columns-start
+part-half-columns-start c = search needs
 
-loop-holds : tie.Need-loop-holds Inv-loop μ-loop
-loop-holds c = (omega arith, (omega arith, (omega arith, (omega arith, (omega arith, pairs-start _)))))
+-- src/frame.rt:31:33
+part-half-columns-end : tie.Need-part-half-columns-end
+part-half-columns-end c = search needs
 
-sub-w : tie.Need-sub-w Inv-loop μ-loop
-sub-w c = omega arith
+-- src/frame.rt:31:20
+half-columns-requires : tie.Need-half-columns-requires
+half-columns-requires c κs = search needs
 
-pair-requires : tie.Need-pair-requires Inv-loop μ-loop
-pair-requires c κs = (omega arith, c .before .before .before .pre)
+-- src/frame.rt:31:63
+sub-half-columns-2 : tie.Need-sub-half-columns-2
+sub-half-columns-2 c = search needs
 
-add-pair : tie.Need-add-pair Inv-loop μ-loop
-add-pair c = omega arith
+-- src/frame.rt:31:63
+part-half-columns-start-2 : tie.Need-part-half-columns-start-2
+part-half-columns-start-2 c = search needs
 
-pair-requires-2 : tie.Need-pair-requires-2 Inv-loop μ-loop
-pair-requires-2 c κs = (omega arith, c .before .before .before .before .pre)
+-- src/frame.rt:31:63
+part-half-columns-end-2 : tie.Need-part-half-columns-end-2
+part-half-columns-end-2 c = search needs
 
-times-requires : tie.Need-times-requires Inv-loop μ-loop
-times-requires c κs = (omega arith, omega arith)
+-- src/frame.rt:31:50
+half-columns-requires-2 : tie.Need-half-columns-requires-2
+half-columns-requires-2 c κs = search needs
 
-times-requires-2 : tie.Need-times-requires-2 Inv-loop μ-loop
-times-requires-2 c κs = (omega arith, omega arith)
+-- src/frame.rt:31:9
+join-requires : tie.Need-join-requires
+join-requires c κs =
+    let one = c .before .before in
+    let start = one .before .before .before in
+    columns-small (start .args .block .now) _ _ (start .pre) (one .half-columns .ensures) (c .half-columns2 .ensures)
 
-add-c : tie.Need-add-c Inv-loop μ-loop
-add-c c = omega arith
+-- src/frame.rt:32:18
+shared-slice-read-wide : tie.Need-shared-slice-read-wide
+shared-slice-read-wide c = search needs
 
-add-d : tie.Need-add-d Inv-loop μ-loop
-add-d c = omega arith
+-- src/frame.rt:32:13
+wide-requires : tie.Need-wide-requires
+wide-requires c κs = search needs
 
-add-high : tie.Need-add-high Inv-loop μ-loop
-add-high c = omega arith
+-- src/frame.rt:32:13
+cast-x : tie.Need-cast-x
+cast-x c = search needs
 
-add-high-2 : tie.Need-add-high-2 Inv-loop μ-loop
-add-high-2 c = omega arith
+-- src/frame.rt:33:18
+shared-slice-read-wide-2 : tie.Need-shared-slice-read-wide-2
+shared-slice-read-wide-2 c = search needs
 
-add-low : tie.Need-add-low Inv-loop μ-loop
-add-low c = omega arith
+-- src/frame.rt:33:13
+wide-requires-2 : tie.Need-wide-requires-2
+wide-requires-2 c κs = search needs
 
-add-low-2 : tie.Need-add-low-2 Inv-loop μ-loop
-add-low-2 c = omega arith
+-- src/frame.rt:33:13
+cast-y : tie.Need-cast-y
+cast-y c = search needs
 
-add-i : tie.Need-add-i Inv-loop μ-loop
-add-i c = omega arith
-
-loop-less : tie.Need-loop-less Inv-loop μ-loop
-loop-less c = omega arith
-
-loop-again : tie.Need-loop-again Inv-loop μ-loop
-loop-again c =
-    let both = c .before .before in
-    let at = both .before .before .before in
-    let w : at .loop .w - 1 ≡ 127 - at .loop .i = omega arith in
-    let step =
-    pairs-step _ _ _ _ _ _ _ _ _ _ _ w (both .before .pair .ensures .0) (both .pair2 .ensures .0) (c .before .times .ensures .0) (c .times2 .ensures .0) (at .loop .inv .1 .1 .1 .1 .1) in
-    (omega arith, (omega arith, (omega arith, (omega arith, (omega arith, step)))))
-
-pair-requires-3 : tie.Need-pair-requires-3 Inv-loop μ-loop
-pair-requires-3 c κs = (omega arith, c .before .before .before .pre)
-
-cast-more : tie.Need-cast-more Inv-loop μ-loop
-cast-more c = omega arith
-
-cast-a : tie.Need-cast-a Inv-loop μ-loop
-cast-a c = omega arith
-
-cast-a-2 : tie.Need-cast-a-2 Inv-loop μ-loop
-cast-a-2 c = omega arith
-
-add-a : tie.Need-add-a Inv-loop μ-loop
-add-a c = omega arith
-
-sub-a : tie.Need-sub-a Inv-loop μ-loop
-sub-a c =
-    let at = c .before .before in
-    let all : at .loop .i ≡ 128 = omega arith in
-    let last = pairs-last _ _ _ _ _ all (at .loop .inv .1 .1 .1 .1 .1) in
+-- src/frame.rt:35:13
+sub-t19 : tie.Need-sub-t19
+sub-t19 c =
+    let joined = c .before .before .before .before .before in
+    let two = joined .before in
+    let one = two .before .before in
+    let start = one .before .before .before in
+    let block = start .args .block .now in
+    let x = c .before .before .before .wide .ensures .0 in
+    let y = c .before .wide2 .ensures .0 in
+    let sum = first-sum block _ _ (start .pre) (one .half-columns .ensures) (two .half-columns2 .ensures) _ _ (joined .join .ensures .0) in
     omega arith
 
-cast-b : tie.Need-cast-b Inv-loop μ-loop
-cast-b c = omega arith
+-- src/frame.rt:35:13
+sub-t20 : tie.Need-sub-t20
+sub-t20 c =
+    let joined = c .before .before .before .before .before in
+    let two = joined .before in
+    let one = two .before .before in
+    let start = one .before .before .before in
+    let block = start .args .block .now in
+    let x = c .before .before .before .wide .ensures .0 in
+    let y = c .before .wide2 .ensures .0 in
+    let sum = first-sum block _ _ (start .pre) (one .half-columns .ensures) (two .half-columns2 .ensures) _ _ (joined .join .ensures .0) in
+    omega arith
 
-mul-b : tie.Need-mul-b Inv-loop μ-loop
-mul-b c = omega arith
+-- src/frame.rt:36:13
+add-t22 : tie.Need-add-t22
+add-t22 c =
+    let known = c .before in
+    let most = known .before .before .before .before .before .join .ensures .1 in
+    search needs
 
-cast-b-2 : tie.Need-cast-b-2 Inv-loop μ-loop
-cast-b-2 c = omega arith
-
-add-b : tie.Need-add-b Inv-loop μ-loop
-add-b c = omega arith
-
-cast-b-3 : tie.Need-cast-b-3 Inv-loop μ-loop
-cast-b-3 c = omega arith
-
-mul-b-2 : tie.Need-mul-b-2 Inv-loop μ-loop
-mul-b-2 c = omega arith
-
-add-b-2 : tie.Need-add-b-2 Inv-loop μ-loop
-add-b-2 c = omega arith
-
-returns : tie.Need-returns Inv-loop μ-loop
+-- src/frame.rt:27:1
+returns : tie.Need-returns
 returns c =
-    let at = c .before .before in
-    let all : at .loop .i ≡ 128 = omega arith in
-    let sums = pairs-sums _ (at .before .before .pre) _ _ _ _ _ all (c .pair3 .ensures .0) (at .loop .inv .1 .1 .1 .1 .1) in
-    rw (sums .0, sums .1)
+    let known = c .before in
+    let joined = known .before .before .before .before .before in
+    let two = joined .before in
+    let one = two .before .before in
+    let start = one .before .before .before in
+    let block = start .args .block .now in
+    let x = known .before .before .before .wide .ensures .0 in
+    let y = known .before .wide2 .ensures .0 in
+    let sum = first-sum block _ _ (start .pre) (one .half-columns .ensures) (two .half-columns2 .ensures) _ _ (joined .join .ensures .0) in
+    let other = second-sum block _ _ (start .pre) (one .half-columns .ensures) (two .half-columns2 .ensures) _ _ (joined .join .ensures .0) in
+    rw (x, y) (ap₂ (λ (a b : ℕ). record { a = a; b = b }) (sum .1) other)
 
 pub sums-spec : {M : Type 1} → statement M
 sums-spec =
     tie.close
     (tie.spec
-    Inv-loop
-    μ-loop
-    loop-holds
-    sub-w
-    pair-requires
-    add-pair
-    pair-requires-2
-    times-requires
-    times-requires-2
-    add-c
-    add-d
-    add-high
-    add-high-2
-    add-low
-    add-low-2
-    add-i
-    loop-less
-    loop-again
-    pair-requires-3
-    cast-more
-    cast-a
-    cast-a-2
-    add-a
-    sub-a
-    cast-b
-    mul-b
-    cast-b-2
-    add-b
-    cast-b-3
-    mul-b-2
-    add-b-2
+    sub-half-columns
+    part-half-columns-start
+    part-half-columns-end
+    half-columns-requires
+    sub-half-columns-2
+    part-half-columns-start-2
+    part-half-columns-end-2
+    half-columns-requires-2
+    join-requires
+    shared-slice-read-wide
+    wide-requires
+    cast-x
+    shared-slice-read-wide-2
+    wide-requires-2
+    cast-y
+    sub-t19
+    sub-t20
+    add-t22
     returns)

@@ -1,3 +1,4 @@
+use mathlib.Core.Path.{refl}
 use borrow.Author.Needs.{needs}
 use Rattle.buffers.proofs.Pasted.{put-part}
 use Rattle.buffers.proofs.given.put.Statement.{statement}
@@ -26,11 +27,34 @@ returns c =
     let copied = c .before .before in
     let e = copied .copy .ensures in
     record {
-      bytes = put-part _ _ _ _ (copied .before .before .before .before .pre) (e .1);
+      bytes = put-part _ _ _ _ (copied .before .before .before .before .before .pre) (e .1);
       stop = rw (e .0);
     }
+
+put-parts-requires : tie.Need-put-parts-requires
+put-parts-requires c κs = search needs
+
+add-result-2 : tie.Need-add-result-2
+add-result-2 c = search needs
+
+same-length-2 : tie.Need-same-length-2
+same-length-2 c = search needs
+
+returns-2 : tie.Need-returns-2
+returns-2 c = record { bytes = c .before .before .put-parts .ensures; stop = refl }
 
 pub put-spec : {M : Type 1} → statement M
 put-spec =
     tie.close
-    (tie.spec sub-copy part-copy-start part-copy-end copy-requires add-result same-length returns)
+    (tie.spec
+    sub-copy
+    part-copy-start
+    part-copy-end
+    copy-requires
+    add-result
+    same-length
+    returns
+    put-parts-requires
+    add-result-2
+    same-length-2
+    returns-2)

@@ -6,13 +6,13 @@ use Rattle.dominance.proofs.comparing.groups_reached.Statement.{stateme
 use Rattle.dominance.proofs.comparing.groups_reached.Tie as tie
 
 fill-requires : tie.Need-fill-requires
-fill-requires c κs = accepted-counted _ (c .before .before .pre)
+fill-requires c κs = let acc = c .before .before .pre in (accepted-counted _ acc, accepted-ends _ acc)
 
 reach-requires : tie.Need-reach-requires
 reach-requires c κs =
     let filled = c .before in
     let acc = filled .before .before .before .pre in
-    (accepted-counted _ acc, (filled .fill .ensures, accepted-ends _ acc))
+    (accepted-counted _ acc, filled .fill .ensures)
 
 profile-of-requires : tie.Need-profile-of-requires
 profile-of-requires c κs = header-inside _ (accepted-counted _ (c .before .before .before .before .before .pre) .fitted)

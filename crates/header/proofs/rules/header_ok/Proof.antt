@@ -9,14 +9,17 @@ shared-slice-read-result c = search needs
 shared-slice-read-result-2 : tie.Need-shared-slice-read-result-2
 shared-slice-read-result-2 c = search needs
 
-shared-slice-read-result-3 : tie.Need-shared-slice-read-result-3
-shared-slice-read-result-3 c = search needs
+shared-slice-read-known-edition : tie.Need-shared-slice-read-known-edition
+shared-slice-read-known-edition c = search needs
 
-shared-slice-read-result-4 : tie.Need-shared-slice-read-result-4
-shared-slice-read-result-4 c = search needs
+known-edition-requires : tie.Need-known-edition-requires
+known-edition-requires c κs = search needs
 
-shared-slice-read-result-5 : tie.Need-shared-slice-read-result-5
-shared-slice-read-result-5 c = search needs
+shared-slice-read-known-profile : tie.Need-shared-slice-read-known-profile
+shared-slice-read-known-profile c = search needs
+
+known-profile-requires : tie.Need-known-profile-requires
+known-profile-requires c κs = search needs
 
 counts-ok-requires : tie.Need-counts-ok-requires
 counts-ok-requires c κs = search needs
@@ -29,7 +32,10 @@ unused-ok-requires c κs = search needs
 
 returns : tie.Need-returns
 unfolding headerRule
-returns c = rw (c .before .before .counts-ok .ensures, c .unused-ok .ensures, c .before .edition-of .ensures)
+returns c =
+    let counted = c .before .before in
+    let profiled = counted .before in
+    rw (profiled .known-profile .ensures, profiled .before .before .known-edition .ensures, counted .counts-ok .ensures, c .unused-ok .ensures, c .before .edition-of .ensures)
 
 pub header-ok-spec : {M : Type 1} → statement M
 header-ok-spec =
@@ -37,9 +43,10 @@ header-ok-spec =
     (tie.spec
     shared-slice-read-result
     shared-slice-read-result-2
-    shared-slice-read-result-3
-    shared-slice-read-result-4
-    shared-slice-read-result-5
+    shared-slice-read-known-edition
+    known-edition-requires
+    shared-slice-read-known-profile
+    known-profile-requires
     counts-ok-requires
     edition-of-requires
     unused-ok-requires

@@ -1,137 +1,160 @@
-use Prim.Native.Nat.{ℕ, _-_, _≤_, _<_}
-use mathlib.Core.Path.{_≡_, sym, ap, _∙_}
-use mathlib.Core.Bool.{true}
+use Prim.Native.Nat.{ℕ, _-_, _<_}
+use mathlib.Core.Path.{_≡_, refl, sym, ap, _∙_}
 use mathlib.Core.Logic.{⊎-elim}
+use mathlib.Core.List.{List}
 use native.Mathlib.Omega.{arith}
-use borrow.Author.Count.{below-none}
 use borrow.Author.Needs.{needs}
-use Rattle.sets.specs.Sets.{has}
+use lib.ListN.{length}
+use Rattle.sets.specs.Sets.{intersection}
+use Rattle.sets.specs.Words.{joined}
 use Rattle.sets.specs.Groups.{placesOf}
-use Rattle.header.specs.Layout.{groups}
-use Rattle.header.proofs.Inside.{header-inside}
-use Rattle.hierarchy.specs.Below.{below}
-use Rattle.hierarchy.proofs.Room.{groups-fit, groups-table}
+use Rattle.sets.proofs.Places.{places-below}
+use Rattle.hierarchy.specs.Forest.{belowIn, tableRoom, forestBy, orderAt, OrderedBy}
 use Rattle.hierarchy.proofs.Under.{below-groups}
-use Rattle.hierarchy.proofs.Known.{Sorted, sorted-start, sorted-put, sorted-pass, sorted-upto, sorted-with, sorted-without, upto-with, sorted-end}
-use Rattle.hierarchy.proofs.Paths.{stops-told}
-use Rattle.hierarchy.proofs.Steps.{groups-of}
+use Rattle.hierarchy.proofs.InOrder.{Descending, descend-start, descend-end, four-words, four-are, words-put, words-pass}
 use Rattle.hierarchy.proofs.table.below.Statement.{statement}
 use Rattle.hierarchy.proofs.table.below.Tie as tie
 
 abbrev Inv-loop : tie.InvT-loop
-Inv-loop image table count r₀ known₀ g₀ r known g =
-    (g ≤ groups image)
-    × (Sorted image (placesOf r₀) (placesOf r) (placesOf known) × ((p : ℕ) → p < g → has (placesOf known) p ≡ true))
+Inv-loop count table words₀ i₀ words i = (length words ≡ 4) × Descending count table (joined words₀) (joined words) i
 
 abbrev μ-loop : tie.MeasureT-loop
-μ-loop image table count r₀ known₀ g₀ r known g = groups image - g
+μ-loop count table words₀ i₀ words i = count - i
 
-groups-requires : tie.Need-groups-requires Inv-loop μ-loop
-groups-requires c κs = header-inside _ (c .before .pre .0 .fitted)
+-- a group of the order is one that there is room for
+group : (count : ℕ) (table : List ℕ) (i g : ℕ) → OrderedBy count table → i < count → g ≡ orderAt table i → g < tableRoom
+group count table i g all h is = let l = all .2 .group i h in let room = all .0 in omega arith
 
 all-below-requires : tie.Need-all-below-requires Inv-loop μ-loop
-all-below-requires c κs =
-    let start = c .before .before in
-    omega (arith, c .groups .ensures .0, groups-fit (start .args .image .now) (start .pre .0))
+all-below-requires c κs = omega arith
 
 intersection-requires : tie.Need-intersection-requires Inv-loop μ-loop
 intersection-requires c κs = search needs
 
+word-requires : tie.Need-word-requires Inv-loop μ-loop
+word-requires c κs = search needs
+
+word-requires-2 : tie.Need-word-requires-2 Inv-loop μ-loop
+word-requires-2 c κs = search needs
+
+word-requires-3 : tie.Need-word-requires-3 Inv-loop μ-loop
+word-requires-3 c κs = search needs
+
+word-requires-4 : tie.Need-word-requires-4 Inv-loop μ-loop
+word-requires-4 c κs = search needs
+
 loop-holds : tie.Need-loop-holds Inv-loop μ-loop
 loop-holds c =
-    let s = placesOf (c .before .before .before .before .args .s) in
-    let count = c .before .before .groups .ensures .0 in
-    let is = groups-of _ s _ _ _ count (c .before .all-below .ensures) (c .intersection .ensures) in
-    (omega arith, (sorted-start _ s _ is, below-none _))
+    let one = c .before .before .before in
+    let groups = one .before in
+    let s = placesOf (groups .before .before .args .s) in
+    let words =
+    four-words _ _ _ _ _ (places-below (groups .intersection .result)) (one .word .ensures) (c .before .before .word2 .ensures)
+    (c .before .word3 .ensures) (c .word4 .ensures) in
+    (refl, descend-start _ _ s _ (words ∙ groups .intersection .ensures ∙ ap (intersection s) (groups .before .all-below .ensures)))
+
+ordered-requires : tie.Need-ordered-requires Inv-loop μ-loop
+ordered-requires c κs = omega arith
 
 stored-requires : tie.Need-stored-requires Inv-loop μ-loop
 stored-requires c κs =
-    let start = c .before .before .before .before .before .before in
-    omega (arith, groups-table (start .args .image .now) (start .pre .0))
+    let turn = c .before in
+    let start = turn .before .before .before .before .before .before .before .before in
+    group _ _ _ _ (start .pre) (turn .loop-test .taken) (c .ordered .ensures)
 
-stops-requires : tie.Need-stops-requires Inv-loop μ-loop
-stops-requires c κs = search needs
+mul-has : tie.Need-mul-has Inv-loop μ-loop
+mul-has c = omega arith
+
+array-read-has : tie.Need-array-read-has Inv-loop μ-loop
+array-read-has c = omega arith
 
 has-requires : tie.Need-has-requires Inv-loop μ-loop
 has-requires c κs = search needs
 
+mul-with : tie.Need-mul-with Inv-loop μ-loop
+mul-with c =
+    let asked = c .before .before .before .before in
+    let turn = asked .before in
+    let start = turn .before .before .before .before .before .before .before .before in
+    omega (arith, group _ _ _ _ (start .pre) (turn .loop-test .taken) (asked .ordered .ensures))
+
+array-read-with : tie.Need-array-read-with Inv-loop μ-loop
+array-read-with c =
+    let asked = c .before .before .before .before in
+    let turn = asked .before in
+    let start = turn .before .before .before .before .before .before .before .before in
+    omega (arith, group _ _ _ _ (start .pre) (turn .loop-test .taken) (asked .ordered .ensures))
+
 with-requires : tie.Need-with-requires Inv-loop μ-loop
-with-requires c κs =
-    let turn = c .before .before .before .before .before in
-    let start = turn .before .before .before .before .before .before in
-    omega (arith, groups-fit (start .args .image .now) (start .pre .0))
+with-requires c κs = omega arith
 
-with-requires-2 : tie.Need-with-requires-2 Inv-loop μ-loop
-with-requires-2 c κs =
-    let turn = c .before .before .before .before .before in
-    let start = turn .before .before .before .before .before .before in
-    omega (arith, groups-fit (start .args .image .now) (start .pre .0))
+mul-words : tie.Need-mul-words Inv-loop μ-loop
+mul-words c =
+    let asked = c .before .before .before .before .before in
+    let turn = asked .before in
+    let start = turn .before .before .before .before .before .before .before .before in
+    omega (arith, group _ _ _ _ (start .pre) (turn .loop-test .taken) (asked .ordered .ensures))
 
-climb-requires : tie.Need-climb-requires Inv-loop μ-loop
-climb-requires c κs = search needs
+array-write-words : tie.Need-array-write-words Inv-loop μ-loop
+array-write-words c =
+    let asked = c .before .before .before .before .before in
+    let turn = asked .before in
+    let start = turn .before .before .before .before .before .before .before .before in
+    omega (arith, group _ _ _ _ (start .pre) (turn .loop-test .taken) (asked .ordered .ensures))
 
-has-requires-2 : tie.Need-has-requires-2 Inv-loop μ-loop
-has-requires-2 c κs = search needs
-
-mark-requires : tie.Need-mark-requires Inv-loop μ-loop
-mark-requires c κs = search needs
-
-mark-requires-2 : tie.Need-mark-requires-2 Inv-loop μ-loop
-mark-requires-2 c κs = search needs
-
-add-g : tie.Need-add-g Inv-loop μ-loop
-add-g c = omega arith
+add-i : tie.Need-add-i Inv-loop μ-loop
+add-i c = omega arith
 
 loop-less : tie.Need-loop-less Inv-loop μ-loop
 loop-less c = omega arith
 
 loop-again : tie.Need-loop-again Inv-loop μ-loop
 loop-again c =
-    let stored = c .before .before in
-    let turn = stored .before .before in
-    let grouped = turn .before .before .before in
-    let start = grouped .before .before in
-    let l : turn .loop .g < groups (start .args .image .now) = omega arith in
-    let ends = start .pre .1 .1 in
-    let inv = turn .loop .inv .1 in
-    let is = stored .stored .ensures ∙ start .pre .1 .0 (turn .loop .g) l in (
-      omega arith,
-      ⊎-elim
-          (λ t.
-          let stop = stops-told _ _ _ _ _ _ (grouped .groups .ensures .0) (c .before .stops .ensures) (t .0 .taken) in
-          let told = sym (t .1 .ensures) in
-          let put =
-          ⊎-elim
-          (λ u. sorted-with _ ends _ _ _ _ _ (inv .0) l is stop _ (told ∙ u .0 .taken) (ap placesOf (u .2) ∙ u .1 .ensures))
-          (λ u. sorted-without _ ends _ _ _ _ _ (inv .0) l is stop _ (told ∙ u .0 .left) (ap placesOf (u .1)))
-          (t .2 .came)
-          in
-          rw (ap placesOf (t .4), ap placesOf (t .5) ∙ t .3 .ensures)
-          (put, upto-with _ ends _ _ _ _ _ (inv .0) l is stop (inv .1)))
-          (λ f.
-          let at = f .1 .ensures in
-          let told = sym (f .2 .ensures) in
-          let put =
-          ⊎-elim
-          (λ u. sorted-put _ ends _ _ _ _ _ (inv .0) l at _ (told ∙ u .0 .taken) (ap placesOf (u .2) ∙ u .1 .ensures))
-          (λ u. sorted-pass _ ends _ _ _ _ _ (inv .0) l at _ (told ∙ u .0 .left) (ap placesOf (u .1)))
-          (f .3 .came)
-          in
-          rw (ap placesOf (f .5), ap placesOf (f .6) ∙ f .4 .ensures)
-          (put, sorted-upto _ ends _ _ _ _ _ (inv .0) l at (inv .1)))
-          (c .if1 .came),
-    )
+    let asked = c .before .before in
+    let turn = asked .before in
+    let start = turn .before .before .before .before .before .before .before .before in
+    let four = turn .before .loop .inv .0 in
+    let so = turn .before .loop .inv .1 in
+    let left = turn .loop-test .taken in
+    let is = asked .ordered .ensures in
+    let up = c .before .stored .ensures in
+    ⊎-elim
+    (λ t. words-put _ _ (start .pre) _ _ _ _ _ four so left is up _ _ (t .0 .taken) (sym (t .1 .ensures) ∙ t .2 .taken) (t .3 .ensures) (t .4))
+    (⊎-elim
+    (λ t. words-pass _ _ (start .pre) _ _ _ _ _ four so left is up _ (λ h. sym (t .1 .ensures) ∙ t .2 .left) (t .3))
+    (λ t. words-pass _ _ (start .pre) _ _ _ _ _ four so left is up _ (λ h. absurd (omega arith)) (t .1)))
+    (c .if1 .came)
+
+array-read-of-words : tie.Need-array-read-of-words Inv-loop μ-loop
+array-read-of-words c = omega arith
+
+array-read-of-words-2 : tie.Need-array-read-of-words-2 Inv-loop μ-loop
+array-read-of-words-2 c = omega arith
+
+array-read-of-words-3 : tie.Need-array-read-of-words-3 Inv-loop μ-loop
+array-read-of-words-3 c = omega arith
+
+array-read-of-words-4 : tie.Need-array-read-of-words-4 Inv-loop μ-loop
+array-read-of-words-4 c = omega arith
+
+of-words-requires : tie.Need-of-words-requires Inv-loop μ-loop
+of-words-requires c κs = search needs
 
 returns : tie.Need-returns Inv-loop μ-loop
 returns c =
-    let from = c .before .before in
-    let start = from .before .before .before .before in
-    let im = start .args .image .now in
-    let count = from .before .before .groups .ensures .0 in
+    let done = c .before .before in
+    let four = done .before in
+    let one = four .before .before .before in
+    let groups = one .before in
+    let start = groups .before .before in
+    let f = forestBy (start .args .count) (start .args .table .now) in
     let s = placesOf (start .args .s) in
-    let is = groups-of im s _ _ _ count (from .before .all-below .ensures) (from .intersection .ensures) in
-    let inv = c .before .loop .inv .1 in
-    sorted-end _ _ _ _ (inv .0) (λ p l. inv .1 p (omega arith)) ∙ ap (below im) is ∙ below-groups im s
+    let words =
+    four-words _ _ _ _ _ (places-below (groups .intersection .result)) (one .word .ensures) (four .before .before .word2 .ensures)
+    (four .before .word3 .ensures) (four .word4 .ensures) in
+    c .of-words .ensures ∙ ap joined (four-are (done .loop .words) (done .loop .inv .0))
+    ∙ descend-end _ _ (start .pre) _ _ _ (done .loop .inv .1) (c .before .loop-test .left)
+    ∙ ap (belowIn f) (words ∙ groups .intersection .ensures ∙ ap (intersection s) (groups .before .all-below .ensures)) ∙ below-groups f s
 
 pub below-spec : {M : Type 1} → statement M
 below-spec =
@@ -139,20 +162,29 @@ below-spec =
     (tie.spec
     Inv-loop
     μ-loop
-    groups-requires
     all-below-requires
     intersection-requires
+    word-requires
+    word-requires-2
+    word-requires-3
+    word-requires-4
     loop-holds
+    ordered-requires
     stored-requires
-    stops-requires
+    mul-has
+    array-read-has
     has-requires
+    mul-with
+    array-read-with
     with-requires
-    with-requires-2
-    climb-requires
-    has-requires-2
-    mark-requires
-    mark-requires-2
-    add-g
+    mul-words
+    array-write-words
+    add-i
     loop-less
     loop-again
+    array-read-of-words
+    array-read-of-words-2
+    array-read-of-words-3
+    array-read-of-words-4
+    of-words-requires
     returns)

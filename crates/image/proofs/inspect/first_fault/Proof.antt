@@ -1,5 +1,5 @@
 use Prim.Native.Nat.{_≤_, _<_}
-use mathlib.Core.Path.{_≡_, sym, _∙_, ap₂}
+use mathlib.Core.Path.{_≡_, refl, sym, _∙_, ap₂}
 use mathlib.Core.Bool.{_&&_}
 use native.Mathlib.Omega.{arith}
 use borrow.Author.Needs.{needs}
@@ -12,6 +12,7 @@ use Rattle.records.proofs.MeaningHeader.{counted}
 use Rattle.image.specs.Check.{faultOf}
 use Rattle.image.specs.Walk.{foundFault}
 use Rattle.image.proofs.Told.{found-lowest}
+use Rattle.image.proofs.Tables.{tells-fault}
 use Rattle.image.proofs.inspect.first_fault.Statement.{statement}
 use Rattle.image.proofs.inspect.first_fault.Tie as tie
 
@@ -20,7 +21,7 @@ length-ok-requires c κs = search needs
 
 returns : tie.Need-returns
 unfolding faultOf foundFault
-returns c = rw (found-lowest _, sym (c .before .length-ok .ensures) ∙ not-true _ (c .if1 .taken))
+returns c = tells-fault (rw (found-lowest _, sym (c .before .length-ok .ensures) ∙ not-true _ (c .if1 .taken))) refl
 
 first-bad-block-requires : tie.Need-first-bad-block-requires
 first-bad-block-requires c κs = length-means _ (sym (c .before .length-ok .ensures) ∙ not-false _ (c .if1 .left)) .whole
@@ -30,12 +31,14 @@ unfolding faultOf foundFault blockCount
 returns-2 c =
     let im = c .before .before .before .before .before .args .image .now in
     let h : firstBadBlock im < blockCount im = omega arith in
-    rw (
+    tells-fault
+    (rw (
       found-lowest _,
       sym (c .before .before .before .length-ok .ensures) ∙ not-false _ (c .before .before .if1 .left),
       lt-ltb _ _ h,
       c .before .first-bad-block .ensures,
-    )
+    ))
+    refl
 
 header-ok-requires : tie.Need-header-ok-requires
 header-ok-requires c κs =
@@ -55,37 +58,48 @@ returns-3 c =
     let h : blockCount im ≤ firstBadBlock im = omega arith in
     let both : (headerRule im && fitRule im) ≡ (c .before .before .header-ok .result && c .before .fit-ok .result) =
     sym (ap₂ _&&_ (c .before .before .header-ok .ensures) (c .before .fit-ok .ensures)) in
-    rw (
+    tells-fault
+    (rw (
       found-lowest _,
       sym (checked .before .before .before .length-ok .ensures) ∙ not-false _ (checked .before .before .if1 .left),
       le-ltb _ _ h,
       both ∙ not-true _ (c .if3 .taken),
-    )
+    ))
+    refl
 
 counted-fault-requires : tie.Need-counted-fault-requires
 counted-fault-requires c κs =
-    let checked = c .before .before .before in
-    let im = checked .before .before .before .before .before .args .image .now in
-    let both : (headerRule im && fitRule im) ≡ (c .before .before .header-ok .result && c .before .fit-ok .result) =
-    sym (ap₂ _&&_ (c .before .before .header-ok .ensures) (c .before .fit-ok .ensures)) in
-    let sound = both ∙ not-false _ (c .if3 .left) in
+    let left = c .before in
+    let fitted = left .before in
+    let headed = fitted .before in
+    let im = headed .before .before .before .before .before .before .args .image .now in
+    let both : (headerRule im && fitRule im) ≡ (headed .header-ok .result && fitted .fit-ok .result) =
+    sym (ap₂ _&&_ (headed .header-ok .ensures) (fitted .fit-ok .ensures)) in
+    let sound = both ∙ not-false _ (left .if3 .left) in
     counted im (both-left (headerRule im) (fitRule im) sound) (both-right (headerRule im) (fitRule im) sound)
 
 returns-4 : tie.Need-returns-4
 unfolding faultOf foundFault blockCount
 returns-4 c =
-    let checked = c .before .before .before .before in
+    let left = c .before .before in
+    let fitted = left .before in
+    let headed = fitted .before in
+    let checked = headed .before in
     let im = checked .before .before .before .before .before .args .image .now in
     let h : blockCount im ≤ firstBadBlock im = omega arith in
-    let both : (headerRule im && fitRule im) ≡ (c .before .before .before .header-ok .result && c .before .before .fit-ok .result) =
-    sym (ap₂ _&&_ (c .before .before .before .header-ok .ensures) (c .before .before .fit-ok .ensures)) in
-    rw (
-      found-lowest _,
-      sym (checked .before .before .before .length-ok .ensures) ∙ not-false _ (checked .before .before .if1 .left),
-      le-ltb _ _ h,
-      both ∙ not-false _ (c .before .if3 .left),
-    )
-    (c .counted-fault .ensures)
+    let both : (headerRule im && fitRule im) ≡ (headed .header-ok .result && fitted .fit-ok .result) =
+    sym (ap₂ _&&_ (headed .header-ok .ensures) (fitted .fit-ok .ensures)) in
+    record {
+      same =
+          rw (
+            found-lowest _,
+            sym (checked .before .before .before .length-ok .ensures) ∙ not-false _ (checked .before .before .if1 .left),
+            le-ltb _ _ h,
+            both ∙ not-false _ (left .if3 .left),
+          )
+          (c .counted-fault .ensures .same);
+      filled = c .counted-fault .ensures .filled;
+    }
 
 pub first-fault-spec : {M : Type 1} → statement M
 first-fault-spec =

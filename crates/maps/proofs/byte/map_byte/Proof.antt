@@ -1,14 +1,21 @@
-use Prim.Native.Nat.{ℕ, _+_, _-_, _*_, _≤_, _<_}
-use mathlib.Core.Path.{_≡_, refl, sym, ap, _∙_}
+use Prim.Native.Nat.{ℕ, _+_, _-_, _*_, _≤_, _<_, min}
+use mathlib.Core.Path.{_≡_, refl, sym, ap, subst, _∙_}
 use mathlib.Core.Bool.{Bool}
 use mathlib.Core.Logic.{⊎-elim}
 use mathlib.Core.List.{List}
+use native.Mathlib.Nat.{add-zero}
 use native.Mathlib.Omega.{arith}
 use borrow.Author.Needs.{needs}
+use lib.Pow.{pow-mono}
 use Rattle.sets.specs.Sets.{one, union, collect}
 use Rattle.sets.proofs.Has.{collect-below, collect-put, collect-pass}
+use Rattle.header.specs.declared.layout.Kind.the-variants.{Label}
+use Rattle.header.specs.declared.layout.Shape.{Shape}
+use Rattle.header.specs.Layout.{labels, Shaped, Standing}
+use Rattle.header.proofs.Inside.{record-upto}
 use Rattle.access.specs.Rights.{Rights, rightsOf}
-use Rattle.maps.specs.Map.{readsRecord, mapByte}
+use Rattle.maps.specs.Map.{readsRecord}
+use Rattle.maps.proofs.Bits.{byte-upto}
 use Rattle.maps.proofs.byte.map_byte.Statement.{statement}
 use Rattle.maps.proofs.byte.map_byte.Tie as tie
 
@@ -16,27 +23,71 @@ use Rattle.maps.proofs.byte.map_byte.Tie as tie
 abbrev told : List ℕ → Rights → ℕ → ℕ → Bool
 told im rights k i = readsRecord im rights (8 * k + i)
 
+-- the shape counts the labels
+count-is : {im : List ℕ} {shape : Shape} → Shaped im Label shape → shape .count ≡ labels im
+count-is s = ap (λ (x : Shape). x .count) (s .is)
+
 abbrev Inv-loop : tie.InvT-loop
-Inv-loop image view shape edition k first bits₀ i₀ bits i = (i ≤ 8) × (bits ≡ collect (told image (rightsOf view) k) i)
+Inv-loop image view shape edition k first count here₀ set₀ i₀ here set i =
+    (i ≤ count) × (Standing shape (first + i) here × (set ≡ collect (told image (rightsOf view) k) i))
 
 abbrev μ-loop : tie.MeasureT-loop
-μ-loop image view shape edition k first bits₀ i₀ bits i = 8 - i
+μ-loop image view shape edition k first count here₀ set₀ i₀ here set i = count - i
 
 mul-first : tie.Need-mul-first Inv-loop μ-loop
-mul-first c = omega arith
+mul-first c =
+    let start = c .before in
+    omega (arith, count-is (start .pre .0 .1 .0), start .pre .0 .1 .0 .few, start .pre .1 .0)
+
+sub-lower : tie.Need-sub-lower Inv-loop μ-loop
+sub-lower c =
+    let start = c .before .before in
+    omega (arith, count-is (start .pre .0 .1 .0), start .pre .1 .0)
+
+lower-requires : tie.Need-lower-requires Inv-loop μ-loop
+lower-requires c κs = search needs
 
 loop-holds : tie.Need-loop-holds Inv-loop μ-loop
 unfolding collect
-loop-holds c = (omega arith, refl)
+loop-holds c =
+    let start = c .before .before .before in
+    (omega arith, (rw add-zero (start .pre .1 .1), refl))
 
-add-reads-place : tie.Need-add-reads-place Inv-loop μ-loop
-add-reads-place c = omega arith
+add-p : tie.Need-add-p Inv-loop μ-loop
+add-p c =
+    let long = c .before .before in
+    let start = long .before .before .before in
+    omega (arith, count-is (start .pre .0 .1 .0), start .pre .0 .1 .0 .few, start .pre .1 .0, long .lower .ensures, c .loop-test .taken)
 
 reads-place-requires : tie.Need-reads-place-requires Inv-loop μ-loop
-reads-place-requires c κs = search needs
+reads-place-requires c κs =
+    let long = c .before .before in
+    let start = long .before .before .before in
+    let a = start .args in
+    let inside : 8 * a .k + c .before .loop .i < labels (a .image .now) =
+    omega (arith, count-is (start .pre .0 .1 .0), start .pre .1 .0, long .lower .ensures, c .loop-test .taken) in
+    (start .pre .0, (inside, c .before .loop .inv .1 .0 .begins))
 
 with-requires : tie.Need-with-requires Inv-loop μ-loop
-with-requires c κs = omega arith
+with-requires c κs =
+    let turn = c .before .before in
+    omega (arith, turn .loop-test .taken, turn .before .before .lower .ensures)
+
+next-record-requires : tie.Need-next-record-requires Inv-loop μ-loop
+next-record-requires c κs =
+    let turn = c .before .before in
+    let long = turn .before .before in
+    let start = long .before .before .before in
+    let a = start .args in
+    let shaped = start .pre .0 .1 .0 in
+    let inside : 8 * a .k + turn .before .loop .i ≤ labels (a .image .now) =
+    omega (arith, count-is shaped, start .pre .1 .0, long .lower .ensures, turn .loop-test .taken) in (
+      shaped .roomy,
+      (
+        turn .before .loop .inv .1 .0,
+        rw (shaped .is) (omega (arith, record-upto _ (start .pre .0 .0 .fitted) Label (8 * a .k + turn .before .loop .i) inside)),
+      ),
+    )
 
 add-i : tie.Need-add-i Inv-loop μ-loop
 add-i c = omega arith
@@ -47,33 +98,44 @@ loop-less c = omega arith
 loop-again : tie.Need-loop-again Inv-loop μ-loop
 loop-again c =
     let turn = c .before .before .before in
-    let a = turn .before .before .args in
+    let l = turn .before .loop in
+    let a = turn .before .before .before .before .before .args in
     let f = told (a .image .now) (rightsOf (a .view)) (a .k) in
-    let i = turn .loop .i in
-    let inv = turn .loop .inv in
-    let asked = sym (c .before .reads-place .ensures) in (
-      omega arith,
-      ⊎-elim
-          (λ t. t .2 ∙ t .1 .ensures ∙ ap (λ (x : ℕ). union x (one i)) (inv .1) ∙ sym (collect-put f i (asked ∙ t .0 .taken)))
-          (λ e. e .1 ∙ inv .1 ∙ sym (collect-pass f i (asked ∙ e .0 .left)))
-          (c .if1 .came),
+    let asked = sym (c .before .before .reads-place .ensures) in
+    let next : 8 * a .k + l .i + 1 ≡ 8 * a .k + (l .i + 1) = omega arith in (
+      omega (arith, turn .loop-test .taken),
+      (
+        subst (λ (n : ℕ). Standing (a .shape) n (c .next-record .result)) next (c .next-record .ensures),
+        ⊎-elim
+            (λ t. t .2 ∙ t .1 .ensures ∙ ap (λ (x : ℕ). union x (one (l .i))) (l .inv .1 .1) ∙ sym (collect-put f (l .i) (asked ∙ t .0 .taken)))
+            (λ e. e .1 ∙ l .inv .1 .1 ∙ sym (collect-pass f (l .i) (asked ∙ e .0 .left)))
+            (c .before .if1 .came),
+      ),
     )
 
-cast-result : tie.Need-cast-result Inv-loop μ-loop
-cast-result c =
-    let turn = c .before in
-    let a = turn .before .before .args in
-    let below = collect-below (told (a .image .now) (rightsOf (a .view)) (a .k)) 8 in
-    let end : turn .loop .i ≡ 8 = omega (arith, turn .loop .inv .0, c .loop-test .left) in
-    record { fits = rw (turn .loop .inv .1, end) (omega (arith, below)) }
+cast-bits : tie.Need-cast-bits Inv-loop μ-loop
+cast-bits c =
+    let l = c .before .loop in
+    let long = c .before .before in
+    let a = long .before .before .before .args in
+    let small : l .i ≤ 8 = omega (arith, l .inv .0, long .lower .ensures) in
+    let below = collect-below (told (a .image .now) (rightsOf (a .view)) (a .k)) (l .i) in
+    record { fits = rw (l .inv .1 .1) (omega (arith, below, pow-mono small)) }
 
 returns : tie.Need-returns Inv-loop μ-loop
-unfolding mapByte
 returns c =
-    let turn = c .before in
-    let a = turn .before .before .args in
-    let end : turn .loop .i ≡ 8 = omega (arith, turn .loop .inv .0, c .loop-test .left) in
-    turn .loop .inv .1 ∙ ap (collect (told (a .image .now) (rightsOf (a .view)) (a .k))) end
+    let l = c .before .loop in
+    let long = c .before .before in
+    let start = long .before .before .before in
+    let a = start .args in
+    let n = labels (a .image .now) in
+    let end : l .i ≡ min 8 (n - 8 * a .k) = omega (arith, count-is (start .pre .0 .1 .0), l .inv .0, long .lower .ensures, c .loop-test .left) in
+    let small : l .i ≤ 8 = omega arith in
+    let all : l .i < 8 → n ≤ 8 * a .k + l .i = λ h. omega arith in
+    let next : 8 * a .k + l .i ≡ min (8 * a .k + 8) n = omega (arith, start .pre .1 .0) in (
+      l .inv .1 .1 ∙ byte-upto (a .image .now) (rightsOf (a .view)) (a .k) (l .i) small all,
+      subst (λ (m : ℕ). Standing (a .shape) m (l .here)) next (l .inv .1 .0),
+    )
 
 pub map-byte-spec : {M : Type 1} → statement M
 map-byte-spec =
@@ -82,12 +144,15 @@ map-byte-spec =
     Inv-loop
     μ-loop
     mul-first
+    sub-lower
+    lower-requires
     loop-holds
-    add-reads-place
+    add-p
     reads-place-requires
     with-requires
+    next-record-requires
     add-i
     loop-less
     loop-again
-    cast-result
+    cast-bits
     returns)

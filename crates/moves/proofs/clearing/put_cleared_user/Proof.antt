@@ -6,7 +6,7 @@ use lib.Seq.{append-snoc}
 use Rattle.fields.specs.Bytes.{part}
 use Rattle.fields.proofs.Laws.{part-length, rest-taken}
 use Rattle.moves.specs.Moved.{clearUser}
-use Rattle.moves.proofs.Steps.{then-written, written-same}
+use Rattle.writing.proofs.KindSteps.{then-written, written-same}
 use borrow.Author.Needs.{needs}
 use Rattle.moves.proofs.clearing.put_cleared_user.Statement.{statement}
 use Rattle.moves.proofs.clearing.put_cleared_user.Tie as tie

@@ -1,48 +1,43 @@
-use native.Mathlib.Omega.{arith}
+use mathlib.Core.Path.{sym, _∙_}
 use borrow.Author.Needs.{needs}
 use Rattle.header.proofs.Inside.{header-inside}
 use Rattle.moves.proofs.Steps.{moved-length}
 use Rattle.moves.proofs.laying.new_length.Statement.{statement}
 use Rattle.moves.proofs.laying.new_length.Tie as tie
 
-blocks-for-requires : tie.Need-blocks-for-requires
-blocks-for-requires c κs = header-inside _ (c .before .pre .0)
+components-requires : tie.Need-components-requires
+components-requires c κs = header-inside _ (c .before .pre .0)
 
-blocks-for-requires-2 : tie.Need-blocks-for-requires-2
-blocks-for-requires-2 c κs = header-inside _ (c .before .before .pre .0)
+labels-requires : tie.Need-labels-requires
+labels-requires c κs = header-inside _ (c .before .before .pre .0)
 
-blocks-for-requires-3 : tie.Need-blocks-for-requires-3
-blocks-for-requires-3 c κs = header-inside _ (c .before .before .before .pre .0)
+users-requires : tie.Need-users-requires
+users-requires c κs = header-inside _ (c .before .before .before .pre .0)
 
-add-result : tie.Need-add-result
-add-result c = search needs
+edition-after-requires : tie.Need-edition-after-requires
+edition-after-requires c κs = search needs
 
-add-result-2 : tie.Need-add-result-2
-add-result-2 c = search needs
-
-add-result-3 : tie.Need-add-result-3
-add-result-3 c = search needs
-
-mul-result : tie.Need-mul-result
-mul-result c = search needs
+length-for-requires : tie.Need-length-for-requires
+length-for-requires c κs = search needs
 
 returns : tie.Need-returns
 returns c =
-    let labels = c .before in
+    let told = c .before in
+    let users = told .before in
+    let labels = users .before in
     let components = labels .before in
     let start = components .before .before in
-    let long = moved-length (start .args .which) (start .args .image .now) (start .pre .0) (start .pre .1) in
-    omega (arith, components .blocks-for .ensures .0, labels .blocks-for2 .ensures .0, c .blocks-for3 .ensures .0)
+    rw (told .edition-after .ensures, components .components .ensures .0, labels .labels .ensures .0, users .users .ensures .0)
+    at (c .length-for .ensures)
+    ∙ sym (moved-length (start .args .which) (start .args .image .now) (start .pre .0) (start .pre .1))
 
 pub new-length-spec : {M : Type 1} → statement M
 new-length-spec =
     tie.close
     (tie.spec
-    blocks-for-requires
-    blocks-for-requires-2
-    blocks-for-requires-3
-    add-result
-    add-result-2
-    add-result-3
-    mul-result
+    components-requires
+    labels-requires
+    users-requires
+    edition-after-requires
+    length-for-requires
     returns)

@@ -1,24 +1,28 @@
 use Prim.Native.Nat.{ℕ, _+_, _-_, _≤_, _<_, min}
-use mathlib.Core.Path.{_≡_, ap, _∙_}
+use mathlib.Core.Path.{_≡_, sym, ap, _∙_}
 use mathlib.Core.List.{List, _++_}
 use native.Mathlib.Omega.{arith}
 use borrow.Author.Needs.{needs}
 use lib.ListN.{length}
 use Rattle.header.specs.declared.edition.Edition.{Edition}
 use Rattle.header.specs.declared.layout.Kind.{Kind}
-use Rattle.header.specs.Layout.{countOf, kindByte, capacityOf}
+use Rattle.header.specs.Layout.{kindByte, capacityOf}
 use Rattle.writing.specs.Laid.{blockOf}
 use Rattle.header.proofs.Inside.{header-inside}
 use Rattle.buffers.proofs.Left.{Left, left-start, left-room, left-turn, left-end}
+use Rattle.writing.proofs.KindSteps.{runOf, blocksLeft, last-place, kind-start, kind-step, kind-end, block-long}
 use Rattle.moves.specs.declared.target.Move.{Move}
-use Rattle.moves.specs.Parts.{newRun, newCapacity, newKind}
-use Rattle.moves.proofs.Steps.{blocksLeft, last-place, kind-start, kind-step, kind-end, kind-long, block-long}
+use Rattle.moves.specs.Moved.{editionAfter, newRecords}
+use Rattle.moves.specs.Parts.{newCapacity, newKind}
+use Rattle.moves.proofs.NewImage.{new-count}
+use Rattle.moves.proofs.Steps.{kind-is, new-sized, new-kind-long}
 use Rattle.moves.proofs.packing.move_kind.Statement.{statement}
 use Rattle.moves.proofs.packing.move_kind.Tie as tie
 
 abbrev Inv-loop : tie.InvT-loop
 Inv-loop which image kind place buffer₀ at held count end₀ b₀ from₀ buffer end b from =
-    (from ≤ count) × ((b ≤ place + from) × Left buffer₀ at (newKind which image kind place) buffer end (blocksLeft which image kind from b))
+    (from ≤ count) × ((b ≤ place + from)
+    × Left buffer₀ at (newKind which image kind place) buffer end (blocksLeft (editionAfter which) kind (newRecords which image kind) from b))
 
 abbrev μ-loop : tie.MeasureT-loop
 μ-loop which image kind place buffer₀ at held count end₀ b₀ from₀ buffer end b from = count - from
@@ -44,6 +48,9 @@ module _ (c : tie.After-lower Inv-loop μ-loop) where
   abbrev which : Move
   which = a .args .which
 
+  abbrev records : List (List ℕ)
+  records = newRecords which im kind
+
   abbrev from : ℕ
   from = c .before .before .loop .from
 
@@ -54,27 +61,30 @@ module _ (c : tie.After-lower Inv-loop μ-loop) where
   b = c .before .before .loop .b
 
   abbrev block : List ℕ
-  block = blockOf (kindByte kind) b (newRun which im kind from to)
+  block = blockOf (kindByte kind) b (runOf (editionAfter which) kind records from to)
 
   abbrev rest : List ℕ
-  rest = blocksLeft which im kind to (b + 1)
+  rest = blocksLeft (editionAfter which) kind records to (b + 1)
 
   capacity-told : counted-at c .before .capacity .result ≡ newCapacity which kind
   capacity-told =
       let told = counted-at c .before in
       told .capacity .ensures .0 ∙ ap (λ (e : Edition). capacityOf e kind) (told .before .edition-after .ensures)
 
-  upto : to ≡ min (countOf im kind) (from + newCapacity which kind)
-  upto = last-place from (c .lower .ensures) (counted-at c .count .ensures .0) capacity-told
+  count-told : counted-at c .count .result ≡ length records
+  count-told = counted-at c .count .ensures .0 ∙ sym (new-count which im kind)
 
-  here : from < countOf im kind
-  here = omega (arith, c .before .loop-test .taken, counted-at c .count .ensures .0)
+  upto : to ≡ min (length records) (from + newCapacity which kind)
+  upto = last-place from (c .lower .ensures) count-told capacity-told
 
-  step : blocksLeft which im kind from b ≡ block ++ rest
-  step = kind-step which im kind from b to here upto
+  here : from < length records
+  here = omega (arith, c .before .loop-test .taken, count-told)
+
+  step : blocksLeft (editionAfter which) kind records from b ≡ block ++ rest
+  step = kind-step (editionAfter which) kind records from b to here upto
 
   whole : a .args .at + length (newKind which im kind (a .args .place)) ≤ length (a .args .buffer .now)
-  whole = rw (kind-long which im kind (a .pre .0 .0) (a .pre .0 .1 .0) (a .args .place)) (a .pre .1)
+  whole = rw (new-kind-long which im kind (a .pre .0 .0) (a .pre .0 .1 .0) (a .args .place)) (a .pre .1)
 
 edition-after-requires : tie.Need-edition-after-requires Inv-loop μ-loop
 edition-after-requires c κs = search needs
@@ -87,8 +97,9 @@ count-requires c κs = header-inside _ (c .before .before .before .before .pre .
 
 loop-holds : tie.Need-loop-holds Inv-loop μ-loop
 loop-holds c =
-    let start = c .before .before .before .before .before in
-    (omega arith, (omega arith, left-start _ _ _ _ (kind-start (start .args .which) (start .args .image .now) (start .args .kind) (start .args .place))))
+    let args = start c .args in
+    let first = kind-start (editionAfter (args .which)) (args .kind) (newRecords (args .which) (args .image .now) (args .kind)) (args .place) in
+    (omega arith, (omega arith, left-start _ _ _ _ (first ∙ kind-is (args .which) (args .image .now) (args .kind) (args .place))))
 
 add-lower : tie.Need-add-lower Inv-loop μ-loop
 add-lower c = omega arith
@@ -103,11 +114,13 @@ move-block-requires c κs =
     let last = upto l in
     let some = here l in
     let low : from l ≤ to l = omega arith in
-    let high : to l ≤ countOf (im l) (kind l) = omega arith in
+    let high : to l ≤ length (records l) = omega arith in
     let few : to l ≤ from l + newCapacity (which l) (kind l) = omega arith in
-    let long = block-long (which l) (im l) (kind l) (pre .0 .0) (pre .0 .1 .0) (from l) (to l) low high few (b l) in
+    let sized = new-sized (which l) (im l) (kind l) (pre .0 .0) (pre .0 .1 .0) in
+    let long = block-long (editionAfter (which l)) (kind l) (records l) sized (from l) (to l) low high few (b l) in
     let fits = left-room _ _ _ _ _ _ (l .before .before .loop .inv .1 .1) (block l) (rest l) (step l) (whole l) in
-    ((pre .0 .0, (pre .0 .1 .0, high)), ((low, few), (omega arith, rw long at fits)))
+    let count = new-count (which l) (im l) (kind l) in
+    ((pre .0 .0, (pre .0 .1 .0, omega arith)), ((low, few), (omega arith, rw long at fits)))
 
 add-b : tie.Need-add-b Inv-loop μ-loop
 add-b c = omega arith
@@ -122,6 +135,7 @@ loop-again c =
     let last = upto l in
     let some = here l in
     let inv = l .before .before .loop .inv in
+    let told = count-told l in
     (omega arith, (omega arith, left-turn _ _ _ _ _ _ (inv .1 .1) (block l) (rest l) (step l) _ _ (whole l) (written .move-block .ensures)))
 
 same-length : tie.Need-same-length Inv-loop μ-loop
@@ -130,10 +144,10 @@ same-length c = c .before .loop .inv .1 .1 .long
 returns : tie.Need-returns Inv-loop μ-loop
 returns c =
     let counted = c .before .before in
-    let start = counted .before .before .before .before .before in
-    let inv = c .before .loop .inv in
-    left-end _ _ _ _ _ _ (inv .1 .1)
-    (kind-end (start .args .which) (start .args .image .now) (start .args .kind) _ _ (omega (arith, counted .count .ensures .0)))
+    let args = start counted .args in
+    let told = counted .count .ensures .0 ∙ sym (new-count (args .which) (args .image .now) (args .kind)) in
+    left-end _ _ _ _ _ _ (c .before .loop .inv .1 .1)
+    (kind-end (editionAfter (args .which)) (args .kind) (newRecords (args .which) (args .image .now) (args .kind)) _ _ (omega (arith, told)))
 
 pub move-kind-spec : {M : Type 1} → statement M
 move-kind-spec =

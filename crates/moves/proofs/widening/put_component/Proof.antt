@@ -1,4 +1,5 @@
-use Rattle.moves.proofs.Steps.{parent-length, then-written}
+use Rattle.writing.proofs.KindSteps.{then-written}
+use Rattle.moves.proofs.Steps.{parent-length}
 use native.Mathlib.Omega.{arith}
 use Rattle.buffers.proofs.Left.{written-then}
 use Rattle.moves.specs.Moved.{upComponent}

@@ -1,7 +1,8 @@
 use native.Mathlib.Omega.{arith}
 use borrow.Author.Needs.{needs}
 use Rattle.moves.specs.Moved.{upUser}
-use Rattle.moves.proofs.Steps.{kept-length, read-length, write-length, default-length, room-after, then-written}
+use Rattle.writing.proofs.KindSteps.{room-after, then-written}
+use Rattle.moves.proofs.Steps.{kept-length, read-length, write-length, default-length}
 use Rattle.moves.proofs.widening.put_user.Statement.{statement}
 use Rattle.moves.proofs.widening.put_user.Tie as tie
 

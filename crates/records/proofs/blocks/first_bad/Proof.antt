@@ -4,6 +4,7 @@ use mathlib.Core.Path.{_≡_, refl, sym, ap, _∙_}
 use mathlib.Core.List.{List}
 use native.Mathlib.Omega.{arith}
 use borrow.Author.Tests.{not-true, not-false}
+use borrow.Author.Needs.{needs}
 use Rattle.fields.specs.Scan.{firstBad}
 use Rattle.fields.proofs.Scan.{loop-bad, loop-good, loop-end}
 use Rattle.header.specs.declared.layout.Kind.{Kind}
@@ -47,29 +48,35 @@ record-offset-requires c κs =
     let s = c .shape-of .ensures in
     (s .roomy, rw (s .is) (omega (arith, record-upto _ (p .0 .fitted) (start .args .kind) (start .args .from) (omega arith))))
 
-previous-offset-requires : tie.Need-previous-offset-requires Inv-loop μ-loop
-previous-offset-requires c κs =
-    let shaped = c .before in
+place-before-requires : tie.Need-place-before-requires Inv-loop μ-loop
+place-before-requires c κs = search needs
+
+record-offset-requires-2 : tie.Need-record-offset-requires-2 Inv-loop μ-loop
+record-offset-requires-2 c κs =
+    let shaped = c .before .before in
     let start = shaped .before .before .before in
     let from = start .args .from in
     let s = shaped .shape-of .ensures in
-    (s .roomy, λ some. rw (s .is) (omega (arith, record-upto _ (start .pre .0 .fitted) (start .args .kind) (from - 1) (omega arith))))
+    let short = record-upto _ (start .pre .0 .fitted) (start .args .kind) (from - 1) (omega arith) in
+    rw (c .place-before .ensures) (s .roomy, rw (s .is) (omega (arith, short)))
 
 loop-holds : tie.Need-loop-holds Inv-loop μ-loop
 loop-holds c =
-    (omega arith, (omega arith, ((c .before .record-offset .ensures ∙ rw (sub-self, mul-zero, add-zero), c .previous-offset .ensures), refl)))
+    let shaped = c .before .before .before in
+    let previous = c .record-offset2 .ensures ∙ ap (recordOffset (shaped .shape-of .result)) (c .before .place-before .ensures) in
+    (omega arith, (omega arith, ((c .before .before .record-offset .ensures ∙ rw (sub-self, mul-zero, add-zero), previous), refl)))
 
 record-ok-requires : tie.Need-record-ok-requires Inv-loop μ-loop
 record-ok-requires c κs =
     let turn = c .before .loop in
-    let placed = c .before .before .before in
-    let shaped = placed .before in
+    let shaped = c .before .before .before .before .before in
     let existing = shaped .before in
     let start = existing .before .before in
     let s = shaped .shape-of .ensures in
+    let e = existing .existing-in .ensures in
     let stands = turn .inv .1 .1 .0 in
     let here = begins _ _ _ _ _ (turn .i) _ s (start .pre .1 .1 .1) (turn .inv .0) (c .loop-test .taken) (stands .0) in
-    ((start .pre .0, (existing .existing-in .ensures, (s, (omega arith, here)))), stands .1)
+    ((start .pre .0 .fitted, (e .0, (e .1, s))), (omega arith, (here, stands .1)))
 
 returns : tie.Need-returns Inv-loop μ-loop
 returns c =
@@ -80,8 +87,7 @@ add-at : tie.Need-add-at Inv-loop μ-loop
 add-at c =
     let inside = c .before .before .before in
     let turn = inside .before .loop in
-    let placed = inside .before .before .before in
-    let shaped = placed .before in
+    let shaped = inside .before .before .before .before .before in
     let existing = shaped .before in
     let start = existing .before .before in
     let s = shaped .shape-of .ensures in
@@ -101,7 +107,7 @@ loop-again c =
     let passed = c .before in
     let inside = passed .before .before in
     let turn = inside .before .loop in
-    let shaped = inside .before .before .before .before in
+    let shaped = inside .before .before .before .before .before in
     let start = shaped .before .before .before in
     let stands = turn .inv .1 .1 .0 in
     let here =
@@ -111,7 +117,7 @@ loop-again c =
       omega arith,
       (
         omega arith,
-        ((next _ _ _ _ _ (turn .inv .0) (stands .0), λ some. here ∙ ap (recordOffset (shaped .shape-of .result)) (omega arith)), loop-good _ _ _ _ (inside .loop-test .taken) (turn .inv .1 .1 .1) good),
+        ((next _ _ _ _ _ (turn .inv .0) (stands .0), here ∙ ap (recordOffset (shaped .shape-of .result)) (omega arith)), loop-good _ _ _ _ (inside .loop-test .taken) (turn .inv .1 .1 .1) good),
       ),
     )
 
@@ -127,7 +133,8 @@ first-bad-spec =
     existing-in-requires
     shape-of-requires
     record-offset-requires
-    previous-offset-requires
+    place-before-requires
+    record-offset-requires-2
     loop-holds
     record-ok-requires
     returns

@@ -1,52 +1,67 @@
+use Prim.Native.Nat.{_-_, _<_}
+use mathlib.Core.Path.{_≡_, sym, ap, _∙_}
+use native.Mathlib.Omega.{arith}
+use Rattle.header.specs.declared.counts.Counts.{Counts}
+use Rattle.header.specs.Layout.{recordSize, countOf, recordAt}
+use Rattle.header.proofs.Inside.{record-of}
+use Rattle.records.specs.Rules.{ruleOf}
 use borrow.Author.Needs.{needs}
 use Rattle.records.proofs.blocks.record_ok.Statement.{statement}
 use Rattle.records.proofs.blocks.record_ok.Tie as tie
 
-enum-told : tie.Need-enum-told
-enum-told c = search needs
+placed-part-requires : tie.Need-placed-part-requires
+placed-part-requires c κs =
+    let p = c .before .before .pre in
+    (p .0 .0, (p .0 .1 .1 .1, (p .1 .0, p .1 .1 .0)))
 
-component-ok-requires : tie.Need-component-ok-requires
-component-ok-requires c κs =
-    let p = c .before .before .before .pre .0 in
-    (p .0 .fitted, rw (c .enum-told .given .1) at (p .1 .1 .1 .0))
+place-before-requires : tie.Need-place-before-requires
+place-before-requires c κs = search needs
 
-enum-told-2 : tie.Need-enum-told-2
-enum-told-2 c = search needs
+placed-part-requires-2 : tie.Need-placed-part-requires-2
+placed-part-requires-2 c κs =
+    let start = c .before .before .before .before in
+    let p = start .pre in
+    let few : start .args .i - 1 < countOf (start .args .image .now) (start .args .kind) = omega (arith, p .1 .0) in
+    rw (c .place-before .ensures) (p .0 .0, (p .0 .1 .1 .1, (few, p .1 .1 .1)))
 
-label-ok-requires : tie.Need-label-ok-requires
-label-ok-requires c κs =
-    let pre = c .before .before .before .pre in
-    let p = pre .0 in
-    let label = c .enum-told2 .given .1 in
-    ((p .0, (p .1 .0, (rw label at (p .1 .1 .0), (rw label at (p .1 .1 .1 .0), p .1 .1 .1 .1)))), pre .1)
+after-ok-requires : tie.Need-after-ok-requires
+after-ok-requires c κs =
+    let here = c .before .before in
+    let start = here .before .before .before in
+    let p = start .pre in
+    let kind = start .args .kind in
+    let edition = ap (λ (n : Counts). recordSize (n .edition) kind) (p .0 .1 .1 .0) in
+    ((p .0 .1 .0, here .placed-part .ensures .1 .0 ∙ sym edition), (here .placed-part .ensures .1 .1, c .placed-part2 .ensures .1 .1))
 
-enum-told-3 : tie.Need-enum-told-3
-enum-told-3 c = search needs
-
-user-ok-requires : tie.Need-user-ok-requires
-user-ok-requires c κs =
-    let p = c .before .before .before .pre .0 in
-    (p .0, rw (c .enum-told3 .given .1) at (p .1 .1 .1 .0))
+fresh-ok-requires : tie.Need-fresh-ok-requires
+fresh-ok-requires c κs =
+    let here = c .before .before .before in
+    let p = here .before .before .before .pre in
+    ((p .0 .0, (p .0 .1 .1 .0, p .1 .0)), (here .placed-part .ensures .0, here .placed-part .ensures .1 .1))
 
 returns : tie.Need-returns
-returns c = rw (c .before .enum-told .given .1) (c .component-ok .ensures)
-
-returns-2 : tie.Need-returns-2
-returns-2 c = rw (c .before .enum-told2 .given .1) (c .label-ok .ensures)
-
-returns-3 : tie.Need-returns-3
-returns-3 c = rw (c .before .enum-told3 .given .1) (c .user-ok .ensures)
+unfolding ruleOf
+returns c =
+    let asked = c .before in
+    let earlier = asked .before in
+    let here = earlier .before .before in
+    let start = here .before .before .before in
+    let a = start .args in
+    let im = a .image .now in
+    let p = start .pre in
+    let few : a .i - 1 < countOf im (a .kind) = omega (arith, p .1 .0) in
+    let rec = here .placed-part .ensures .0 ∙ sym (record-of im (a .kind) (a .i) (p .1 .0)) in
+    let previous = earlier .placed-part2 .ensures .0 ∙ ap (recordAt im (a .kind)) (earlier .before .place-before .ensures)
+    ∙ sym (record-of im (a .kind) (a .i - 1) few) in
+    rw (asked .after-ok .ensures, c .fresh-ok .ensures, ← p .0 .1 .1 .0, rec, previous)
 
 pub record-ok-spec : {M : Type 1} → statement M
 record-ok-spec =
     tie.close
     (tie.spec
-    enum-told
-    component-ok-requires
-    enum-told-2
-    label-ok-requires
-    enum-told-3
-    user-ok-requires
-    returns
-    returns-2
-    returns-3)
+    placed-part-requires
+    place-before-requires
+    placed-part-requires-2
+    after-ok-requires
+    fresh-ok-requires
+    returns)

@@ -1,25 +1,34 @@
+use Prim.Native.Nat.{_+_, _≤_, _<_}
+use native.Mathlib.Omega.{arith}
+use borrow.Author.Tests.{lt-ltb, le-ltb}
+use Rattle.header.specs.Layout.{classFirst, classAt}
 use borrow.Author.Needs.{needs}
-use Rattle.records.proofs.MeaningComponents.{class-begun}
-use Rattle.header.specs.Layout.{countsOf}
-use mathlib.Core.Path.{_≡_, sym, subst, ap, _∙_}
-use Prim.Native.Nat.{ℕ, _≤_}
-use Rattle.header.specs.Layout.{classFirst}
-use Rattle.records.specs.Rules.{classStart}
 use Rattle.records.proofs.components.class_start.Statement.{statement}
 use Rattle.records.proofs.components.class_start.Tie as tie
 
-class-at-requires : tie.Need-class-at-requires
-class-at-requires c κs = search needs
-
-class-first-requires : tie.Need-class-first-requires
-class-first-requires c κs = search needs
-
 returns : tie.Need-returns
-returns c =
-    let start = c .before .before .before in
-    let n = countsOf (start .args .image .now) in
-    let e : c .class-first .result ≡ classStart n (start .args .i) = c .class-first .ensures .0 ∙ ap (classFirst n) (c .before .class-at .ensures) in
-    (e, subst (λ (r : ℕ). r ≤ start .args .i) (sym e) (class-begun n (start .args .i)))
+unfolding classFirst classAt
+returns c = (rw (lt-ltb _ _ (c .if1 .taken)), omega arith)
+
+returns-2 : tie.Need-returns-2
+unfolding classFirst classAt
+returns-2 c =
+    let a = c .before .before .before .before .before .args in
+    let g : a .counts .levels ≤ a .i = omega arith in
+    let h : a .i < a .counts .levels + a .counts .compartments = omega arith in
+    (rw (le-ltb _ _ g, lt-ltb _ _ h), g)
+
+add-result : tie.Need-add-result
+add-result c = search needs
+
+returns-3 : tie.Need-returns-3
+unfolding classFirst classAt
+returns-3 c =
+    let told = c .before in
+    let a = told .before .before .before .before .before .args in
+    let g : a .counts .levels ≤ a .i = omega arith in
+    let h : a .counts .levels + a .counts .compartments ≤ a .i = omega arith in
+    (rw (le-ltb _ _ g, le-ltb _ _ h), h)
 
 pub class-start-spec : {M : Type 1} → statement M
-class-start-spec = tie.close (tie.spec class-at-requires class-first-requires returns)
+class-start-spec = tie.close (tie.spec returns returns-2 add-result returns-3)

@@ -1,134 +1,117 @@
-use Prim.Native.Nat.{ℕ, _+_, _*_, _≤_, _-_}
-use mathlib.Core.Path.{_≡_, refl, ap, _∙_}
+use Prim.Native.Nat.{ℕ, _+_, _-_, _*_, _/_, _%_, _≤_, _<_}
+use mathlib.Core.Path.{_≡_, sym, ap, _∙_}
 use mathlib.Core.List.{List}
-use native.Mathlib.Nat.{add-sub-cancel-left}
+use native.Mathlib.Nat.{add-sub-cancel-left, mul-mod-right}
 use native.Mathlib.Omega.{arith}
-use borrow.Author.Needs.{needs}
-use lib.ListN.{take, drop, length-take, length-drop}
-use Rattle.fields.specs.Names.{sameBytes, inLetters}
+use lib.ListN.{length, take, drop}
+use Rattle.fields.specs.Bytes.{part}
+use Rattle.fields.specs.Names.{inLetters}
 use Rattle.fields.specs.Scan.{firstBad}
-use Rattle.fields.proofs.Scan.{loop-bad, loop-good, loop-end}
+use Rattle.fields.proofs.Laws.{part-length, part-part}
+use Rattle.fields.proofs.Scan.{bad-upto}
 use Rattle.header.specs.declared.layout.Kind.the-variants.{Component}
-use Rattle.header.specs.Layout.{editionOf, recordSize, shapeOf, recordOffset, recordAt}
-use Rattle.header.proofs.Inside.{header-inside, record-inside, one-block}
-use Rattle.records.specs.Fields.{componentName}
-use Rattle.records.specs.Rules.{otherName, othersNamed}
+use Rattle.header.specs.Layout.{editionOf, countOf, recordSize, shapeOf, recordOffset, recordAt, Fitted, OneBlock}
+use Rattle.header.proofs.Inside.{record-inside, one-block}
+use Rattle.records.specs.Rules.{runRecord, runNamed, othersNamed}
+use Rattle.records.proofs.Parts.{run-bad}
+use borrow.Author.Needs.{needs}
 use Rattle.records.proofs.components.first_in_block.Statement.{statement}
 use Rattle.records.proofs.components.first_in_block.Tie as tie
 
-abbrev Inv-loop : tie.InvT-loop
-Inv-loop image first from to letters name size at₀ j₀ at j =
-    (from ≤ j) × ((j ≤ to) × ((at ≡ first + recordSize (editionOf image) Component * (j - from))
-    × (firstBad (othersNamed image (inLetters letters name)) (to - j) j ≡ firstBad (othersNamed image (inLetters letters name)) (to - from) from)))
+-- a run of component records in one block of an image
+module _ (im : List ℕ) (first from to : ℕ) (fit : Fitted im) (few : to ≤ countOf im Component) (some : from < to)
+    (one : OneBlock im Component first from to) where
+  begins : (q : ℕ) → q < to - from → first + 40 * q ≡ recordOffset (shapeOf im Component) (from + q)
+  begins q h =
+      let e : from + q - from ≡ q = omega arith in
+      ap (λ (k : ℕ). first + 40 * k) (sym e) ∙ one-block im Component first from to (from + q) one (omega arith) (omega arith)
 
-abbrev μ-loop : tie.MeasureT-loop
-μ-loop image first from to letters name size at₀ j₀ at j = to - j
+  run-inside : first + 40 * (to - from) ≤ length im
+  run-inside =
+      let last : ℕ = to - from - 1 in
+      let e = begins last (omega arith) in
+      omega (arith, record-inside im fit Component (from + last) (omega arith))
 
--- the part that code takes is the record
-part-is : (im name : List ℕ) (at size j : ℕ) → at ≡ recordOffset (shapeOf im Component) j → size ≡ recordSize (editionOf im) Component
-    → sameBytes (componentName (take (at + size - at) (drop at im))) name ≡ sameBytes (componentName (recordAt im Component j)) name
-unfolding recordAt
-part-is im name at size j e s = rw (e, s, add-sub-cancel-left)
+  abbrev run : List ℕ
+  run = part im first (40 * (to - from))
 
-edition-of-requires : tie.Need-edition-of-requires Inv-loop μ-loop
-edition-of-requires c κs = header-inside _ (c .before .before .pre .0)
+  run-long : length run ≡ 40 * (to - from)
+  run-long = part-length im first (40 * (to - from)) run-inside
 
-size-requires : tie.Need-size-requires Inv-loop μ-loop
-size-requires c κs = search needs
+  run-is : (q : ℕ) → q < to - from → runRecord 40 run q ≡ recordAt im Component (from + q)
+  unfolding recordAt
+  run-is q h =
+      part-part im first (40 * (to - from)) (40 * q) 40 (omega arith) ∙ ap (λ (k : ℕ). part im k 40) (begins q h)
 
-loop-holds : tie.Need-loop-holds Inv-loop μ-loop
-loop-holds c = (omega arith, (omega arith, (omega arith, refl)))
+  run-named : (name : List ℕ) → from + firstBad (runNamed run name) (length run / 40) 0 ≡ firstBad (othersNamed im name) (to - from) from
+  run-named name = run-bad run (to - from) from (recordAt im Component) run-long run-is name
 
-add-is-named : tie.Need-add-is-named Inv-loop μ-loop
-add-is-named c =
-    let l = c .before .loop in
-    let start = c .before .before .before .before .before .before in
+-- as code takes it
+taken : (im : List ℕ) (first n : ℕ) → take (first + 40 * n - first) (drop first im) ≡ part im first (40 * n)
+taken im first n = rw add-sub-cancel-left
+
+sub-end : tie.Need-sub-end
+sub-end c = search needs
+
+mul-end : tie.Need-mul-end
+mul-end c = search needs
+
+add-end : tie.Need-add-end
+add-end c =
+    let p = c .before .before .pre in
+    omega (arith, run-inside _ _ _ _ (p .0) (p .1 .0) (p .1 .1 .0) (p .1 .1 .1))
+
+sub-first-in-run : tie.Need-sub-first-in-run
+sub-first-in-run c = search needs
+
+part-first-in-run-start : tie.Need-part-first-in-run-start
+part-first-in-run-start c = search needs
+
+part-first-in-run-end : tie.Need-part-first-in-run-end
+part-first-in-run-end c =
+    let p = c .before .before .pre in
+    omega (arith, run-inside _ _ _ _ (p .0) (p .1 .0) (p .1 .1 .0) (p .1 .1 .1))
+
+first-in-run-requires : tie.Need-first-in-run-requires
+first-in-run-requires c κs =
+    let start = c .before .before .before in
+    let p = start .pre in
     let a = start .args in
-    let e = one-block _ Component (a .first) (a .from) (a .to) (l .j) (start .pre .1 .1 .1) (l .inv .0) (c .loop-test .taken) in
-    omega (arith, record-inside _ (start .pre .0) Component (l .j) (omega arith))
+    let long = run-long _ _ _ _ (p .0) (p .1 .0) (p .1 .1 .0) (p .1 .1 .1) in
+    ap (λ (s : List ℕ). length s % 40) (taken (a .image .now) (a .first) (a .to - a .from)) ∙ ap (λ (n : ℕ). n % 40) long
+    ∙ mul-mod-right 40 (a .to - a .from)
 
-sub-is-named : tie.Need-sub-is-named Inv-loop μ-loop
-sub-is-named c = omega arith
-
-part-is-named-start : tie.Need-part-is-named-start Inv-loop μ-loop
-part-is-named-start c = search needs
-
-part-is-named-end : tie.Need-part-is-named-end Inv-loop μ-loop
-part-is-named-end c =
-    let l = c .before .loop in
-    let start = c .before .before .before .before .before .before in
+add-result : tie.Need-add-result
+add-result c =
+    let start = c .before .before .before .before in
+    let p = start .pre in
     let a = start .args in
-    let e = one-block _ Component (a .first) (a .from) (a .to) (l .j) (start .pre .1 .1 .1) (l .inv .0) (c .loop-test .taken) in
-    omega (arith, record-inside _ (start .pre .0) Component (l .j) (omega arith))
+    let name = inLetters (a .letters) (a .name .now) in
+    let is = c .first-in-run .ensures
+    ∙ ap (λ (s : List ℕ). firstBad (runNamed s name) (length s / 40) 0) (taken (a .image .now) (a .first) (a .to - a .from)) in
+    let whole = ap (λ (n : ℕ). a .from + n) is ∙ run-named _ _ _ _ (p .0) (p .1 .0) (p .1 .1 .0) (p .1 .1 .1) name in
+    omega (arith, whole, bad-upto (othersNamed (a .image .now) name) (a .to - a .from) (a .from))
 
-is-named-requires : tie.Need-is-named-requires Inv-loop μ-loop
-is-named-requires c κs =
-    let inside = c .before in
-    let l = inside .before .loop in
-    let start = inside .before .before .before .before .before .before in
-    let a = start .args in
-    let e = one-block _ Component (a .first) (a .from) (a .to) (l .j) (start .pre .1 .1 .1) (l .inv .0) (inside .loop-test .taken) in
-    simp (length-take, length-drop) (omega (arith, record-inside _ (start .pre .0) Component (l .j) (omega arith)))
-
-returns : tie.Need-returns Inv-loop μ-loop
-unfolding otherName
+returns : tie.Need-returns
 returns c =
-    let inside = c .before .before .before in
-    let l = inside .before .loop in
-    let sized = inside .before .before in
-    let start = sized .before .before .before .before in
+    let start = c .before .before .before .before in
+    let p = start .pre in
     let a = start .args in
-    let e = one-block _ Component (a .first) (a .from) (a .to) (l .j) (start .pre .1 .1 .1) (l .inv .0) (inside .loop-test .taken) in
-    let q = c .before .is-named .ensures ∙ part-is (a .image .now) (inLetters (a .letters) (a .name .now)) (l .at) _ (l .j) (l .inv .1 .1 .0 ∙ e) (sized .size .ensures) in
-    loop-bad _ _ _ _ (inside .loop-test .taken) (l .inv .1 .1 .1) (rw (← q, c .if1 .taken))
-
-add-at : tie.Need-add-at Inv-loop μ-loop
-add-at c =
-    let inside = c .before .before .before in
-    let l = inside .before .loop in
-    let start = inside .before .before .before .before .before .before in
-    let a = start .args in
-    let e = one-block _ Component (a .first) (a .from) (a .to) (l .j) (start .pre .1 .1 .1) (l .inv .0) (inside .loop-test .taken) in
-    omega (arith, record-inside _ (start .pre .0) Component (l .j) (omega arith))
-
-add-j : tie.Need-add-j Inv-loop μ-loop
-add-j c = omega arith
-
-loop-less : tie.Need-loop-less Inv-loop μ-loop
-loop-less c = omega arith
-
-loop-again : tie.Need-loop-again Inv-loop μ-loop
-unfolding otherName
-loop-again c =
-    let inside = c .before .before .before in
-    let l = inside .before .loop in
-    let sized = inside .before .before in
-    let start = sized .before .before .before .before in
-    let a = start .args in
-    let e = one-block _ Component (a .first) (a .from) (a .to) (l .j) (start .pre .1 .1 .1) (l .inv .0) (inside .loop-test .taken) in
-    let q = c .before .is-named .ensures ∙ part-is (a .image .now) (inLetters (a .letters) (a .name .now)) (l .at) _ (l .j) (l .inv .1 .1 .0 ∙ e) (sized .size .ensures) in
-    (omega arith, (omega arith, (omega arith, loop-good _ _ _ _ (inside .loop-test .taken) (l .inv .1 .1 .1) (rw (← q, c .if1 .left)))))
-
-returns-2 : tie.Need-returns-2 Inv-loop μ-loop
-returns-2 c = loop-end _ _ _ _ (c .loop-test .left) (c .before .loop .inv .1 .1 .1)
+    let name = inLetters (a .letters) (a .name .now) in
+    let is = c .first-in-run .ensures
+    ∙ ap (λ (s : List ℕ). firstBad (runNamed s name) (length s / 40) 0) (taken (a .image .now) (a .first) (a .to - a .from)) in
+    ap (λ (n : ℕ). a .from + n) is ∙ run-named _ _ _ _ (p .0) (p .1 .0) (p .1 .1 .0) (p .1 .1 .1) name
 
 pub first-in-block-spec : {M : Type 1} → statement M
 first-in-block-spec =
     tie.close
     (tie.spec
-    Inv-loop
-    μ-loop
-    edition-of-requires
-    size-requires
-    loop-holds
-    add-is-named
-    sub-is-named
-    part-is-named-start
-    part-is-named-end
-    is-named-requires
-    returns
-    add-at
-    add-j
-    loop-less
-    loop-again
-    returns-2)
+    sub-end
+    mul-end
+    add-end
+    sub-first-in-run
+    part-first-in-run-start
+    part-first-in-run-end
+    first-in-run-requires
+    add-result
+    returns)

@@ -1,16 +1,15 @@
 use native.Mathlib.Omega.{arith}
-use Rattle.fields.proofs.Laws.{rest-taken}
+use Rattle.fields.proofs.NameBytes.{field-window}
 use Rattle.records.specs.Rules.{componentShape}
-use Rattle.records.proofs.Rooms.{component-room}
 use borrow.Author.Needs.{needs}
 use Rattle.records.proofs.components.shape_ok.Statement.{statement}
 use Rattle.records.proofs.components.shape_ok.Tie as tie
 
-by-edition-requires : tie.Need-by-edition-requires
-by-edition-requires c κs = search needs
-
 shared-slice-read-result : tie.Need-shared-slice-read-result
 shared-slice-read-result c = search needs
+
+shared-slice-read-name-ok : tie.Need-shared-slice-read-name-ok
+shared-slice-read-name-ok c = search needs
 
 sub-name-ok : tie.Need-sub-name-ok
 sub-name-ok c = search needs
@@ -33,45 +32,31 @@ parent-in-requires c κs = search needs
 parent-ok-requires : tie.Need-parent-ok-requires
 parent-ok-requires c κs = search needs
 
-sub-all-zero : tie.Need-sub-all-zero
-sub-all-zero c =
-    let ended = c .before .before .before .before .before .before in
-    omega (arith, ended .by-edition .ensures, component-room (ended .before .before .args .edition))
-
-part-all-zero-start : tie.Need-part-all-zero-start
-part-all-zero-start c =
-    let ended = c .before .before .before .before .before .before in
-    omega (arith, ended .by-edition .ensures, component-room (ended .before .before .args .edition))
-
-part-all-zero-end : tie.Need-part-all-zero-end
-part-all-zero-end c = search needs
-
-all-zero-requires : tie.Need-all-zero-requires
-all-zero-requires c κs = search needs
+rest-ok-requires : tie.Need-rest-ok-requires
+rest-ok-requires c κs = search needs
 
 returns : tie.Need-returns
 unfolding componentShape
 returns c =
-    let parent = c .before .before in
+    let parent = c .before in
     let numbered = parent .before .before in
-    let ended = numbered .before .before .before .before in
-    let start = ended .before .before in
+    let named = numbered .before in
+    let rec = named .before .before .before .before .before .args .rec .now in
     rw (
-      numbered .before .name-ok .ensures,
+      named .name-ok .ensures,
+      field-window rec 1 (omega arith),
       numbered .number2 .ensures .0,
       parent .parent-ok .ensures,
       parent .before .parent-in .ensures .0,
-      c .all-zero .ensures,
-      rest-taken (start .args .rec .now) (ended .by-edition .result),
-      ended .by-edition .ensures,
+      c .rest-ok .ensures,
     )
 
 pub shape-ok-spec : {M : Type 1} → statement M
 shape-ok-spec =
     tie.close
     (tie.spec
-    by-edition-requires
     shared-slice-read-result
+    shared-slice-read-name-ok
     sub-name-ok
     part-name-ok-start
     part-name-ok-end
@@ -79,8 +64,5 @@ shape-ok-spec =
     number2-requires
     parent-in-requires
     parent-ok-requires
-    sub-all-zero
-    part-all-zero-start
-    part-all-zero-end
-    all-zero-requires
+    rest-ok-requires
     returns)

@@ -1,7 +1,6 @@
 use native.Mathlib.Omega.{arith}
 use Rattle.records.specs.Rules.{labelShape}
 use Rattle.records.proofs.Rooms.{label-room}
-use Rattle.header.specs.Layout.{editionOf}
 use borrow.Author.Needs.{needs}
 use Rattle.records.proofs.labels.shape_ok.Statement.{statement}
 use Rattle.records.proofs.labels.shape_ok.Tie as tie
@@ -13,7 +12,7 @@ shared-slice-read-result : tie.Need-shared-slice-read-result
 shared-slice-read-result c = search needs
 
 cast-result : tie.Need-cast-result
-cast-result c = omega (arith, c .shared-slice-known3 .given 4)
+cast-result c = omega (arith, c .shared-slice-known2 .given 4)
 
 sub-all-zero : tie.Need-sub-all-zero
 sub-all-zero c = search needs
@@ -37,7 +36,7 @@ group-set-requires : tie.Need-group-set-requires
 group-set-requires c κs =
     let tagged = c .before .before .before .before .before .before in
     let start = tagged .before .before .before .before in
-    rw (start .pre .0 .edition) (omega (arith, start .pre .1 .0, label-room (editionOf (start .args .image .now))))
+    omega (arith, start .pre .1 .0, label-room (start .args .existing .counts .edition))
 
 within-requires-2 : tie.Need-within-requires-2
 within-requires-2 c κs = search needs
@@ -51,14 +50,12 @@ returns c =
     let exist = tagged .before .before .before .before .pre .0 in
     rw (
       tagged .number4 .ensures,
-      exist .levels,
       zeroed .all-zero .ensures,
       within .within .ensures,
       within .before .number8 .ensures,
       exist .compartments,
       c .within2 .ensures,
       c .before .group-set .ensures,
-      exist .edition,
       exist .groups,
     )
 

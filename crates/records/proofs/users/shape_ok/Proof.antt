@@ -1,21 +1,21 @@
-use mathlib.Core.Path.{ap, _∙_}
-use Rattle.records.specs.Fields.{userEnd}
+use mathlib.Core.Path.{_≡_, sym, ap, _∙_}
 use native.Mathlib.Omega.{arith}
-use Rattle.fields.proofs.Laws.{rest-taken}
+use borrow.Author.Tests.{not-true, not-false}
+use Rattle.fields.specs.Names.{nameRule}
+use Rattle.fields.proofs.NameBytes.{field-window}
+use Rattle.records.specs.Fields.{userNameField}
 use Rattle.records.specs.Rules.{userShape}
-use Rattle.header.proofs.Inside.{header-inside}
-use Rattle.records.proofs.Rooms.{user-room}
-use Rattle.header.specs.Layout.{editionOf}
-use Rattle.header.proofs.Editions.{counted-groups}
 use borrow.Author.Needs.{needs}
 use Rattle.records.proofs.users.shape_ok.Statement.{statement}
 use Rattle.records.proofs.users.shape_ok.Tie as tie
 
-edition-of-requires : tie.Need-edition-of-requires
-edition-of-requires c κs = header-inside _ (c .before .before .pre .0 .fitted)
+name-told : (c : tie.After-name-ok) → c .name-ok .result ≡ nameRule (userNameField (c .before .before .before .before .before .args .rec .now))
+name-told c =
+    let start = c .before .before .before .before .before in
+    c .name-ok .ensures ∙ ap nameRule (field-window (start .args .rec .now) 0 (omega (arith, start .pre .1 .1)))
 
-by-edition-requires : tie.Need-by-edition-requires
-by-edition-requires c κs = search needs
+shared-slice-read-name-ok : tie.Need-shared-slice-read-name-ok
+shared-slice-read-name-ok c = search needs
 
 sub-name-ok : tie.Need-sub-name-ok
 sub-name-ok c = search needs
@@ -29,10 +29,9 @@ part-name-ok-end c = search needs
 name-ok-requires : tie.Need-name-ok-requires
 name-ok-requires c κs = search needs
 
-profile-of-requires : tie.Need-profile-of-requires
-profile-of-requires c κs =
-    let named = c in
-    header-inside _ (named .before .before .before .before .before .before .pre .0 .fitted)
+returns : tie.Need-returns
+unfolding userShape
+returns c = rw (sym (name-told (c .before)) ∙ not-true _ (c .if1 .taken))
 
 shared-slice-read-privileges-ok : tie.Need-shared-slice-read-privileges-ok
 shared-slice-read-privileges-ok c = search needs
@@ -40,120 +39,98 @@ shared-slice-read-privileges-ok c = search needs
 privileges-ok-requires : tie.Need-privileges-ok-requires
 privileges-ok-requires c κs = search needs
 
-sub-all-zero : tie.Need-sub-all-zero
-sub-all-zero c = search needs
+returns-2 : tie.Need-returns-2
+unfolding userShape
+returns-2 c =
+    let named = c .before .before .before in
+    rw (sym (name-told (named .before)) ∙ not-false _ (named .if1 .left), sym (c .before .privileges-ok .ensures) ∙ not-true _ (c .if2 .taken))
 
-part-all-zero-start : tie.Need-part-all-zero-start
-part-all-zero-start c = search needs
+unused-ok-requires : tie.Need-unused-ok-requires
+unused-ok-requires c κs = search needs
 
-part-all-zero-end : tie.Need-part-all-zero-end
-part-all-zero-end c = search needs
-
-all-zero-requires : tie.Need-all-zero-requires
-all-zero-requires c κs = search needs
-
-sub-all-zero-2 : tie.Need-sub-all-zero-2
-sub-all-zero-2 c =
-    let ended = c .before .before .before .before .before .before .before in
-    let asked = ended .before in
-    let start = asked .before .before .before in
-    let end = ended .by-edition .ensures ∙ ap userEnd (asked .edition-of .ensures) in
-    omega (arith, start .pre .1 .0, user-room (editionOf (start .args .image .now)))
-
-part-all-zero-start-2 : tie.Need-part-all-zero-start-2
-part-all-zero-start-2 c =
-    let ended = c .before .before .before .before .before .before .before in
-    let asked = ended .before in
-    let start = asked .before .before .before in
-    let end = ended .by-edition .ensures ∙ ap userEnd (asked .edition-of .ensures) in
-    omega (arith, start .pre .1 .0, user-room (editionOf (start .args .image .now)))
-
-part-all-zero-end-2 : tie.Need-part-all-zero-end-2
-part-all-zero-end-2 c = search needs
-
-all-zero-requires-2 : tie.Need-all-zero-requires-2
-all-zero-requires-2 c κs = search needs
-
-levels-requires : tie.Need-levels-requires
-levels-requires c κs =
-    let named = c .before .before .before .before .before .before .before in
-    header-inside _ (named .before .before .before .before .before .before .pre .0 .fitted)
+returns-3 : tie.Need-returns-3
+unfolding userShape
+returns-3 c =
+    let held = c .before .before in
+    let named = held .before .before .before in
+    rw (
+      sym (name-told (named .before)) ∙ not-false _ (named .if1 .left),
+      sym (held .before .privileges-ok .ensures) ∙ not-false _ (held .if2 .left),
+      sym (c .before .unused-ok .ensures) ∙ not-true _ (c .if3 .taken),
+    )
 
 levels-ok-requires : tie.Need-levels-ok-requires
 levels-ok-requires c κs = search needs
 
-compartments-requires : tie.Need-compartments-requires
-compartments-requires c κs =
+returns-4 : tie.Need-returns-4
+unfolding userShape
+returns-4 c =
     let zeroed = c .before .before in
-    let named = zeroed .before .before .before .before .before .before .before in
-    header-inside _ (named .before .before .before .before .before .before .pre .0 .fitted)
+    let held = zeroed .before .before in
+    let named = held .before .before .before in
+    rw (
+      sym (name-told (named .before)) ∙ not-false _ (named .if1 .left),
+      sym (held .before .privileges-ok .ensures) ∙ not-false _ (held .if2 .left),
+      sym (zeroed .before .unused-ok .ensures) ∙ not-false _ (zeroed .if3 .left),
+      sym (c .before .levels-ok .ensures) ∙ not-true _ (c .if4 .taken),
+    )
 
 compartments-ok-requires : tie.Need-compartments-ok-requires
 compartments-ok-requires c κs = search needs
 
-groups-requires : tie.Need-groups-requires
-groups-requires c κs =
-    let zeroed = c .before .before .before .before in
-    let named = zeroed .before .before .before .before .before .before .before in
-    header-inside _ (named .before .before .before .before .before .before .pre .0 .fitted)
+returns-5 : tie.Need-returns-5
+unfolding userShape
+returns-5 c =
+    let levelled = c .before .before in
+    let zeroed = levelled .before .before in
+    let held = zeroed .before .before in
+    let named = held .before .before .before in
+    rw (
+      sym (name-told (named .before)) ∙ not-false _ (named .if1 .left),
+      sym (held .before .privileges-ok .ensures) ∙ not-false _ (held .if2 .left),
+      sym (zeroed .before .unused-ok .ensures) ∙ not-false _ (zeroed .if3 .left),
+      sym (levelled .before .levels-ok .ensures) ∙ not-false _ (levelled .if4 .left),
+      sym (c .before .compartments-ok .ensures) ∙ not-true _ (c .if5 .taken),
+    )
 
 groups-ok-requires : tie.Need-groups-ok-requires
-groups-ok-requires c κs =
-    let zeroed = c .before .before .before .before .before in
-    let named = zeroed .before .before .before .before .before .before .before in
-    let asked = named .before .before .before in
-    let start = asked .before .before .before in
-    (rw (asked .edition-of .ensures) (start .pre .1 .0), omega (arith, c .groups .ensures .0, counted-groups _ (start .pre .0)))
+groups-ok-requires c κs = search needs
 
-returns : tie.Need-returns
+returns-6 : tie.Need-returns-6
 unfolding userShape
-returns c =
-    let levelled = c .before .before .before .before in
+returns-6 c =
+    let grouped = c .before in
+    let levelled = grouped .before .before in
     let zeroed = levelled .before .before in
-    let named = zeroed .before .before .before .before .before .before .before in
-    let ended = named .before .before in
+    let held = zeroed .before .before in
+    let named = held .before .before .before in
     rw (
-      named .name-ok .ensures,
-      zeroed .before .before .before .before .privileges-ok .ensures,
-      zeroed .before .before .before .before .before .before .profile-of .ensures,
-      zeroed .before .before .all-zero .ensures,
-      zeroed .all-zero2 .ensures,
-      rest-taken (ended .before .before .before .before .args .rec .now) (ended .by-edition .result),
-      ended .by-edition .ensures,
-      levelled .levels-ok .ensures,
-      c .before .before .compartments-ok .ensures,
-      c .groups-ok .ensures,
-      levelled .before .levels .ensures .0,
-      c .before .before .before .compartments .ensures .0,
-      c .before .groups .ensures .0,
-      ended .before .edition-of .ensures,
+      sym (name-told (named .before)) ∙ not-false _ (named .if1 .left),
+      sym (held .before .privileges-ok .ensures) ∙ not-false _ (held .if2 .left),
+      sym (zeroed .before .unused-ok .ensures) ∙ not-false _ (zeroed .if3 .left),
+      sym (levelled .before .levels-ok .ensures) ∙ not-false _ (levelled .if4 .left),
+      sym (grouped .before .compartments-ok .ensures) ∙ not-false _ (grouped .if5 .left),
     )
+    (c .groups-ok .ensures)
 
 pub shape-ok-spec : {M : Type 1} → statement M
 shape-ok-spec =
     tie.close
     (tie.spec
-    edition-of-requires
-    by-edition-requires
+    shared-slice-read-name-ok
     sub-name-ok
     part-name-ok-start
     part-name-ok-end
     name-ok-requires
-    profile-of-requires
+    returns
     shared-slice-read-privileges-ok
     privileges-ok-requires
-    sub-all-zero
-    part-all-zero-start
-    part-all-zero-end
-    all-zero-requires
-    sub-all-zero-2
-    part-all-zero-start-2
-    part-all-zero-end-2
-    all-zero-requires-2
-    levels-requires
+    returns-2
+    unused-ok-requires
+    returns-3
     levels-ok-requires
-    compartments-requires
+    returns-4
     compartments-ok-requires
-    groups-requires
+    returns-5
     groups-ok-requires
-    returns)
+    returns-6)

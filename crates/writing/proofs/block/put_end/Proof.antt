@@ -37,6 +37,9 @@ cast-b c = omega (arith, found-bytes _ _ (c .before .before .sums .ensures) .1)
 slice-aggregate-put : tie.Need-slice-aggregate-put
 slice-aggregate-put c = search needs
 
+add-put : tie.Need-add-put
+add-put c = search needs
+
 put-requires : tie.Need-put-requires
 put-requires c κs =
     let summed = c .before .before .before .before in
@@ -70,6 +73,7 @@ put-end-spec =
     cast-a
     cast-b
     slice-aggregate-put
+    add-put
     put-requires
     same-length
     returns)
