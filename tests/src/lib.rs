@@ -1,5 +1,5 @@
 //! Tests of the compiled library against a second implementation, the model, which follows
-//! document 01 with requests of document 02 and shares no code with the library.
+//! document 01 with requests of document 02 and shares no code with the library.
 //!
 //! - `model`: the rules of an image, of label text, of sessions, of verdicts, of tables and of two
 //!   labels, as the document states them.
@@ -11,6 +11,7 @@
 //! - `tables`: calls on rows by seed, for comparing.
 //! - `maps`: calls that make maps and judge them by seed, for comparing.
 //! - `moving`: moves up to edition 2 by seed, for comparing.
+//! - `writing`: images written from records by seed, for comparing, and wrong writers, which have to be told.
 //! - `compaccess`: lists of the users who hold COMPACCESS, and images cleared of it, by seed, for comparing.
 //! - `hidden`: two tables with different hidden rows, and one sequence of calls on each, by seed.
 //! - `pairs`: two labels under a policy, sessions beside label records, and two labels with merge
@@ -44,3 +45,4 @@ pub mod tables;
 pub mod texts;
 pub mod vectors;
 pub mod walk;
+pub mod writing;

@@ -171,15 +171,22 @@ impl Policy {
     }
 }
 
-/// The policy's image. A policy that breaks a rule gives an image that breaks it.
-pub fn to_image(policy: &Policy) -> Vec<u8> {
+/// The policy's records: those of components, of labels and of users.
+pub fn to_records(policy: &Policy) -> [Vec<Vec<u8>>; 3] {
     let edition = policy.edition;
     let labels = policy.labels.iter().map(|it| label_record(edition, it));
     let users = policy.users.iter().map(|it| user_record(edition, it));
+    [component_records(policy), labels.collect(), users.collect()]
+}
+
+/// The policy's image. A policy that breaks a rule gives an image that breaks it.
+pub fn to_image(policy: &Policy) -> Vec<u8> {
+    let edition = policy.edition;
+    let shapes = [&COMPONENTS, edition.labels(), edition.users()];
     let mut image = header(policy);
-    pack(&mut image, &COMPONENTS, component_records(policy));
-    pack(&mut image, edition.labels(), labels.collect());
-    pack(&mut image, edition.users(), users.collect());
+    for (shape, records) in shapes.into_iter().zip(to_records(policy)) {
+        pack(&mut image, shape, records);
+    }
     for block in 0..image.len() / BLOCK {
         let place = (block as u16).to_le_bytes();
         image[block * BLOCK + 2..][..2].copy_from_slice(&place);

@@ -105,18 +105,21 @@ struct Source {
     rng: Rng,
 }
 
+/// Mostly small, often of several blocks of each kind, now and then up to all limits.
+pub fn policy(variant: Variant, rng: &mut Rng) -> Policy {
+    let sizes = match rng.index(150) {
+        0 => Sizes::any(variant, rng),
+        1 => Sizes::full(variant),
+        2..=11 => Sizes::medium(variant, rng),
+        12..=61 => Sizes::several_blocks(variant, rng),
+        _ => Sizes::small(variant, rng),
+    };
+    random(sizes, rng)
+}
+
 impl Source {
-    /// Mostly small, often of several blocks of each kind, now and then up to all limits.
     fn policy(&mut self) -> Policy {
-        let Source { variant, rng } = self;
-        let sizes = match rng.index(150) {
-            0 => Sizes::any(*variant, rng),
-            1 => Sizes::full(*variant),
-            2..=11 => Sizes::medium(*variant, rng),
-            12..=61 => Sizes::several_blocks(*variant, rng),
-            _ => Sizes::small(*variant, rng),
-        };
-        random(sizes, rng)
+        policy(self.variant, &mut self.rng)
     }
 
     /// Policies are tried until one has what the damage needs.

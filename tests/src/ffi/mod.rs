@@ -2,8 +2,10 @@
 
 mod answer;
 mod raw;
+mod writing;
 
 pub use answer::Answer;
+pub use writing::{records, write};
 
 use raw::*;
 

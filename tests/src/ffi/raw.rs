@@ -138,4 +138,34 @@ functions! {
         letters_length: usize,
         label: *mut u8,
     );
+    fn brawnesk_write(
+        edition: u8,
+        profile: u8,
+        components: *const u8,
+        components_length: usize,
+        labels: *const u8,
+        labels_length: usize,
+        users: *const u8,
+        users_length: usize,
+        out: *mut u8,
+        out_length: usize,
+    );
+    fn brawnesk_component_records(
+        image: *const u8,
+        length: usize,
+        out: *mut u8,
+        out_length: usize,
+    );
+    fn brawnesk_label_records(
+        image: *const u8,
+        length: usize,
+        out: *mut u8,
+        out_length: usize,
+    );
+    fn brawnesk_user_records(
+        image: *const u8,
+        length: usize,
+        out: *mut u8,
+        out_length: usize,
+    );
 }

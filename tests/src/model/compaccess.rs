@@ -1,7 +1,7 @@
 //! Request R-12: the users of an image of edition 1 who hold COMPACCESS, and the image without it.
 
 use super::layout::{Image, BLOCK};
-use super::{of_edition_1, sums, Refusal};
+use super::{fitting, of_edition_1, sums, Refusal};
 
 /// The byte of a user's record that holds the privileges, and the bit of COMPACCESS there.
 const PRIVILEGES: usize = 31;
@@ -35,12 +35,4 @@ pub fn clear_compaccess(image: &[u8], room: usize) -> Result<Vec<u8>, Refusal> {
 pub fn holders(image: &Image) -> Vec<usize> {
     let holds = |&place: &usize| image.user(place)[PRIVILEGES] & COMPACCESS != 0;
     (0..image.counts.users().count).filter(holds).collect()
-}
-
-/// 13 goes by the length of what would be written.
-fn fitting(bytes: Vec<u8>, room: usize) -> Result<Vec<u8>, Refusal> {
-    match bytes.len() > room {
-        true => Err(Refusal::Room),
-        false => Ok(bytes),
-    }
 }

@@ -1,7 +1,8 @@
 //! All faults of an image that neither 1 nor 2 refuses, each with a key in the order of request
 //! The image is refused with the fault of the lowest key, wherever it was found.
 
-use super::layout::{Image, Kind, Run};
+use super::counts::{Kind, Run};
+use super::layout::Image;
 use super::{groups, records, Refusal};
 
 /// A broken rule, and where.

@@ -1,14 +1,17 @@
 //! The rules of a policy image, of label text, of sessions, of verdicts, of tables, of two labels
 //! and of the report, written from document 01 section by section, and from the requests of document
-//! 02: R-2 for what a faulty image is refused with, R-3 for dominance, R-4 for maps, R-10 for the release profile,
-//! R-11 for edition 2 and the move up to it, R-12 for the users who hold COMPACCESS. There is little thought for
-//! speed, and nothing here is shared with the library or with the builder of images.
+//! 02: R-1 for images written from records and taken apart, R-2 for what a faulty image is refused with, R-3 for
+//! dominance, R-4 for maps, R-10 for the release profile, R-11 for edition 2 and the move up to it, R-12 for the
+//! users who hold COMPACCESS. There is little thought for speed, and nothing here is shared with the library or
+//! with the builder of images.
 
 mod compaccess;
+mod counts;
 mod edition;
 mod faults;
 mod groups;
 mod label;
+mod lay_out;
 mod layout;
 mod map;
 mod move_up;
@@ -23,11 +26,13 @@ mod text;
 mod two_labels;
 mod user;
 mod verdict;
+mod write;
 
 pub use compaccess::{clear_compaccess, compaccess_users};
+pub use counts::Kind;
 pub use faults::{faults, first_fault, Fault, Key};
 pub use label::Label;
-pub use layout::{Image, Kind};
+pub use layout::Image;
 pub use map::{judge_map, map, read_mapped};
 pub use move_up::move_up;
 pub use places::Places;
@@ -38,6 +43,7 @@ pub use table::{masked, read, update, Masked};
 pub use text::{parse, print, print_within};
 pub use two_labels::{dominates, merge, strictly_dominates};
 pub use verdict::{may_read, may_read_at_maximum, may_write};
+pub use write::{laid_out, records_of, write, write_faults, Lent, WriteFault};
 
 use layout::BLOCK;
 
@@ -77,6 +83,14 @@ fn of_edition_1(image: &[u8]) -> Result<Image<'_>, Refusal> {
         return Err(Refusal::Layout);
     }
     accepted(image)
+}
+
+/// What a call writes to a buffer of `room` bytes; 13 goes by the length of what would be written.
+fn fitting(bytes: Vec<u8>, room: usize) -> Result<Vec<u8>, Refusal> {
+    match bytes.len() > room {
+        true => Err(Refusal::Room),
+        false => Ok(bytes),
+    }
 }
 
 /// Where the name of a component stands in the image: its offset and length.

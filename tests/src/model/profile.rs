@@ -19,6 +19,14 @@ impl Profile {
         }
     }
 
+    /// Byte 12 of the header.
+    pub fn number(self) -> u8 {
+        match self {
+            Profile::Tree => 0,
+            Profile::Release => 1,
+        }
+    }
+
     /// The privilege bits that a user may hold: "COMPACCESS must be absent."
     pub fn privileges(self) -> u8 {
         match self {

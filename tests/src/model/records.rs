@@ -1,7 +1,8 @@
 //! The rules of records: those that a record keeps by itself, and those between two of them.
 
+use super::counts::Kind;
 use super::groups::below;
-use super::layout::{set_at, sets_at, u16_at, u32_at, Image, Kind, COMPARTMENT_SET};
+use super::layout::{set_at, sets_at, u16_at, u32_at, Image, COMPARTMENT_SET};
 use super::places::Places;
 use super::profile::Profile;
 

@@ -1,6 +1,6 @@
 //! The numbers that calls refuse with.
 
-use super::layout::Kind;
+use super::counts::Kind;
 
 /// What the calls refuse, with the values that belong to the number.
 #[derive(Clone, Copy, Debug, PartialEq, Eq)]
@@ -10,7 +10,9 @@ pub enum Refusal {
     /// 2: a block's check or place is wrong; the lowest such block.
     Block(usize),
     /// 31: the header, a length unfit for its counts, or a block's kind, record count or bytes
-    /// outside records; and any image of edition 2 in a move up, and in what R-12 asks of edition 1.
+    /// outside records; and any image of edition 2 in a move up, and in what R-12 asks of edition 1. Of records
+    /// to be written: an unknown edition or profile, a length that isn't whole records, or a count outside its
+    /// limits.
     Layout,
     /// 32, 33, 34: a component, a label or a user is at fault; its block, and its place there.
     Record {
@@ -18,6 +20,8 @@ pub enum Refusal {
         block: usize,
         record: usize,
     },
+    /// 32, 33, 34 of records to be written: its place in what was lent.
+    Lent { kind: Kind, place: usize },
     /// 35: a ring of parents; the lowest group whose parents never end.
     Ring(usize),
     /// 4: no user of that name.
@@ -67,7 +71,7 @@ impl Refusal {
             Refusal::Length => 1,
             Refusal::Block(_) => 2,
             Refusal::Layout => 31,
-            Refusal::Record { kind, .. } => match kind {
+            Refusal::Record { kind, .. } | Refusal::Lent { kind, .. } => match kind {
                 Kind::Component => 32,
                 Kind::Label => 33,
                 Kind::User => 34,
@@ -100,6 +104,7 @@ impl Refusal {
         match self {
             Refusal::Block(block) => block,
             Refusal::Record { block, record, .. } => block * 65_536 + record,
+            Refusal::Lent { place, .. } => place,
             Refusal::Ring(group) => group,
             Refusal::NameUnknown(offset) | Refusal::NameRepeated(offset) => offset,
             Refusal::Holders(count) => count,
