@@ -7,7 +7,7 @@
 #include <string.h>
 
 /* One byte more than the longest image: a longer file is refused 1. */
-static uint8_t image[65537];
+static uint8_t image[BRAWNESK_IMAGE + 1];
 static size_t length;
 
 /* Rows of 8 bytes: a tag of 4 bytes and a text of 4. */
@@ -50,12 +50,12 @@ static void wrong_byte(void) {
 }
 
 static void name(void) {
-    uint64_t answer = brawnesk_name(image, length, 3, 2);
+    uint64_t answer = brawnesk_name(image, length, BRAWNESK_CLASS_GROUP, 2);
     if (!brawnesk_refused(answer)) {
         const char *name = (const char *)image + answer % 65536;
         printf("name: %.*s\n", (int)(answer / 65536), name);
     }
-    tell("name", brawnesk_name(image, length, 3, 4));
+    tell("name", brawnesk_name(image, length, BRAWNESK_CLASS_GROUP, 4));
 }
 
 /* The label of a text that the sample image knows. */
@@ -70,7 +70,7 @@ static void parse(const char *text, uint8_t *label) {
 static void unknown_name(void) {
     uint8_t label[BRAWNESK_LABEL];
     uint64_t answer = brawnesk_parse(image, length, (const uint8_t *)"CREW:KILN:QUAY", 14, label);
-    if (brawnesk_refused(answer) && brawnesk_number(answer) == 6)
+    if (brawnesk_refused(answer) && brawnesk_number(answer) == BRAWNESK_UNKNOWN_NAME)
         printf("parse: unknown name at %u\n", (unsigned)brawnesk_place(answer));
 }
 
@@ -88,7 +88,7 @@ static void small_letters(void) {
     if (!brawnesk_refused(answer))
         print("parse", label);
     answer = brawnesk_parse(image, length, (const uint8_t *)"crew:KILN,kiln", 14, label);
-    if (brawnesk_refused(answer) && brawnesk_number(answer) == 7)
+    if (brawnesk_refused(answer) && brawnesk_number(answer) == BRAWNESK_REPEATED_NAME)
         printf("parse: repeated name at %u\n", (unsigned)brawnesk_place(answer));
 }
 
@@ -177,8 +177,8 @@ static void set_row_label(uint8_t *session) {
 
 /* Before a move up: who holds COMPACCESS, which edition 2 does not have, and the image without it. In the sample nobody holds it. */
 static void compaccess(void) {
-    static uint8_t cleared[65536];
-    uint8_t users[96];
+    static uint8_t cleared[BRAWNESK_IMAGE];
+    uint8_t users[BRAWNESK_USERS_1];
     uint64_t count = brawnesk_compaccess_users(image, length, users, sizeof users);
     tell("compaccess_users", count);
     if (!brawnesk_refused(count))
@@ -190,8 +190,8 @@ static void compaccess(void) {
 
 /* The sample in edition 2; MARA's session goes on under it. */
 static void move_up(const uint8_t *session) {
-    static uint8_t moved[56832];
-    uint8_t other[512];
+    static uint8_t moved[BRAWNESK_MOVED];
+    uint8_t other[BRAWNESK_BLOCK];
     uint64_t answer = brawnesk_move_up(image, length, moved, sizeof moved);
     tell("move_up", answer);
     if (brawnesk_refused(answer))
@@ -200,6 +200,27 @@ static void move_up(const uint8_t *session) {
     tell("move_up", brawnesk_move_up(moved, answer, other, sizeof other));
     tell("compaccess_users", brawnesk_compaccess_users(moved, answer, other, sizeof other));
     tell("move_up", brawnesk_move_up(image, length, other, sizeof other));
+}
+
+/* The sample taken apart, and written again: the same bytes. Then with a level that the second label can't have, and in an edition that there
+ * is not. */
+static void records(void) {
+    static uint8_t components[65536], labels[65536], users[65536], written[65536];
+    uint64_t c = brawnesk_component_records(image, length, components, sizeof components);
+    uint64_t l = brawnesk_label_records(image, length, labels, sizeof labels);
+    uint64_t u = brawnesk_user_records(image, length, users, sizeof users);
+    if (brawnesk_refused(c) || brawnesk_refused(l) || brawnesk_refused(u))
+        return;
+    printf("records: components %u, labels %u, users %u\n", (unsigned)c / 40, (unsigned)l / 24, (unsigned)u / 128);
+    tell("user_records", brawnesk_user_records(image, length, written, 127));
+    uint64_t answer = brawnesk_write(1, 0, components, c, labels, l, users, u, written, sizeof written);
+    if (!brawnesk_refused(answer) && answer == length && memcmp(written, image, length) == 0)
+        puts("write: the same image");
+    labels[24 + 4] = 3;
+    answer = brawnesk_write(1, 0, components, c, labels, l, users, u, written, sizeof written);
+    if (brawnesk_refused(answer) && brawnesk_number(answer) == BRAWNESK_LABEL_RECORD)
+        printf("write: refused 33 at record %u\n", (unsigned)brawnesk_place(answer));
+    tell("write", brawnesk_write(3, 0, components, c, labels, l, users, u, written, sizeof written));
 }
 
 static void sessions(void) {
@@ -264,5 +285,6 @@ int main(int argc, char **argv) {
     sessions();
     dominance();
     merge();
+    records();
     return 0;
 }

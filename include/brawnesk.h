@@ -2,13 +2,14 @@
  *
  * Every function answers one 64-bit number. Below 2^63 the call is done and the number is its value. Otherwise it is refused:
  * 2^63 + number * 2^32 + place, where number is the refusal and place what it names: a block (refusal 2), an offset (6 and 7), a record as
- * block * 65,536 + its place in the block (32 to 34) or a group (35), each from 0; how many users (36); 0 for every other refusal. A refusal
- * changes no lent byte. The refusals are listed, and an answer is taken apart, at the end of this header.
+ * block * 65,536 + its place in the block (32 to 34; of brawnesk_write its place among those lent) or a group (35), each from 0; how many
+ * users (36); 0 for every other refusal. A refusal changes no lent byte. The refusals are listed, and an answer is taken apart, at the end of
+ * this header.
  *
  * Lending. What a call writes overlaps nothing else that is lent to it; parts that are only read may overlap each other. Nobody changes
  * what is lent during the call. A slice's length is below 2^63. A pointer to an empty slice may not be null. A buffer that a call only
- * writes (label out, session out, text out, rows out, map out, image out, users out) may be uninitialised: a call that is done writes what
- * it reports and reads none of it.
+ * writes (label out, session out, text out, rows out, map out, image out, users out, records out) may be uninitialised: a call that is done
+ * writes what it reports, and reads no byte of it before it has written it.
  *
  * Editions. Every call that is lent an image takes edition 1 and edition 2; only brawnesk_move_up, which makes 2 of 1, and the two calls on
  * COMPACCESS before it refuse edition 2. An image of edition 1 has up to 64 groups, 1,680 labels and 96 users, one of edition 2 up to 256
@@ -27,6 +28,32 @@
 extern "C" {
 #endif
 
+/* The version of this header and of its archive. MINOR rises where calls or names are added, MAJOR where programs have to be changed or compiled
+ * again. */
+#define BRAWNESK_VERSION_MAJOR 0
+#define BRAWNESK_VERSION_MINOR 1
+
+/* Limits: how many there may be at most, or how many bytes. A name that ends in _1 or _2 is for that edition alone. */
+enum { BRAWNESK_BLOCK = 512, BRAWNESK_BLOCKS = 128 }; /* bytes of a block; blocks of an image: the longest that is accepted has 127 */
+enum { BRAWNESK_IMAGE = 65536, BRAWNESK_MOVED = 56832 }; /* bytes of any image, and of one that a move up writes */
+enum { BRAWNESK_LEVELS = 32, BRAWNESK_COMPARTMENTS = 64, BRAWNESK_GROUPS_1 = 64, BRAWNESK_GROUPS_2 = 256 };
+enum { BRAWNESK_LABELS_1 = 1680, BRAWNESK_LABELS_2 = 800, BRAWNESK_USERS_1 = 96, BRAWNESK_USERS_2 = 32 };
+enum { BRAWNESK_NAME = 30, BRAWNESK_NUMERIC_FORM = 9999 }; /* bytes of a component's or a user's name; a component's numeric form */
+enum { BRAWNESK_ROW_MIN = 5, BRAWNESK_ROW_MAX = 512 }; /* bytes of a row, its tag among them */
+enum { BRAWNESK_TAG = 4, BRAWNESK_TAG_MAX = 99999999 }; /* bytes of a tag; the highest that a label can carry */
+
+/* Records: bytes of one, and how many a full block holds. */
+enum { BRAWNESK_COMPONENT_SIZE = 40, BRAWNESK_COMPONENTS_IN_BLOCK = 12 };
+enum { BRAWNESK_LABEL_SIZE_1 = 24, BRAWNESK_LABEL_SIZE_2 = 48, BRAWNESK_LABELS_IN_BLOCK_1 = 21, BRAWNESK_LABELS_IN_BLOCK_2 = 10 };
+enum { BRAWNESK_USER_SIZE_1 = 128, BRAWNESK_USER_SIZE_2 = 200, BRAWNESK_USERS_IN_BLOCK_1 = 3, BRAWNESK_USERS_IN_BLOCK_2 = 2 };
+
+/* Names of numbers in an image: the kind of a block, the class of a component, the profile, and the bits of a user's privileges. */
+enum { BRAWNESK_KIND_HEADER = 80, BRAWNESK_KIND_COMPONENTS = 67, BRAWNESK_KIND_LABELS = 76, BRAWNESK_KIND_USERS = 85 };
+enum { BRAWNESK_CLASS_LEVEL = 1, BRAWNESK_CLASS_COMPARTMENT = 2, BRAWNESK_CLASS_GROUP = 3 };
+enum { BRAWNESK_PROFILE_PARENTS = 0, BRAWNESK_PROFILE_RELEASE = 1 };
+enum { BRAWNESK_PRIVILEGE_READ = 1, BRAWNESK_PRIVILEGE_FULL = 2, BRAWNESK_PRIVILEGE_COMPACCESS = 4, BRAWNESK_PRIVILEGE_PROFILE_ACCESS = 8 };
+enum { BRAWNESK_PRIVILEGE_WRITEUP = 16, BRAWNESK_PRIVILEGE_WRITEDOWN = 32, BRAWNESK_PRIVILEGE_WRITEACROSS = 64 };
+
 /* Is the policy image accepted? Done: 0. Refusals: 1 length, 2 check or place of a block (the lowest such block), then 31 to 35:
  * 31 the header, a length unfit for its counts, or a block's kind, record count or bytes outside records; 32 a component record, 33 a
  * label record, 34 a user record (its block, and its place there); 35 the parents of a group never end (the lowest such group).
@@ -34,7 +61,7 @@ extern "C" {
  * 35 comes after all these; the rules that a user's groups lie below others, or contain others in a release image, come last, as 34. */
 uint64_t brawnesk_check(const uint8_t *image, size_t image_length);
 
-/* Where the name of a component stands: class 1 level, 2 compartment, 3 group; place counts from 0 in its class, for groups up to 255.
+/* Where the name of a component stands: its class is one of BRAWNESK_CLASS_*; its place counts from 0 in its class, for groups up to 255.
  * Done: its offset in the image + 65,536 * its length. Refusals: 1, 2, 31 to 35, 18 no such component. */
 uint64_t brawnesk_name(const uint8_t *image, size_t image_length, uint8_t component_class, uint8_t place);
 
@@ -43,9 +70,9 @@ uint64_t brawnesk_name(const uint8_t *image, size_t image_length, uint8_t compon
  * that the policy lacks is refused, 18 or inside a session 19, and merging, which is lent no image, loses none. */
 enum { BRAWNESK_LABEL = 48 };
 
-/* The longest text of a label that is read under an image of edition 2; under edition 1 it is 4,096. A text that is printed is shorter: a
- * buffer of that length is always enough. */
-enum { BRAWNESK_TEXT = 10000 };
+/* The longest text of a label that is read under an image of edition 2, and of edition 1. A text that is printed is shorter: a buffer of
+ * BRAWNESK_TEXT bytes is always enough. */
+enum { BRAWNESK_TEXT = 10000, BRAWNESK_TEXT_1 = 4096 };
 
 /* The label that a text names: LEVEL, LEVEL:list, LEVEL:list:list or LEVEL::list. Names have A..Z, a..z, 0..9 and underscore. Small letters
  * in a label's text are taken as capitals, so that kiln after KILN is a repeat; those of a user's name are not. Done: 0, and the label's 48
@@ -80,7 +107,7 @@ uint64_t brawnesk_set_row_label(const uint8_t *image, size_t image_length, uint8
 uint64_t brawnesk_may_read(const uint8_t *image, size_t image_length, const uint8_t *session, uint32_t tag);
 uint64_t brawnesk_may_write(const uint8_t *image, size_t image_length, const uint8_t *session, uint32_t tag);
 
-/* A table is a run of rows of one width, 5 to 512 bytes: the tag in 4 bytes, little-endian, and then the payload. */
+/* A table is a run of rows of one width, BRAWNESK_ROW_MIN to BRAWNESK_ROW_MAX bytes: the tag in 4 bytes, little-endian, and then the payload. */
 
 /* Copies the rows that the session may read, whole and in order, to the front of the buffer; later bytes stay. Done: how many rows.
  * Refusals: 1, 2, 31 to 35, 19, 12 the width is not 5 to 512 or the table's length no multiple of it, 13 the rows are longer than
@@ -132,8 +159,8 @@ uint64_t brawnesk_strictly_dominates(const uint8_t *image, size_t image_length, 
 uint64_t brawnesk_merge(const uint8_t *label1, const uint8_t *label2, const uint8_t *letters, size_t letters_length, uint8_t *merged);
 
 /* The users of an image of edition 1 who hold COMPACCESS: their places, one byte each, rising, at the front of the buffer; later bytes
- * stay. 96 bytes are always enough. Done: how many, 0 for a release image. Refusals: 1, 2, 31 an image of edition 2, 31 to 35, 13 they are
- * more than the buffer has bytes. */
+ * stay. BRAWNESK_USERS_1 bytes are always enough. Done: how many, 0 for a release image. Refusals: 1, 2, 31 an image of edition 2, 31 to 35,
+ * 13 they are more than the buffer has bytes. */
 uint64_t brawnesk_compaccess_users(const uint8_t *image, size_t image_length, uint8_t *out, size_t out_length);
 
 /* An image of edition 1 with COMPACCESS taken from the users who hold it, at the front of the buffer; later bytes stay. Nothing else in it
@@ -144,9 +171,31 @@ uint64_t brawnesk_clear_compaccess(const uint8_t *image, size_t image_length, ui
 
 /* An image of edition 1 in the layouts of edition 2, at the front of the buffer; later bytes stay. The new image is accepted and has the
  * same profile, components, labels and users, each at the same place. Sessions and labels go on under it, and their verdicts on tags that
- * labels carry are the same. Done: its length, at most 56,832. Refusals: 1, 2, 31 an image of edition 2, 31 to 35, 37 over 800 labels or 32
+ * labels carry are the same. Done: its length, at most BRAWNESK_MOVED. Refusals: 1, 2, 31 an image of edition 2, 31 to 35, 37 over 800 labels or 32
  * users, 36 COMPACCESS is held (by how many users), 13 the new image is longer than the buffer. */
 uint64_t brawnesk_move_up(const uint8_t *image, size_t image_length, uint8_t *out, size_t out_length);
+
+/* Records are lent and handed out one after another, without blocks, each in the bytes that it has in an image: 40 for a component; 24 for a
+ * label and 128 for a user in edition 1, 48 and 200 in edition 2. docs/IMAGE.md has the layouts and the rules. An accepted image taken apart
+ * and written again, with its edition and its profile, is the same bytes. What is written is accepted, and taken apart it gives the records
+ * that were lent. */
+
+/* The image of these records, at the front of the buffer; later bytes stay. 65,536 bytes are always enough. Components stand in the order
+ * levels, compartments, groups, and there are as many of each as records whose byte 0 is 1, 2 or 3. Done: its length.
+ * Refusals: 31 an edition but 1 and 2, a profile but 0 and 1, a length that is not whole records, or a count outside its limits; then 32 a
+ * component record, 33 a label record, 34 a user record: brawnesk_place tells its place in its slice, without a block; 35 the parents of a
+ * group never end (the lowest such group); 13 the image is longer than the buffer. 31 comes before any record is looked at; components come
+ * before labels and labels before users, and among those of a kind the lowest decides; of two records that clash the later is at fault. A
+ * component whose class is none, or is not the one that the counts put at its place, is at fault itself, however many there are. 35 comes
+ * after all these; the rules that a user's groups lie below others, or contain others in profile 1, come after it, as 34. */
+uint64_t brawnesk_write(uint8_t edition, uint8_t profile, const uint8_t *components, size_t components_length, const uint8_t *labels,
+                        size_t labels_length, const uint8_t *users, size_t users_length, uint8_t *out, size_t out_length);
+
+/* The records of an image of one kind, in their order, at the front of the buffer; later bytes stay. A buffer of the image's length is always
+ * enough. Done: their length, 0 where there are none. Refusals: 1, 2, 31 to 35, 13 they are longer than the buffer. */
+uint64_t brawnesk_component_records(const uint8_t *image, size_t image_length, uint8_t *out, size_t out_length);
+uint64_t brawnesk_label_records(const uint8_t *image, size_t image_length, uint8_t *out, size_t out_length);
+uint64_t brawnesk_user_records(const uint8_t *image, size_t image_length, uint8_t *out, size_t out_length);
 
 /* The refusals: number, name, and what is wrong in words. The enum and brawnesk_message are made of this list. */
 #define BRAWNESK_REFUSALS(REFUSAL) \
@@ -170,7 +219,8 @@ uint64_t brawnesk_move_up(const uint8_t *image, size_t image_length, uint8_t *ou
     REFUSAL(18, BRAWNESK_NO_COMPONENT, "the policy lacks a level, compartment or group that the call names") \
     REFUSAL(19, BRAWNESK_SESSION_RULES, "the session breaks its rules for this image") \
     REFUSAL(20, BRAWNESK_WRONG_MAP, "the map is not that of this image and session") \
-    REFUSAL(31, BRAWNESK_IMAGE_LAYOUT, "the header, the length for its counts, or a block's kind, record count or bytes outside records are wrong") \
+    REFUSAL(31, BRAWNESK_IMAGE_LAYOUT, \
+            "the header, the length, a block's kind, record count or bytes outside records, or lent records' edition, profile, lengths or counts are wrong") \
     REFUSAL(32, BRAWNESK_COMPONENT_RECORD, \
             "the component's class, name, numeric form, parent or unused bytes are wrong, its name repeats, or its numeric form does not rise") \
     REFUSAL(33, BRAWNESK_LABEL_RECORD, "the label's tag, level, compartments, groups or unused bytes are wrong, or its tag does not rise") \
@@ -189,7 +239,8 @@ static inline int brawnesk_refused(uint64_t answer) { return answer >> 63 != 0; 
 static inline unsigned brawnesk_number(uint64_t answer) { return (unsigned)(answer >> 32 & 0x7fffffff); }
 static inline uint32_t brawnesk_place(uint64_t answer) { return (uint32_t)answer; }
 
-/* The record that 32, 33 or 34 names: its block, and its place in the block, both from 0. Ask for them of no other number. */
+/* The record of an image that 32, 33 or 34 names: its block, and its place in the block, both from 0. Ask for them of no other number, and of
+ * brawnesk_write for brawnesk_place: what it is lent has no blocks. */
 static inline uint32_t brawnesk_block(uint64_t answer) { return brawnesk_place(answer) / 65536; }
 static inline uint32_t brawnesk_record(uint64_t answer) { return brawnesk_place(answer) % 65536; }
 

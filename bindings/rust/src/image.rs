@@ -2,35 +2,40 @@
 //! taken from its users, and the move up.
 
 use crate::raw;
-use crate::{decode, Label, Refusal, Session, LABEL, SESSION};
+use crate::{decode, Class, Label, Refusal, Session, LABEL, SESSION};
+use core::fmt::{self, Debug, Formatter};
 
-/// The longest text of a label that is read under an image of edition 2; under edition 1 it is 4,096. A
-/// text that is printed is shorter: a buffer of that length is always enough.
-pub const TEXT: usize = 10_000;
-
-/// The bytes of a policy image, borrowed. They need not have been checked: each call checks them.
-#[derive(Clone, Copy, Debug, PartialEq, Eq)]
+/// The bytes of a policy image, borrowed. They need not have been checked: each call checks them. `Debug` shows
+/// their length.
+///
+/// ```
+/// # use brawnesk::Image;
+/// let bytes = std::fs::read("../../sample/cooperative.img")?;
+/// let image = Image::new(&bytes);
+/// assert!(image.check().is_ok());
+/// assert_eq!(format!("{image:?}"), "Image(2048 bytes)");
+/// # Ok::<(), std::io::Error>(())
+/// ```
+#[derive(Clone, Copy, PartialEq, Eq)]
 pub struct Image<'a>(&'a [u8]);
-
-/// A class of components.
-#[derive(Clone, Copy, Debug, PartialEq, Eq)]
-#[repr(u8)]
-pub enum Class {
-    /// Class 1.
-    Level = 1,
-    /// Class 2.
-    Compartment = 2,
-    /// Class 3.
-    Group = 3,
-}
 
 impl<'a> Image<'a> {
     /// An image of these bytes, whatever they are.
+    ///
+    /// ```
+    /// # use brawnesk::{Image, Refusal};
+    /// assert_eq!(Image::new(b"no image").check(), Err(Refusal::ImageLength));
+    /// ```
     pub const fn new(bytes: &'a [u8]) -> Image<'a> {
         Image(bytes)
     }
 
     /// The bytes.
+    ///
+    /// ```
+    /// # use brawnesk::Image;
+    /// assert_eq!(Image::new(&[1, 2, 3]).bytes(), [1, 2, 3]);
+    /// ```
     pub const fn bytes(self) -> &'a [u8] {
         self.0
     }
@@ -108,7 +113,7 @@ impl<'a> Image<'a> {
     }
 
     /// A label's text, at the front of the buffer, with names as the image has them, in capitals; later
-    /// bytes stay. [`TEXT`] bytes are always enough. Refusals: 1, 2, 31 to 35, 18 the policy lacks what the
+    /// bytes stay. [`TEXT`](crate::TEXT) bytes are always enough. Refusals: 1, 2, 31 to 35, 18 the policy lacks what the
     /// label names, 13 the text is longer than the buffer.
     ///
     /// ```
@@ -224,7 +229,14 @@ impl<'a> Image<'a> {
     }
 }
 
+/// As `Image(2048 bytes)`.
+impl Debug for Image<'_> {
+    fn fmt(&self, formatter: &mut Formatter) -> fmt::Result {
+        write!(formatter, "Image({} bytes)", self.0.len())
+    }
+}
+
 /// A name, or a label's text: both are ASCII in an accepted image.
-fn text(bytes: &[u8]) -> &str {
-    std::str::from_utf8(bytes).expect("the names of an accepted image are ASCII")
+pub(crate) fn text(bytes: &[u8]) -> &str {
+    core::str::from_utf8(bytes).expect("the names of an accepted image are ASCII")
 }

@@ -4,6 +4,13 @@ use crate::raw;
 use crate::{decode, Image, Refusal};
 
 /// The bytes of a label.
+///
+/// ```
+/// # use brawnesk::{Image, LABEL};
+/// # let bytes = std::fs::read("../../sample/cooperative.img")?;
+/// assert_eq!(Image::new(&bytes).parse("OPEN")?.0, [0; LABEL]); // level 0, and no places
+/// # Ok::<(), Box<dyn std::error::Error>>(())
+/// ```
 pub const LABEL: usize = 48;
 
 /// A label in its bytes: byte 4 the level's place; 8..15 the compartments and 16..47 the groups, as
@@ -12,8 +19,16 @@ pub const LABEL: usize = 48;
 /// 18 or inside a session 19, and merging, which is lent no image, loses none.
 ///
 /// Places are those of one image, and of that image moved up. Labels of two other images cannot be
-/// compared.
-#[derive(Clone, Copy, Debug, PartialEq, Eq)]
+/// compared. `Debug` shows places, and [`Label::shown`] the text too.
+///
+/// ```
+/// # use brawnesk::Image;
+/// # let bytes = std::fs::read("../../sample/cooperative.img")?;
+/// let label = Image::new(&bytes).parse("CREW:KILN,GLAZE:NORTH")?;
+/// assert_eq!(format!("{label:?}"), "Label { level: 1, compartments: {0, 1}, groups: {1} }");
+/// # Ok::<(), Box<dyn std::error::Error>>(())
+/// ```
+#[derive(Clone, Copy, PartialEq, Eq)]
 pub struct Label(pub [u8; LABEL]);
 
 impl Label {

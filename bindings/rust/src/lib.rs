@@ -1,6 +1,7 @@
 //! Brawnesk: may this session read or write a row of a shared store?
 //!
-//! Safe calls of the proved C functions, one method for each. A call borrows bytes, and keeps none.
+//! Safe calls of the proved C functions, one method for each. A call borrows bytes, and keeps none. The crate is
+//! `no_std` and has no heap; what it links needs `memset`.
 //!
 //! | C function | here |
 //! |---|---|
@@ -15,7 +16,11 @@
 //! | `brawnesk_merge` | [`Label::merge`] |
 //! | `brawnesk_compaccess_users`, `brawnesk_clear_compaccess` | [`Image::compaccess_users`], [`Image::clear_compaccess`] |
 //! | `brawnesk_move_up` | [`Image::move_up`] |
+//! | `brawnesk_write` | [`write()`] |
+//! | `brawnesk_component_records`, `brawnesk_label_records`, `brawnesk_user_records` | [`Image::component_records`], [`Image::label_records`], [`Image::user_records`] |
 //! | the inline functions that take an answer apart | [`decode`], [`Refusal::number`], [`Refusal::place`], [`Refusal::message`] |
+//! | `BRAWNESK_KIND_*`, `BRAWNESK_CLASS_*`, `BRAWNESK_PROFILE_*`, `BRAWNESK_PRIVILEGE_*` | [`Kind`], [`Class`], [`Profile`], [`Privilege`] |
+//! | the other constants, as `BRAWNESK_TEXT` | those of the same name, as [`TEXT`] |
 //!
 //! **Refusals.** A call that can be refused gives a [`Refusal`]: its number, what is returned beside it,
 //! and what is wrong in words. A refusal changes no lent byte. A number that this crate does not know is
@@ -37,9 +42,12 @@
 //! **Lending.** What a call writes overlaps nothing else that is lent to it; parts that are only read may
 //! overlap each other. Nobody changes what is lent during the call. A slice's length is below 2^63. A
 //! pointer to an empty slice may not be null. A buffer that a call only writes (label out, session out,
-//! text out, rows out, map out, image out, users out) may be uninitialised: a call that is done writes what
-//! it reports and reads none of it. Safe Rust keeps these rules of the C functions: what a call writes is
-//! borrowed alone.
+//! text out, rows out, map out, image out, users out, records out) may be uninitialised: a call that is done
+//! writes what it reports, and reads no byte of it before it has written it. Safe Rust keeps these rules of the C functions: what a call
+//! writes is borrowed alone.
+//!
+//! **For people.** `Debug` of a [`Label`] and a [`Session`] shows places; [`Label::shown`] and [`Session::shown`]
+//! add the names of an image.
 //!
 //! **Sessions.** The library cannot tell who made a session's bytes. Keep sessions where the programs
 //! of users cannot write them.
@@ -58,20 +66,30 @@
 //! # Ok::<(), Box<dyn std::error::Error>>(())
 //! ```
 
+#![no_std]
 #![deny(missing_docs, dead_code)]
 
 mod answer;
 mod image;
 mod label;
+mod limits;
 mod maps;
+mod messages;
+mod names;
 mod raw;
+mod records;
 mod refusal;
 mod rows;
 mod session;
+mod shown;
 
 pub use answer::decode;
-pub use image::{Class, Image, TEXT};
+pub use image::Image;
 pub use label::{Label, LABEL};
+pub use limits::*;
 pub use maps::MAP;
+pub use names::{Class, Kind, Privilege, Profile};
+pub use records::write;
 pub use refusal::Refusal;
 pub use session::{Session, Verdict, SESSION};
+pub use shown::Shown;

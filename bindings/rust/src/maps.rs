@@ -2,9 +2,17 @@
 
 use crate::raw;
 use crate::{decode, Image, Refusal, Session};
-use std::slice::ChunksExact;
+use core::slice::ChunksExact;
 
-/// The bytes of the longest map, that of 1,680 labels.
+/// The bytes of the longest map, that of [`LABELS_1`](crate::LABELS_1) labels.
+///
+/// ```
+/// # use brawnesk::{Image, MAP};
+/// # let bytes = std::fs::read("../../sample/cooperative.img")?;
+/// let image = Image::new(&bytes);
+/// assert!(image.open("MARA")?.map(image, &mut [0; MAP]).is_ok());
+/// # Ok::<(), Box<dyn std::error::Error>>(())
+/// ```
 pub const MAP: usize = 210;
 
 impl Session {

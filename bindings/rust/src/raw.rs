@@ -8,7 +8,7 @@
 //! Rust a slice's length is at most `isize::MAX`, and its pointer is never null, not even an empty
 //! one's. The library keeps no pointer.
 
-extern "C" {
+unsafe extern "C" {
     pub fn brawnesk_check(image: *const u8, image_length: usize) -> u64;
     pub fn brawnesk_name(
         image: *const u8,
@@ -153,6 +153,36 @@ extern "C" {
         out_length: usize,
     ) -> u64;
     pub fn brawnesk_move_up(
+        image: *const u8,
+        image_length: usize,
+        out: *mut u8,
+        out_length: usize,
+    ) -> u64;
+    pub fn brawnesk_write(
+        edition: u8,
+        profile: u8,
+        components: *const u8,
+        components_length: usize,
+        labels: *const u8,
+        labels_length: usize,
+        users: *const u8,
+        users_length: usize,
+        out: *mut u8,
+        out_length: usize,
+    ) -> u64;
+    pub fn brawnesk_component_records(
+        image: *const u8,
+        image_length: usize,
+        out: *mut u8,
+        out_length: usize,
+    ) -> u64;
+    pub fn brawnesk_label_records(
+        image: *const u8,
+        image_length: usize,
+        out: *mut u8,
+        out_length: usize,
+    ) -> u64;
+    pub fn brawnesk_user_records(
         image: *const u8,
         image_length: usize,
         out: *mut u8,

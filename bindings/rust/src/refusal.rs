@@ -1,10 +1,12 @@
 //! Refusals.
 
-use std::error::Error;
-use std::fmt::{self, Display, Formatter};
+use crate::messages;
+use core::error::Error;
+use core::fmt::{self, Display, Formatter};
 
 /// Why a call was not done: a case for each number that the C header lists, with what is returned
-/// beside the number, and one case for any other number.
+/// beside the number, and one case for any other number. 32 to 34 have a second case each, of the records
+/// that [`write()`](crate::write()) is lent: these are told by their place, without a block.
 ///
 /// ```
 /// use brawnesk::{Image, Refusal};
@@ -63,7 +65,8 @@ pub enum Refusal {
     /// 20: a lent map is not that of the image and session.
     WrongMap,
     /// 31: the header, a length unfit for its counts, or a block's kind, record count or bytes
-    /// outside records.
+    /// outside records; of records to be written an unknown edition or profile, a length that is not whole
+    /// records, or a count outside its limits.
     ImageLayout,
     /// 32: a component record is at fault.
     ComponentRecord {
@@ -86,6 +89,12 @@ pub enum Refusal {
         /// Its place in the block, from 0.
         record: u16,
     },
+    /// 32 of records to be written: the component record at that place of its slice, from 0.
+    LentComponent(u32),
+    /// 33 of records to be written: the label record at that place of its slice, from 0.
+    LentLabel(u32),
+    /// 34 of records to be written: the user record at that place of its slice, from 0.
+    LentUser(u32),
     /// 35: the parents of a group never end; the lowest such group's place.
     ParentRing(u32),
     /// 36: users of the image to be moved up hold COMPACCESS; how many.
@@ -105,6 +114,13 @@ pub enum Refusal {
 impl Refusal {
     /// The refusal of that number, with the place of a C answer. A number that returns nothing else
     /// has no use for the place. 32, 33 and 34 have block * 65,536 + record there.
+    ///
+    /// ```
+    /// # use brawnesk::Refusal;
+    /// assert_eq!(Refusal::new(13, 0), Refusal::Room);
+    /// assert_eq!(Refusal::new(33, 2 * 65_536 + 1), Refusal::LabelRecord { block: 2, record: 1 });
+    /// assert_eq!(Refusal::new(99, 5), Refusal::Unknown { number: 99, place: 5 });
+    /// ```
     pub fn new(number: u32, place: u32) -> Refusal {
         let (block, record) = ((place >> 16) as u16, place as u16);
         match number {
@@ -139,22 +155,72 @@ impl Refusal {
     }
 
     /// The number.
+    ///
+    /// ```
+    /// # use brawnesk::Refusal;
+    /// assert_eq!(Refusal::Room.number(), 13);
+    /// ```
     pub fn number(self) -> u32 {
-        self.entry().0
+        match self {
+            Refusal::ImageLength => 1,
+            Refusal::BlockCheck(_) => 2,
+            Refusal::NoUser => 4,
+            Refusal::TextShape => 5,
+            Refusal::UnknownName(_) => 6,
+            Refusal::RepeatedName(_) => 7,
+            Refusal::LevelNotAllowed => 8,
+            Refusal::CompartmentsNotAllowed => 9,
+            Refusal::GroupsNotAllowed => 10,
+            Refusal::RowLabelOutside => 11,
+            Refusal::TableShape => 12,
+            Refusal::Room => 13,
+            Refusal::NoRow => 14,
+            Refusal::RowNotWritable => 15,
+            Refusal::PayloadLength => 16,
+            Refusal::MergeLetters => 17,
+            Refusal::NoComponent => 18,
+            Refusal::SessionRules => 19,
+            Refusal::WrongMap => 20,
+            Refusal::ImageLayout => 31,
+            Refusal::ComponentRecord { .. } | Refusal::LentComponent(_) => 32,
+            Refusal::LabelRecord { .. } | Refusal::LentLabel(_) => 33,
+            Refusal::UserRecord { .. } | Refusal::LentUser(_) => 34,
+            Refusal::ParentRing(_) => 35,
+            Refusal::CompaccessHolders(_) => 36,
+            Refusal::MoveLimits => 37,
+            Refusal::Unknown { number, .. } => number,
+        }
     }
 
     /// What is wrong, in the words that the C function `brawnesk_message` has for the number.
+    ///
+    /// ```
+    /// # use brawnesk::Refusal;
+    /// assert_eq!(Refusal::NoUser.message(), "no user has that name");
+    /// assert_eq!(Refusal::new(99, 0).message(), "a refusal that this program does not know");
+    /// ```
     pub fn message(self) -> &'static str {
-        self.entry().1
+        messages::message(self.number())
     }
 
     /// The place of a C answer, where the number has one: a block, an offset, a group, how many users, or
-    /// block * 65,536 + record. That of an unknown number is as it came.
+    /// block * 65,536 + record, of records to be written the record's place. That of an unknown number is as
+    /// it came.
+    ///
+    /// ```
+    /// # use brawnesk::Refusal;
+    /// assert_eq!(Refusal::UnknownName(5).place(), Some(5));
+    /// assert_eq!(Refusal::LabelRecord { block: 2, record: 1 }.place(), Some(2 * 65_536 + 1));
+    /// assert_eq!(Refusal::Room.place(), None);
+    /// ```
     pub fn place(self) -> Option<u32> {
         match self {
             Refusal::BlockCheck(place)
             | Refusal::UnknownName(place)
             | Refusal::RepeatedName(place)
+            | Refusal::LentComponent(place)
+            | Refusal::LentLabel(place)
+            | Refusal::LentUser(place)
             | Refusal::ParentRing(place)
             | Refusal::CompaccessHolders(place)
             | Refusal::Unknown { place, .. } => Some(place),
@@ -166,100 +232,13 @@ impl Refusal {
             _ => None,
         }
     }
-
-    /// The number, and what is wrong in words.
-    fn entry(self) -> (u32, &'static str) {
-        match self {
-            Refusal::ImageLength => (
-                1,
-                "the image's length is 0, is not a multiple of 512, or is over 65,536 bytes",
-            ),
-            Refusal::BlockCheck(_) => (
-                2,
-                "the block's check is wrong, or the place stored in it is not where it stands",
-            ),
-            Refusal::NoUser => (4, "no user has that name"),
-            Refusal::TextShape => (
-                5,
-                "the text is too long, or is not LEVEL, LEVEL:list, LEVEL:list:list or LEVEL::list",
-            ),
-            Refusal::UnknownName(_) => (
-                6,
-                "a name in the text is not in its class: level, compartment or group",
-            ),
-            Refusal::RepeatedName(_) => (7, "a name in the text stands earlier in the same list"),
-            Refusal::LevelNotAllowed => (8, "the level of the new label is not allowed"),
-            Refusal::CompartmentsNotAllowed => {
-                (9, "the compartments of the new label are not allowed")
-            }
-            Refusal::GroupsNotAllowed => (10, "the groups of the new label are not allowed"),
-            Refusal::RowLabelOutside => (
-                11,
-                "the row label would be above the new level, outside the new write compartments or \
-                 groups, or in a release image lack a new group",
-            ),
-            Refusal::TableShape => (
-                12,
-                "the row width is not 5 to 512, or the table's length is not a multiple of it",
-            ),
-            Refusal::Room => (13, "the result is longer than the buffer for it"),
-            Refusal::NoRow => (14, "there is no row of that number"),
-            Refusal::RowNotWritable => (15, "the session may not write that row"),
-            Refusal::PayloadLength => (16, "the payload's length is not the row width minus 4"),
-            Refusal::MergeLetters => (
-                17,
-                "the merge letters are not three, or one is not allowed at its place",
-            ),
-            Refusal::NoComponent => (
-                18,
-                "the policy lacks a level, compartment or group that the call names",
-            ),
-            Refusal::SessionRules => (19, "the session breaks its rules for this image"),
-            Refusal::WrongMap => (20, "the map is not that of this image and session"),
-            Refusal::ImageLayout => (
-                31,
-                "the header, the length for its counts, or a block's kind, record count or \
-                 bytes outside records are wrong",
-            ),
-            Refusal::ComponentRecord { .. } => (
-                32,
-                "the component's class, name, numeric form, parent or unused bytes are wrong, its \
-                 name repeats, or its numeric form does not rise",
-            ),
-            Refusal::LabelRecord { .. } => (
-                33,
-                "the label's tag, level, compartments, groups or unused bytes are wrong, or its \
-                 tag does not rise",
-            ),
-            Refusal::UserRecord { .. } => (
-                34,
-                "the user's name, privileges, levels, compartments, groups or unused bytes are \
-                 wrong, or its name does not rise",
-            ),
-            Refusal::ParentRing(_) => (
-                35,
-                "the group's parents never end: they come back to a group that they passed",
-            ),
-            Refusal::CompaccessHolders(_) => (
-                36,
-                "the image has users who hold COMPACCESS, a privilege that edition 2 does not have",
-            ),
-            Refusal::MoveLimits => (
-                37,
-                "the image has over 800 labels or 32 users, more than an image of edition 2 holds",
-            ),
-            Refusal::Unknown { number, .. } => {
-                (number, "a refusal that this program does not know")
-            }
-        }
-    }
 }
 
-/// As `refused 32 at block 1 record 0: ` and what is wrong.
+/// As `refused 32 at block 1 record 0: `, or of records to be written `refused 32 at record 0: `, and what is
+/// wrong.
 impl Display for Refusal {
     fn fmt(&self, formatter: &mut Formatter) -> fmt::Result {
-        let (number, words) = self.entry();
-        write!(formatter, "refused {number}")?;
+        write!(formatter, "refused {}", self.number())?;
         match self {
             Refusal::BlockCheck(block) => write!(formatter, " at block {block}")?,
             Refusal::UnknownName(offset) | Refusal::RepeatedName(offset) => {
@@ -270,11 +249,14 @@ impl Display for Refusal {
             | Refusal::UserRecord { block, record } => {
                 write!(formatter, " at block {block} record {record}")?
             }
+            Refusal::LentComponent(place)
+            | Refusal::LentLabel(place)
+            | Refusal::LentUser(place) => write!(formatter, " at record {place}")?,
             Refusal::ParentRing(group) => write!(formatter, " at group {group}")?,
             Refusal::CompaccessHolders(users) => write!(formatter, " holders {users}")?,
             _ => (),
         }
-        write!(formatter, ": {words}")
+        write!(formatter, ": {}", self.message())
     }
 }
 

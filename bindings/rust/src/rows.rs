@@ -3,7 +3,7 @@
 
 use crate::raw;
 use crate::{decode, Image, Refusal, Session};
-use std::slice::ChunksExact;
+use core::slice::ChunksExact;
 
 impl Session {
     /// Copies the rows that the session may read, whole and in order, to the front of the buffer, and

@@ -4,17 +4,49 @@ use crate::raw;
 use crate::{decode, Image, Label, Refusal, LABEL};
 
 /// The bytes of a session.
+///
+/// ```
+/// # use brawnesk::{Image, Session, SESSION};
+/// # let bytes = std::fs::read("../../sample/cooperative.img")?;
+/// let stored: [u8; SESSION] = Image::new(&bytes).open("MARA")?.0;
+/// assert_eq!(Session(stored), Image::new(&bytes).open("MARA")?);
+/// # Ok::<(), Box<dyn std::error::Error>>(())
+/// ```
 pub const SESSION: usize = 104;
 
 /// A session in its bytes: byte 0 the user's place, byte 1 the same again; 8..55 the session label,
 /// 56..103 the row label. Bytes 2..7 are written as zero and not looked at.
 ///
 /// [`Image::open`] gives one. It is for that image, and goes on under that image moved up: under another
-/// one open it anew.
-#[derive(Clone, Debug, PartialEq, Eq)]
+/// one open it anew. `Debug` shows places, and [`Session::shown`] names and texts too.
+///
+/// ```
+/// # use brawnesk::Image;
+/// # let bytes = std::fs::read("../../sample/cooperative.img")?;
+/// let session = Image::new(&bytes).open("MARA")?;
+/// assert_eq!(
+///     format!("{session:?}"),
+///     "Session { user: 0, label: Label { level: 1, compartments: {0, 1}, groups: {1} }, \
+///      row_label: Label { level: 1, compartments: {0}, groups: {2} } }",
+/// );
+/// # Ok::<(), Box<dyn std::error::Error>>(())
+/// ```
+#[derive(Clone, PartialEq, Eq)]
 pub struct Session(pub [u8; SESSION]);
 
 /// What a session may do with a row.
+///
+/// ```
+/// # use brawnesk::{Image, Verdict};
+/// # let bytes = std::fs::read("../../sample/cooperative.img")?;
+/// let image = Image::new(&bytes);
+/// let word = match image.open("MARA")?.may_write(image, 30)? {
+///     Verdict::Yes => "may",
+///     Verdict::No => "may not",
+/// };
+/// assert_eq!(word, "may not");
+/// # Ok::<(), Box<dyn std::error::Error>>(())
+/// ```
 #[derive(Clone, Copy, Debug, PartialEq, Eq)]
 pub enum Verdict {
     /// It may.
@@ -25,6 +57,14 @@ pub enum Verdict {
 
 impl Verdict {
     /// Whether it may.
+    ///
+    /// ```
+    /// # use brawnesk::Image;
+    /// # let bytes = std::fs::read("../../sample/cooperative.img")?;
+    /// let image = Image::new(&bytes);
+    /// assert!(image.open("MARA")?.may_read(image, 30)?.is_yes());
+    /// # Ok::<(), Box<dyn std::error::Error>>(())
+    /// ```
     pub fn is_yes(self) -> bool {
         self == Verdict::Yes
     }
@@ -40,11 +80,27 @@ impl Verdict {
 
 impl Session {
     /// The session label.
+    ///
+    /// ```
+    /// # use brawnesk::Image;
+    /// # let bytes = std::fs::read("../../sample/cooperative.img")?;
+    /// let image = Image::new(&bytes);
+    /// assert_eq!(image.open("MARA")?.label(), image.parse("CREW:KILN,GLAZE:NORTH")?);
+    /// # Ok::<(), Box<dyn std::error::Error>>(())
+    /// ```
     pub fn label(&self) -> Label {
         self.label_at(8)
     }
 
     /// The row label.
+    ///
+    /// ```
+    /// # use brawnesk::Image;
+    /// # let bytes = std::fs::read("../../sample/cooperative.img")?;
+    /// let image = Image::new(&bytes);
+    /// assert_eq!(image.open("MARA")?.row_label(), image.parse("CREW:KILN:DOCK")?);
+    /// # Ok::<(), Box<dyn std::error::Error>>(())
+    /// ```
     pub fn row_label(&self) -> Label {
         self.label_at(56)
     }

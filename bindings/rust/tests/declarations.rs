@@ -2,7 +2,7 @@
 //! the same arguments in the same order, by name and by type. bindings/check.sh compares the names with
 //! those that the archive exports.
 
-use brawnesk::{LABEL, MAP, SESSION, TEXT};
+use brawnesk::{LABEL, SESSION};
 use std::collections::BTreeMap;
 use std::fs::DirEntry;
 
@@ -60,7 +60,8 @@ fn rust_argument(text: &str) -> Vec<Argument> {
     vec![(name.to_string(), kind)]
 }
 
-/// `image: &[u8]`, which C has as a pointer and a length, or `session: &[u8; 104]`, which is a pointer.
+/// `image: &[u8]`, which C has as a pointer and a length, or `session: &[u8; 104]`, which is a pointer, as that of
+/// a label is.
 /// `class` is no name for C++, and a name that the code does not use begins with an underscore.
 fn rattle_argument(text: &str) -> Vec<Argument> {
     let (name, kind) = text.split_once(": ").expect("a type");
@@ -70,11 +71,13 @@ fn rattle_argument(text: &str) -> Vec<Argument> {
     };
     let one = |kind| vec![(name.to_string(), kind)];
     let slice = |kind| vec![(name.to_string(), kind), (format!("{name}_length"), LENGTH)];
+    let arrays = [LABEL, SESSION].map(|length| format!("[u8; {length}]"));
+    let is_array = |kind: &str| arrays.iter().any(|array| array == kind);
     match kind {
         "&[u8]" => slice(READS),
         "&mut [u8]" => slice(WRITES),
-        "&[u8; 48]" | "&[u8; 104]" => one(READS),
-        "&mut [u8; 48]" | "&mut [u8; 104]" => one(WRITES),
+        _ if kind.strip_prefix("&mut ").is_some_and(is_array) => one(WRITES),
+        _ if kind.strip_prefix("&").is_some_and(is_array) => one(READS),
         "usize" => one(LENGTH),
         "u8" => one("uint8_t"),
         "u32" => one("uint32_t"),
@@ -104,21 +107,6 @@ fn the_header_declares_the_functions_as_they_are() {
     let header = declared(&header, "\nuint64_t", ";", c_argument);
     assert!(header.contains_key("check"));
     assert_eq!(header, exported());
-}
-
-/// The header's lengths of a label, a session, a text and a map.
-#[test]
-fn the_header_has_the_same_lengths() {
-    let header = source("../../include/brawnesk.h");
-    for (name, length) in [
-        ("LABEL", LABEL),
-        ("SESSION", SESSION),
-        ("TEXT", TEXT),
-        ("MAP", MAP),
-    ] {
-        let line = format!("\nenum {{ BRAWNESK_{name} = {length} }};\n");
-        assert!(header.contains(&line), "{name}");
-    }
 }
 
 #[test]

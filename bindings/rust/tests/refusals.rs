@@ -93,8 +93,8 @@ fn whole_lines() {
         (
             31,
             0,
-            "refused 31: the header, the length for its counts, or a block's kind, record count or \
-             bytes outside records are wrong",
+            "refused 31: the header, the length, a block's kind, record count or bytes outside records, \
+             or lent records' edition, profile, lengths or counts are wrong",
         ),
         (
             35,
@@ -158,6 +158,26 @@ fn records_are_told_by_block_and_place() {
         for (number, refusal) in refusals {
             assert_eq!(decode(refused(number, place)), Err(refusal));
             assert_eq!(refusal.place(), Some(place));
+        }
+    }
+}
+
+/// Records that are lent to be written have the same numbers and words, and a place without a block.
+#[test]
+fn lent_records_are_told_by_their_place() {
+    for place in [0, 1, 351, 65_535, 65_536, u32::MAX] {
+        let lent = [
+            (32, Refusal::LentComponent(place)),
+            (33, Refusal::LentLabel(place)),
+            (34, Refusal::LentUser(place)),
+        ];
+        for (number, refusal) in lent {
+            let of_image = Refusal::new(number, place);
+            assert_eq!((refusal.number(), refusal.place()), (number, Some(place)));
+            assert_eq!(refusal.message(), of_image.message());
+            let line = format!("refused {number} at record {place}: {}", refusal.message());
+            assert_eq!(refusal.to_string(), line);
+            assert_ne!(refusal, of_image);
         }
     }
 }
