@@ -1,47 +1,21 @@
 #!/usr/bin/env bash
-# Measures calls on the largest image, ours and the plain Rust version, in one run: instructions by
-# callgrind, time and stack of each, and by how many percent a call that is lent an image exceeds the
-# check of the same version. Then row calls: instructions for each row, and how many times the plain
-# version's ours are; "flat" is a plain read that finds all verdicts first. A ! marks where ours misses
-# a limit. Then calls on the largest images of edition 2, which the plain version doesn't know, each with
-# the percent over the check of the same image; and the move up of an image of edition 1. Then maps on the
-# largest images of both editions: what making and judging one take for each label beside a may_read by the
-# same session, and mapped reads in percent of the plain read, or of judging the map for few rows. Last the
-# instructions of each function in a check and a read, or in the calls that are named:
+# Measures calls, ours and the plain Rust version, in one run: instructions by callgrind, time and stack of each, and how
+# many times the plain version's instructions ours are. A ! marks where ours misses a limit. The tables:
+# - calls: on the largest image of edition 1, and by how many percent a call that is lent an image exceeds the check of
+#   the same version;
+# - rows: row calls, with the instructions for each row;
+# - edition-2: calls on the largest images of edition 2, which the plain version doesn't know, and the move up to it;
+# - maps: what making and judging a map take for each label beside a may_read by the same session;
+# - mapped-reads: in percent of the plain read, or of judging the map for few rows;
+# - writing: images written from their own records, and taken apart into them, in percent of the check of the image;
+# - worst: calls on images whose check costs much.
+# Last the instructions of each function in a check and a read, or in the calls that are named:
 # bench/run.sh [CALL...]
-# Without target/staticlib/libabi.a only the plain versions are measured.
+# With TABLES='writing maps' it prints these tables alone. Without target/staticlib/libabi.a only the plain version is
+# measured.
 set -eu
 cd "$(dirname "$0")"
-cargo build --release --offline --quiet
-bench=../target/cargo/release/bench
-out=../target/bench
-mkdir -p "$out"
-
-# One call of a version under callgrind; only what runs inside brawnesk_bench_calls is counted.
-count() {
-    valgrind --tool=callgrind --collect-atstart=no --toggle-collect=brawnesk_bench_calls \
-        --callgrind-out-file="$out/$1-$2.callgrind" "$bench" "$1" "$2" 1 >"$out/$1-$2.log" 2>&1
-}
-
-# One line for each part of a function: instructions and name. A function has a part for each file
-# that is inlined into it. $2 is no for its own instructions, yes for those of its callees too.
-parts() {
-    callgrind_annotate --auto=no --show-percs=no --threshold=100 --inclusive="$2" "$out/$1.callgrind" |
-        sed -nE 's/^ *([0-9,]+) +[^ :]*:(.*)$/\1\t\2/p' | sed -E 's/ \[[^]]*\]$//' |
-        awk -F '\t' -v OFS='\t' '{ gsub(",", "", $1); print }'
-}
-
-# Instructions of the called function ($3) with its callees, without the loop around the call. The
-# largest part is the whole function.
-instructions() {
-    local name
-    case "$1" in
-    ours) name="brawnesk_$3" ;;
-    plain) name="bench::plain::calls::$3" ;;
-    flat) name="bench::plain::calls::$3_flat" ;;
-    esac
-    parts "$1-$2" yes | awk -F '\t' -v name="$name" '$2 == name && $1 > most { most = $1 } END { print most }'
-}
+. ./counted.sh
 
 # Functions with instructions of their own, the most first. Inlined functions count for their caller.
 # Own instructions are the sum over the parts; with callees, the largest part is the whole function.
@@ -57,10 +31,10 @@ over() {
     awk -v call="$1" -v check="$2" 'BEGIN { printf "%.2f", (call - check) * 100 / check }'
 }
 
-# Marks a figure of ours that is over its limit, if there is one.
+# Marks a figure of ours that is over its limit, if there is one. A figure that begins with <= is far below.
 marked() {
     awk -v version="$1" -v figure="$2" -v limit="$3" \
-        'BEGIN { print figure (version == "ours" && limit != "-" && figure > limit + 0 ? "!" : "") }'
+        'BEGIN { print figure (version == "ours" && limit != "-" && figure + 0 > limit + 0 ? "!" : "") }'
 }
 
 # The four columns of a version: instructions, percent over its check of the same image, time, stack.
@@ -69,6 +43,7 @@ columns() {
     local version=$1 call=$2 function=$3 lent=$4 limit=$5 counted percent=- check
     count "$version" "$call"
     counted=$(instructions "$version" "$call" "$function")
+    row_counts[$version]=$counted
     check=$version-check${call#"${call%%@*}"}
     if [ "$version-$call" = "$check" ]; then checks[$check]=$counted; fi
     if [ "$lent" = image ]; then
@@ -78,15 +53,15 @@ columns() {
         "$("$bench" "$version" "$call" time)" "$("$bench" "$version" "$call" stack)"
 }
 
-# The four columns of a version of a row call: instructions, of these for each row, time, stack.
+# The four columns of a version of a row call: instructions, of these for each row, time, stack, which may have a limit.
 row_columns() {
-    local version=$1 call=$2 function=$3 rows=$4 counted
+    local version=$1 call=$2 function=$3 rows=$4 most=${5:--} counted
     count "$version" "$call"
     counted=$(instructions "$version" "$call" "$function")
     row_counts[$version]=$counted
     printf ' %12s %8s %10s %8s' "$counted" \
         "$(awk -v counted="$counted" -v rows="$rows" 'BEGIN { print (rows ? sprintf("%.1f", counted / rows) : "-") }')" \
-        "$("$bench" "$version" "$call" time)" "$("$bench" "$version" "$call" stack)"
+        "$("$bench" "$version" "$call" time)" "$(marked "$version" "$("$bench" "$version" "$call" stack)" "$most")"
 }
 
 # The four columns of a version of a call on maps: instructions, of these for each label beyond the call that it
@@ -138,85 +113,111 @@ heads() {
     for version in $versions; do
         printf ' %12s %8s %8s %8s' "$version" 'over, %' ns stack
     done
-    echo
+    printf ' %8s\n' 'x plain'
 }
 
-# The heads of a table of calls on maps: of the calls, of what each is divided by, of its limit, and of the versions.
+# The heads of a table of calls on maps or of writing: of the calls, of what each is divided by, of its limit, and of
+# the versions.
 part_heads() {
-    printf "\n%-30s %8s %8s" "$1" "$2" "$3"
+    printf "%-32s %8s %8s" "$1" "$2" "$3"
     for version in $versions; do
         printf ' %12s %8s %10s %8s' "$version" "a ${2%s}" ns stack
     done
     printf ' %8s' 'x plain'
 }
 
-declare -A checks row_counts held
-versions=$("$bench" versions)
-heads 18 call
-"$bench" calls | while read -r call function lent limit; do
-    printf '%-18s %8s' "$call" "$limit"
-    for version in $versions; do
-        columns "$version" "$call" "$function" "$lent" "$limit"
+table_calls() {
+    heads 18 call
+    "$bench" calls | while read -r call function lent limit; do
+        printf '%-18s %8s' "$call" "$limit"
+        for version in $versions; do
+            columns "$version" "$call" "$function" "$lent" "$limit"
+        done
+        printf ' %8s\n' "$(times_plain -)"
     done
-    echo
-done
+}
 
-printf '\n%-18s %8s %8s' 'row call' rows 'limit, %'
-for version in $versions; do
-    printf ' %12s %8s %10s %8s' "$version" 'a row' ns stack
-done
-printf ' %8s %12s %8s %10s %8s\n' 'x plain' flat 'a row' ns stack
-"$bench" row-calls | while read -r call function rows limit known; do
-    printf '%-18s %8s %8s' "$call" "$rows" "$limit"
+table_rows() {
+    printf '%-18s %8s %8s' 'row call' rows 'limit, %'
     for version in $versions; do
-        row_columns "$version" "$call" "$function" "$rows"
+        printf ' %12s %8s %10s %8s' "$version" 'a row' ns stack
     done
-    printf ' %8s' "$(times_plain "$limit")"
-    case $known in *flat) row_columns flat "$call" "$function" "$rows" ;; esac
-    echo
-done
+    printf ' %8s\n' 'x plain'
+    "$bench" row-calls | while read -r call function rows limit; do
+        printf '%-18s %8s %8s' "$call" "$rows" "$limit"
+        for version in $versions; do
+            row_columns "$version" "$call" "$function" "$rows"
+        done
+        printf ' %8s\n' "$(times_plain "$limit")"
+    done
+}
 
 # Empty without the library.
-if [ -n "$("$bench" edition-2)" ]; then
-    echo
+table_edition_2() {
+    if [ -z "$("$bench" edition-2)" ]; then return; fi
     heads 32 'edition 2: call@image'
-fi
-"$bench" edition-2 | while read -r call function limit known; do
-    printf '%-32s %8s' "$call" "$limit"
-    for version in $versions; do
-        case " $known " in
-        *" $version "*) columns "$version" "$call" "$function" image "$limit" ;;
-        *) printf ' %12s %8s %8s %8s' - - - - ;;
-        esac
+    "$bench" edition-2 | while read -r call function limit known; do
+        printf '%-32s %8s' "$call" "$limit"
+        row_counts=()
+        for version in $versions; do
+            case " $known " in
+            *" $version "*) columns "$version" "$call" "$function" image "$limit" ;;
+            *) printf ' %12s %8s %8s %8s' - - - - ;;
+            esac
+        done
+        printf ' %8s\n' "$(times_plain -)"
     done
+}
+
+table_maps() {
+    part_heads 'maps: call@image+session' labels limit
     echo
-done
+    "$bench" maps | while read -r call function labels limit beside known; do
+        if [ -z "$known" ]; then continue; fi
+        printf '%-32s %8s %8s' "$call" "$labels" "$limit"
+        each_version label_columns "$known" "$call" "$function" "$labels" "$limit" "$beside"
+        printf ' %8s\n' "$(times_plain -)"
+    done
+}
 
-part_heads 'maps: call@image+session' labels limit
-echo
-"$bench" maps | while read -r call function labels limit beside known; do
-    if [ -z "$known" ]; then continue; fi
-    printf '%-30s %8s %8s' "$call" "$labels" "$limit"
-    each_version label_columns "$known" "$call" "$function" "$labels" "$limit" "$beside"
-    printf ' %8s\n' "$(times_plain -)"
-done
+# Calls that are told in percent of the one that they are held beside: the list of `bench`, the head of the calls, what
+# each is divided by, and the limit of the stack.
+table_held() {
+    local list=$1 head=$2 part=$3 most=$4
+    part_heads "$head" "$part" 'limit, %'
+    echo '    of, %'
+    "$bench" "$list" | while read -r call function parts limit beside known; do
+        if [ -z "$known" ]; then continue; fi
+        printf '%-32s %8s %8s' "$call" "$parts" "$limit"
+        each_version row_columns "$known" "$call" "$function" "$parts" "$most"
+        held[$call]=${row_counts[ours]:-0}
+        printf ' %8s %8s\n' "$(times_plain -)" "$(percent_of "$call" "$beside" "$limit")"
+    done
+}
 
-part_heads 'mapped reads: call@image' rows 'limit, %'
-echo '    of, %'
-"$bench" mapped-reads | while read -r call function rows limit beside known; do
-    if [ -z "$known" ]; then continue; fi
-    printf '%-30s %8s %8s' "$call" "$rows" "$limit"
-    each_version row_columns "$known" "$call" "$function" "$rows"
-    held[$call]=${row_counts[ours]:-0}
-    printf ' %8s %8s\n' "$(times_plain -)" "$(percent_of "$call" "$beside" "$limit")"
+declare -A checks row_counts held
+versions=$("$bench" versions)
+for table in ${TABLES:-calls rows edition-2 maps mapped-reads writing worst}; do
+    case $table in
+    calls) table_calls ;;
+    rows) table_rows ;;
+    edition-2) table_edition_2 ;;
+    maps) table_maps ;;
+    mapped-reads) table_held mapped-reads 'mapped reads: call@image' rows - ;;
+    writing) table_held writing 'writing: call@image' blocks 4096 ;;
+    worst) table_held worst 'worst: call@image' blocks - ;;
+    *) echo "no table of that name: $table" >&2 && exit 1 ;;
+    esac
+    echo
 done
 
 if [ $# = 0 ]; then set -- check read-10; fi
 for call in "$@"; do
     for version in $versions; do
-        # The plain version has no part in calls on edition 2.
+        # The plain version has no part in calls on edition 2, and some tables may be left out.
         if [ ! -e "$out/$version-$call.callgrind" ]; then continue; fi
-        printf '\n%s %s\n%12s %14s  function\n' "$version" "$call" own 'with callees'
+        printf '%s %s\n%12s %14s  function\n' "$version" "$call" own 'with callees'
         functions "$version-$call"
+        echo
     done
 done

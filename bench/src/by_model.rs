@@ -2,10 +2,10 @@
 //! tells what is right where there is no plain version.
 
 use brawnesk_tests::calls::{Call, PairCall};
-use brawnesk_tests::compare::expected;
+use brawnesk_tests::compare::{expected, written};
 use brawnesk_tests::ffi::{Answer, LABEL, SESSION};
 use brawnesk_tests::maps::MapCall;
-use brawnesk_tests::model::{self, accepted, Label};
+use brawnesk_tests::model::{self, accepted, Kind, Label, Refusal};
 use brawnesk_tests::moving;
 use brawnesk_tests::row_calls::{Lent, RowCall};
 
@@ -149,6 +149,20 @@ fn lent(session: &[u8; SESSION], table: &[u8], buffer: &[u8]) -> Lent {
 
 pub fn move_up(image: &[u8], out: &mut [u8]) -> Answer {
     let (answer, after) = moving::by_model(image, out);
+    out.copy_from_slice(&after);
+    answer
+}
+
+pub fn write(lent: &model::Lent, out: &mut [u8]) -> Answer {
+    to_front(model::write(lent, out.len()), out)
+}
+
+pub fn records(kind: Kind, image: &[u8], out: &mut [u8]) -> Answer {
+    to_front(model::records_of(image, kind, out.len()), out)
+}
+
+fn to_front(result: Result<Vec<u8>, Refusal>, out: &mut [u8]) -> Answer {
+    let (answer, after) = written(result, out);
     out.copy_from_slice(&after);
     answer
 }

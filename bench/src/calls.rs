@@ -3,9 +3,10 @@
 use crate::by_model;
 use crate::move_up::MOVE_UP;
 use crate::plain::calls as plain;
-use crate::row_calls::{MAPPED_READS, ROW_CALLS};
+use crate::row_calls::{GROWING_READS, MAPPED_READS, ROW_CALLS};
 use crate::rows::Shape;
 use crate::scene::{Out, Scene};
+use crate::writing::WRITING;
 use brawnesk_tests::ffi::{self, Answer};
 
 pub type Version = fn(&Scene, &mut Out) -> Answer;
@@ -16,13 +17,12 @@ pub struct Call {
     pub function: &'static str,
     /// By how many percent of the check it may exceed the check. Of a row call: how many percent of
     /// the plain version it may take. Of a call on maps: how many instructions a label it may take beside a
-    /// may_read, or how many percent of the call that it is held beside.
+    /// may_read, or how many percent of the call that it is held beside; of writing too.
     pub limit: Option<u32>,
     /// What a row call is lent.
     pub shape: Option<Shape>,
     pub ours: Version,
     pub plain: Option<Version>,
-    pub flat: Option<Version>,
     pub model: Version,
 }
 
@@ -40,7 +40,6 @@ macro_rules! calls {
                 shape: None,
                 ours: |$scene, $out| ffi::$function($($argument),*),
                 plain: Some(|$scene, $out| plain::$function($($argument),*)),
-                flat: None,
                 model: |$scene, $out| by_model::$function($($argument),*),
             },
         )*];
@@ -60,6 +59,7 @@ calls! {
     "check", None => check(&scene.image);
     "name", None => name(&scene.image, GROUP, scene.last_group);
     "parse", None => parse(&scene.image, &scene.text, &mut out.label);
+    "parse-level", None => parse(&scene.image, &scene.level_text, &mut out.label);
     "parse-longest", None => parse(&scene.image, &scene.whole_text, &mut out.label);
     "print-longest", None => print(&scene.image, &scene.whole, &mut out.text);
     "open", OPENING => open(&scene.image, &scene.last_user, &mut out.session);
@@ -86,7 +86,8 @@ calls! {
 impl Call {
     pub fn named(name: &str) -> Option<&'static Call> {
         let calls = CALLS.iter().chain(ROW_CALLS).chain([&MOVE_UP]);
-        let calls = calls.chain(MAP_CALLS).chain(MAPPED_READS);
+        let calls = calls.chain(MAP_CALLS).chain(MAPPED_READS).chain(WRITING);
+        let calls = calls.chain(GROWING_READS);
         calls.into_iter().find(|call| call.name == name)
     }
 

@@ -1,6 +1,8 @@
 //! The images that calls are lent, by their policies.
 
+use crate::growth::Part;
 use crate::rows::reader;
+use crate::worst;
 use brawnesk_tests::builder::{full, random, random_with, sample};
 use brawnesk_tests::builder::{Edition, Label, Policy, Rights, Set, Sizes, Tree};
 use brawnesk_tests::rng::Rng;
@@ -24,22 +26,31 @@ pub enum Of {
     /// The largest of edition 1 that can be moved up: as many labels and users as edition 2 may have, and
     /// nobody holds COMPACCESS.
     Movable,
+    /// The one of edition 1 whose check costs much.
+    Worst,
+    /// The one of edition 2.
+    Worst2,
+    /// One of the largest with less of one thing.
+    Part(Part),
 }
 
 impl Of {
     /// The images that a call can be asked on by name.
-    pub const NAMED: [(&'static str, Of); 6] = [
+    pub const NAMED: [(&'static str, Of); 8] = [
         ("full", Of::Full),
         ("parent-higher", Of::ParentHigher),
         ("parent-lower", Of::ParentLower),
         ("wide", Of::Wide),
         ("release", Of::Release),
         ("movable", Of::Movable),
+        ("worst", Of::Worst),
+        ("worst-2", Of::Worst2),
     ];
 
     pub fn named(name: &str) -> Option<Of> {
         let found = Of::NAMED.iter().find(|(known, _)| *known == name);
-        found.map(|(_, of)| *of)
+        let found = found.map(|(_, of)| *of);
+        found.or_else(|| Part::named(name).map(Of::Part))
     }
 
     pub fn policy(self) -> Policy {
@@ -52,13 +63,17 @@ impl Of {
             Of::Wide => largest(Tree::Wide),
             Of::Release => random(Sizes::full(Edition::Two.release()), &mut Rng::new(SEED)),
             Of::Movable => movable(),
+            Of::Worst | Of::Worst2 => worst::policy(self.edition()),
+            Of::Part(part) => part.policy(),
         }
     }
 
     pub fn edition(self) -> Edition {
         match self {
             Of::ParentHigher | Of::ParentLower | Of::Wide | Of::Release => Edition::Two,
-            Of::Full | Of::Lean | Of::Sample | Of::Movable => Edition::One,
+            Of::Worst2 => Edition::Two,
+            Of::Full | Of::Lean | Of::Sample | Of::Movable | Of::Worst => Edition::One,
+            Of::Part(part) => part.edition(),
         }
     }
 }

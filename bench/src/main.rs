@@ -3,7 +3,7 @@
 //! - `bench calls`: a line for each call: its name, its function, `image` where it is lent one (else
 //!   `-`), and its limit in percent over the check (else `-`).
 //! - `bench row-calls`: a line for each row call: its name, its function, how many rows it is lent, its
-//!   limit in percent of the plain version (else `-`), and the versions that can be run.
+//!   limit in percent of the plain version (else `-`).
 //! - `bench edition-2`: a line for each call on the largest images of edition 2 and for the move up: its
 //!   name, which is the call's, @ and the image's; its function, its limit in percent over the check of
 //!   that image (else `-`), and the versions that can be run.
@@ -11,11 +11,19 @@
 //!   name, with @, the image's, + and whose session it is; its function, how many labels there are, its limit
 //!   in instructions a label, the call that it is held beside (else `-` for both), and the versions.
 //! - `bench mapped-reads`: the same of mapped reads, with how many rows there are and limits in percent.
+//! - `bench writing`: the same of images written from records and taken apart, with how many blocks there are and
+//!   limits in percent of the check of the same image.
+//! - `bench worst`: the same of calls on the images whose check costs much, without limits.
+//! - `bench growth`: a line for each count of rows, labels, users, groups, and groups of edition 2 in one chain: the
+//!   thing, the count, the calls check, may_read and read by name, and the versions.
 //! - `bench versions`: the versions that can be run of the other calls, `ours` and `plain`.
+//! - `bench function CALL`: the name of its function; `bench rows CALL`: how many rows it is lent.
+//! - `bench sql CALL`: the labels, the session and the table of a read for psql; see `postgres.sh`.
 //! - `bench scene`: which users, tags and texts the calls are lent.
 //! - `bench VERSION CALL N`: N calls, to be counted from outside; see `run.sh`.
 //! - `bench VERSION CALL time`: nanoseconds of one call, the median of several rounds.
 //! - `bench VERSION CALL stack`: bytes of stack that one call uses.
+//! - `bench VERSION CALL answer`: the answer of a call that is done.
 //!
 //! Before it is measured, a call is made by all versions and their answers are compared.
 
@@ -23,6 +31,8 @@ mod asked;
 mod by_model;
 mod calls;
 mod edition_2;
+mod growth;
+mod held;
 mod images;
 mod maps;
 mod move_up;
@@ -30,14 +40,17 @@ mod plain;
 mod row_calls;
 mod rows;
 mod scene;
+mod sql;
 mod stack;
 mod who;
+mod worst;
+mod writing;
 
 use asked::Asked;
 use brawnesk_tests::ffi::Answer;
 use calls::{Call, Version, CALLS};
+use held::Line;
 use images::Of;
-use maps::Line;
 use row_calls::ROW_CALLS;
 use rows::{Rows, NO_ROWS};
 use scene::{Out, Scene};
@@ -100,8 +113,7 @@ fn list_calls() {
 fn list_row_calls() {
     for call in ROW_CALLS {
         let rows = call.shape.map_or(0, |shape| shape.rows);
-        let (limit, versions) = (limit(call), Asked { call, on: None }.versions());
-        println!("{} {} {rows} {limit} {versions}", call.name, call.function);
+        println!("{} {} {rows} {}", call.name, call.function, limit(call));
     }
 }
 
@@ -122,7 +134,7 @@ fn list_edition_2() {
 }
 
 /// A limit is told only beside another call, and a count of what the call is divided by.
-fn list_held(lines: Vec<Line>, count: fn(&Asked) -> usize) {
+fn list_held(lines: Vec<Line>, count: fn(&Asked) -> usize, limit: fn(&Call) -> String) {
     for line in lines {
         let (name, call, versions) = (&line.name, line.asked.call, line.asked.versions());
         let limit = line.beside.as_ref().map(|_| limit(call));
@@ -132,6 +144,13 @@ fn list_held(lines: Vec<Line>, count: fn(&Asked) -> usize) {
             "{name} {} {count} {limit} {beside} {versions}",
             call.function
         );
+    }
+}
+
+fn list_growth() {
+    for step in growth::steps() {
+        let (calls, versions) = (step.calls.join(" "), step.versions());
+        println!("{} {} {calls} {versions}", step.thing, step.count);
     }
 }
 
@@ -184,8 +203,12 @@ fn show_rows(name: &str, rows: &Rows) {
     );
 }
 
+fn asked(call: &str) -> Asked {
+    Asked::named(call).expect("one of the calls that bench lists")
+}
+
 fn measure(version: &str, call: &str, task: &str) {
-    let asked = Asked::named(call).expect("one of the calls that bench lists");
+    let asked = asked(call);
     let version = asked.version(version);
     let scene = asked.scene();
     let measured = Measured {
@@ -196,8 +219,14 @@ fn measure(version: &str, call: &str, task: &str) {
     match task {
         "time" => println!("{}", time(&measured)),
         "stack" => println!("{}", stack::used(measured.version, &scene)),
+        "answer" => match measured.answer {
+            Answer::Done(value) => println!("{value}"),
+            Answer::Refused { number, .. } => panic!("refused {number}"),
+        },
         times => {
-            let times = times.parse().expect("a number of calls, `time` or `stack`");
+            let times = times
+                .parse()
+                .expect("a number of calls, `time`, `stack` or `answer`");
             let mut out = Out::new(&scene);
             assert!(brawnesk_bench_calls(&measured, &mut out, times));
         }
@@ -211,14 +240,22 @@ fn main() {
         ["calls"] => list_calls(),
         ["row-calls"] => list_row_calls(),
         ["edition-2"] => list_edition_2(),
-        ["maps"] => list_held(maps::made_and_judged(), maps::labels),
-        ["mapped-reads"] => list_held(maps::reads(), maps::rows),
+        ["maps"] => list_held(maps::made_and_judged(), maps::labels, limit),
+        ["mapped-reads"] => list_held(maps::reads(), maps::rows, limit),
+        ["writing"] => list_held(writing::all(), writing::blocks, limit),
+        ["worst"] => list_held(worst::all(), writing::blocks, |_| "-".to_string()),
+        ["growth"] => list_growth(),
         ["versions"] => println!("{}", FIRST.versions()),
+        ["function", call] => println!("{}", asked(call).call.function),
+        ["sql", call] => sql::show(&asked(call)),
+        ["rows", call] => println!("{}", maps::rows(&asked(call))),
         ["scene"] => show_scenes(),
         [version, call, task] => measure(version, call, task),
         _ => {
-            let lists = "calls|row-calls|edition-2|maps|mapped-reads|versions|scene";
-            panic!("usage: bench {lists} | bench VERSION CALL N|time|stack")
+            let lists =
+                "calls|row-calls|edition-2|maps|mapped-reads|writing|worst|growth|versions|scene";
+            let told = "bench function|rows|sql CALL";
+            panic!("usage: bench {lists} | {told} | bench VERSION CALL N|time|stack|answer")
         }
     }
 }

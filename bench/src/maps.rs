@@ -2,13 +2,11 @@
 //! same session, a mapped read of a large table the plain read of it, and one of few rows the judging.
 
 use crate::asked::Asked;
+use crate::held::{lines, Held, Line};
 
 /// On each, the reader's session, one with READ, and the one for which a map costs the most.
 const IMAGES: [&str; 5] = ["full", "parent-higher", "parent-lower", "wide", "release"];
 const SESSIONS: [&str; 3] = ["", "+READ", "+top"];
-
-/// Calls, each after what it is held beside.
-type Held = (&'static str, Option<&'static str>);
 
 const MADE_AND_JUDGED: [Held; 4] = [
     ("check", None),
@@ -38,12 +36,6 @@ const READ_ON: [&str; 6] = [
     "release",
 ];
 
-pub struct Line {
-    pub name: String,
-    pub asked: Asked,
-    pub beside: Option<String>,
-}
-
 pub fn made_and_judged() -> Vec<Line> {
     let sessions = |image| SESSIONS.map(|session| format!("{image}{session}"));
     let on = IMAGES.into_iter().flat_map(sessions);
@@ -67,16 +59,6 @@ pub fn labels(asked: &Asked) -> usize {
 
 pub fn rows(asked: &Asked) -> usize {
     asked.call.shape.map_or(0, |shape| shape.rows)
-}
-
-fn lines(calls: &[Held], on: &str) -> Vec<Line> {
-    let named = |call: &str| format!("{call}@{on}");
-    let lines = calls.iter().map(|(call, beside)| Line {
-        name: named(call),
-        asked: Asked::named(&named(call)).expect("its name is known"),
-        beside: beside.map(named),
-    });
-    lines.collect()
 }
 
 #[cfg(test)]

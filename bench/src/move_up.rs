@@ -8,9 +8,6 @@ use brawnesk_tests::ffi::Answer;
 /// False where the archive was absent or without the move up when this package was built.
 pub const LINKED: bool = cfg!(not(no_move_up));
 
-/// The length of the longest image that there is after a move up.
-pub const LONGEST: usize = 56_832;
-
 #[cfg(not(no_move_up))]
 extern "C" {
     fn brawnesk_move_up(image: *const u8, length: usize, out: *mut u8, out_length: usize) -> u64;
@@ -36,6 +33,5 @@ pub const MOVE_UP: Call = Call {
     shape: None,
     ours: |scene, out| move_up(&scene.image, &mut out.image),
     plain: None,
-    flat: None,
     model: |scene, out| by_model::move_up(&scene.image, &mut out.image),
 };

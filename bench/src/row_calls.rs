@@ -1,10 +1,10 @@
-//! The measured row calls, each by the library and by the plain version, and plain reads by the flat one too.
+//! The measured row calls, each by the library and by the plain version.
 
 use crate::by_model;
-use crate::calls::{Call, Version};
+use crate::calls::Call;
 use crate::images::Of;
 use crate::plain::calls as plain;
-use crate::rows::{Room, Shape};
+use crate::rows::{Drawn, Room, Shape};
 use crate::scene::{Out, Scene};
 use crate::who::On;
 use brawnesk_tests::ffi::{self, Answer, SESSION};
@@ -51,7 +51,6 @@ const OF_READ: Option<u32> = Some(100);
 const OF_JUDGING: Option<u32> = Some(105);
 
 const fn read(name: &'static str, limit: Option<u32>, shape: Shape) -> Call {
-    let flat: Version = |scene, out| read_by(plain::read_flat, scene, out);
     Call {
         name,
         function: "read",
@@ -59,7 +58,6 @@ const fn read(name: &'static str, limit: Option<u32>, shape: Shape) -> Call {
         shape: Some(shape),
         ours: |scene, out| read_by(ffi::read, scene, out),
         plain: Some(|scene, out| read_by(plain::read, scene, out)),
-        flat: Some(flat),
         model: |scene, out| read_by(by_model::read, scene, out),
     }
 }
@@ -72,7 +70,6 @@ const fn mapped(name: &'static str, limit: Option<u32>, shape: Shape) -> Call {
         shape: Some(shape),
         ours: |scene, out| mapped_by(ffi::read_mapped, scene, out),
         plain: Some(|scene, out| mapped_by(plain::read_mapped, scene, out)),
-        flat: None,
         model: |scene, out| mapped_by(by_model::read_mapped, scene, out),
     }
 }
@@ -85,7 +82,6 @@ const fn update(name: &'static str, shape: Shape) -> Call {
         shape: Some(shape),
         ours: |scene, out| update_by(ffi::update, scene, out),
         plain: Some(|scene, out| update_by(plain::update, scene, out)),
-        flat: None,
         model: |scene, out| update_by(by_model::update, scene, out),
     }
 }
@@ -98,7 +94,6 @@ const fn masked(name: &'static str, shape: Shape) -> Call {
         shape: Some(shape),
         ours: |scene, _| masked_by(ffi::masked, scene),
         plain: Some(|scene, _| masked_by(plain::masked, scene)),
-        flat: None,
         model: |scene, _| masked_by(by_model::masked, scene),
     }
 }
@@ -109,8 +104,16 @@ const fn largest(width: usize, room: Room) -> Shape {
         on: On::reader(Of::Full),
         width,
         rows: (1 << 20) / width,
+        drawn: Drawn::Known,
         room,
     }
+}
+
+/// The same, with tags that no label carries.
+const fn unknown(width: usize) -> Shape {
+    let shape = largest(width, Room::Table);
+    let drawn = Drawn::Unknown;
+    Shape { drawn, ..shape }
 }
 
 /// Rows of 10 bytes, read to a buffer as long as they are.
@@ -119,8 +122,15 @@ const fn tens(of: Of, rows: usize) -> Shape {
         on: On::reader(of),
         width: 10,
         rows,
+        drawn: Drawn::Known,
         room: Room::Table,
     }
+}
+
+/// Rows of 64 bytes.
+const fn longer(rows: usize) -> Shape {
+    let shape = tens(Of::Full, rows);
+    Shape { width: 64, ..shape }
 }
 
 pub const ROW_CALLS: &[Call] = &[
@@ -130,6 +140,8 @@ pub const ROW_CALLS: &[Call] = &[
     read("read-64-counted", OF_PLAIN, largest(64, Room::Result)),
     read("read-10-refused", OF_PLAIN, largest(10, Room::Short)),
     read("read-64-refused", OF_PLAIN, largest(64, Room::Short)),
+    read("unknown-10", OF_PLAIN, unknown(10)),
+    read("unknown-64", OF_PLAIN, unknown(64)),
     update("update-10", largest(10, Room::Table)),
     update("update-64", largest(64, Room::Table)),
     masked("masked-10", largest(10, Room::Table)),
@@ -139,10 +151,25 @@ pub const ROW_CALLS: &[Call] = &[
     read("rows-1000", None, tens(Of::Full, 1_000)),
     read("rows-10000", None, tens(Of::Full, 10_000)),
     read("rows-100000", None, tens(Of::Full, 100_000)),
+    read("rows64-20", None, longer(20)),
+    read("rows64-48", None, longer(48)),
+    read("rows64-100", None, longer(100)),
+    read("rows64-200", None, longer(200)),
+    read("rows64-300", None, longer(300)),
+    read("rows64-1000", None, longer(1_000)),
+    read("rows64-3000", None, longer(3_000)),
     read("lean-0", None, tens(Of::Lean, 0)),
     read("lean-10000", None, tens(Of::Lean, 10_000)),
     read("sample-0", None, tens(Of::Sample, 0)),
     read("sample-10000", None, tens(Of::Sample, 10_000)),
+];
+
+/// To see how a read grows with its rows, up to as many as 1 MiB holds.
+pub const GROWING_READS: &[Call] = &[
+    read("rows-13107", None, tens(Of::Full, 13_107)),
+    read("rows-26214", None, tens(Of::Full, 26_214)),
+    read("rows-52428", None, tens(Of::Full, 52_428)),
+    read("rows-104857", None, tens(Of::Full, 104_857)),
 ];
 
 pub const MAPPED_READS: &[Call] = &[

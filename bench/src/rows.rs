@@ -7,6 +7,7 @@ use brawnesk_tests::builder::{to_image, Label, Policy, Profile, User};
 use brawnesk_tests::ffi::SESSION;
 use brawnesk_tests::model;
 use brawnesk_tests::rng::Rng;
+use std::collections::BTreeSet;
 
 pub const READ: u8 = 1;
 pub const READ_OR_FULL: u8 = 3;
@@ -25,12 +26,22 @@ pub enum Room {
     Short,
 }
 
+/// The tags of a table's rows.
+#[derive(Clone, Copy, PartialEq, Eq)]
+pub enum Drawn {
+    /// From the tags of labels, so that the session reads as many rows as told.
+    Known,
+    /// No label carries one, and they all differ.
+    Unknown,
+}
+
 #[derive(Clone, Copy)]
 pub struct Shape {
     /// The image that the table stands beside, and whose session reads it.
     pub on: On,
     pub width: usize,
     pub rows: usize,
+    pub drawn: Drawn,
     pub room: Room,
 }
 
@@ -39,6 +50,7 @@ pub const NO_ROWS: Shape = Shape {
     on: On::reader(Of::Full),
     width: 10,
     rows: 0,
+    drawn: Drawn::Known,
     room: Room::Table,
 };
 
@@ -50,7 +62,7 @@ pub struct Rows {
     pub tags: (usize, usize),
     pub table: Vec<u8>,
     pub width: usize,
-    /// The last of all rows, which is also the last readable one. It is writable.
+    /// The last of all rows, which is also the last readable one and writable, where tags are known.
     pub last: usize,
     pub readable: usize,
     pub room: usize,
@@ -70,14 +82,17 @@ impl Rows {
         let is_writable = |tag: &&u32| model::may_write(&accepted, &session, **tag) == Ok(true);
         let writable = tags.readable.iter().find(is_writable);
         let last = *writable.expect("a tag that is readable and writable");
-        let readable = tags.count_of(rows);
-        let result = readable * width;
         let mut rng = Rng::new(1);
+        let (readable, drawn) = match shape.drawn {
+            Drawn::Known => (tags.count_of(rows), tags.known(rows, last, &mut rng)),
+            Drawn::Unknown => (0, tags.unknown(rows, &mut rng)),
+        };
+        let result = readable * width;
         Rows {
             session: session.to_bytes(),
             map: tags.map(&policy),
             tags: (tags.readable.len(), policy.labels.len()),
-            table: tags.table(width, rows, last, &mut rng),
+            table: table(drawn, width, &mut rng),
             width,
             last: rows.saturating_sub(1),
             readable,
@@ -148,8 +163,8 @@ impl Tags {
         policy.labels.chunks(8).map(byte).collect()
     }
 
-    /// Rows in no order, but for the last one's tag.
-    fn table(&self, width: usize, rows: usize, last: u32, rng: &mut Rng) -> Vec<u8> {
+    /// The tags of rows in no order, but for the last one's.
+    fn known(&self, rows: usize, last: u32, rng: &mut Rng) -> Vec<u32> {
         let kind = |row: usize| match row < self.count_of(rows) {
             true => &self.readable,
             false => &self.hidden,
@@ -157,9 +172,28 @@ impl Tags {
         let mut tags: Vec<u32> = (1..rows).map(|row| *rng.pick(kind(row))).collect();
         rng.shuffle(&mut tags);
         tags.resize(rows, last);
-        let row = |tag: u32| [tag.to_le_bytes().to_vec(), bytes(width - 4, rng)].concat();
-        tags.into_iter().flat_map(row).collect()
+        tags
     }
+
+    fn unknown(&self, rows: usize, rng: &mut Rng) -> Vec<u32> {
+        let has = |tags: &[u32], tag: &u32| tags.binary_search(tag).is_ok();
+        let mut tags = BTreeSet::new();
+        while tags.len() < rows {
+            let tag = rng.range(1, 99_999_999) as u32;
+            if !has(&self.readable, &tag) && !has(&self.hidden, &tag) {
+                tags.insert(tag);
+            }
+        }
+        let mut tags = Vec::from_iter(tags);
+        rng.shuffle(&mut tags);
+        tags
+    }
+}
+
+/// Rows with these tags.
+fn table(tags: Vec<u32>, width: usize, rng: &mut Rng) -> Vec<u8> {
+    let row = |tag: u32| [tag.to_le_bytes().to_vec(), bytes(width - 4, rng)].concat();
+    tags.into_iter().flat_map(row).collect()
 }
 
 fn bytes(count: usize, rng: &mut Rng) -> Vec<u8> {

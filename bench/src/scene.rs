@@ -1,16 +1,21 @@
 //! What the measured calls are lent: a largest image, and sessions, tags, texts and labels for it. All
 //! of it is made from the builder's policy and by the model, so it is there without the library too.
 
-use crate::move_up::LONGEST;
 use crate::rows::{Rows, Shape, READ_OR_FULL};
 use crate::who::On;
 use brawnesk_tests::builder::{to_image, Component, Label, Policy, Profile, Set, User};
 use brawnesk_tests::ffi::{LABEL, SESSION};
 use brawnesk_tests::maps::facts;
-use brawnesk_tests::model::{self, Image};
+use brawnesk_tests::model::{self, Image, Kind};
+use brawnesk_tests::writing::Lists;
+
+/// The length of the longest image.
+const LONGEST: usize = 65_536;
 
 pub struct Scene {
     pub image: Vec<u8>,
+    /// The image taken apart, with its edition and profile.
+    pub records: Lists,
     pub last_user: Vec<u8>,
     pub last_group: u8,
     /// The tag of the last label record.
@@ -19,6 +24,8 @@ pub struct Scene {
     pub unknown_tag: u32,
     /// Opened for the last user with neither READ nor FULL whose typical text has all its names.
     pub session: [u8; SESSION],
+    /// The name of the last level.
+    pub level_text: Vec<u8>,
     /// A level, 3 compartments and 3 groups that the session may have as its row label.
     pub text: Vec<u8>,
     /// The session with that row label. It may have the text as its session label too.
@@ -59,6 +66,7 @@ impl Scene {
             session: session.to_bytes(),
             with_row: with_row.expect("it is allowed").to_bytes(),
             text,
+            level_text: policy.levels[policy.levels.len() - 1].name.clone().into(),
             widest: opened(&accepted, widest).to_bytes(),
             widest_text: text_of(&policy, &widest_label),
             whole: whole.to_bytes(),
@@ -67,6 +75,7 @@ impl Scene {
             text_label: label.to_bytes(),
             longest_text: policy.edition.longest_text(),
             rows: Rows::new(rows),
+            records: taken_apart(&image),
             image,
         }
     }
@@ -82,7 +91,7 @@ pub struct Out {
     pub rows: Vec<u8>,
     /// A copy of the table, for an update.
     pub table: Vec<u8>,
-    /// For a move up.
+    /// For a move up, for an image that is written, and for records. As long as the longest image.
     pub image: Vec<u8>,
     /// As long as the longest map.
     pub map: Vec<u8>,
@@ -105,6 +114,15 @@ impl Out {
     pub fn lend(&mut self, session: &[u8; SESSION]) -> &mut [u8; SESSION] {
         self.session = *session;
         &mut self.session
+    }
+}
+
+fn taken_apart(image: &[u8]) -> Lists {
+    let records = |kind: Kind| model::records_of(image, kind, usize::MAX);
+    Lists {
+        edition: image[4],
+        profile: image[12],
+        lists: Kind::ALL.map(|kind| records(kind).expect("the image is accepted")),
     }
 }
 

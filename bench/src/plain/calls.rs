@@ -3,16 +3,16 @@
 
 use super::label::{Label, Session};
 use super::policy::{Class, Policy};
-use super::reader::{Flat, Reader};
+use super::reader::Reader;
 use super::sessions::{self, Lent};
-use super::{maps, rows, text, two_labels, verdicts};
+use super::{maps, print, rows, text, two_labels, verdicts, write};
 use brawnesk_tests::compare::expected;
 use brawnesk_tests::ffi::{Answer, LABEL, SESSION};
-use brawnesk_tests::model::Refusal;
+use brawnesk_tests::model::{self, Kind, Refusal};
 
 #[inline(never)]
 pub fn check(image: &[u8]) -> Answer {
-    expected(super::check(image).map(|()| 0))
+    expected(Policy::accepted(image).map(|_| 0))
 }
 
 #[inline(never)]
@@ -44,7 +44,7 @@ pub fn parse(image: &[u8], text: &[u8], label: &mut [u8; LABEL]) -> Answer {
 #[inline(never)]
 pub fn print(image: &[u8], label: &[u8; LABEL], out: &mut [u8]) -> Answer {
     let policy = Policy::accepted(image);
-    let length = policy.and_then(|policy| text::print(&policy, Label::read(label), out));
+    let length = policy.and_then(|policy| print::print(&policy, Label::read(label), out));
     expected(length.map(|length| length as u64))
 }
 
@@ -59,26 +59,26 @@ pub fn open(image: &[u8], name: &[u8], session: &mut [u8; SESSION]) -> Answer {
 
 #[inline(never)]
 pub fn set_label(image: &[u8], session: &mut [u8; SESSION], text: &[u8]) -> Answer {
-    let changed = lent(image, session).and_then(|(policy, lent)| lent.set_label(&policy, text));
+    let changed = by_session(image, session, |lent| lent.set_label(text));
     handed_out(changed, session)
 }
 
 #[inline(never)]
 pub fn set_row_label(image: &[u8], session: &mut [u8; SESSION], text: &[u8]) -> Answer {
-    let changed = lent(image, session).and_then(|(policy, lent)| lent.set_row_label(&policy, text));
+    let changed = by_session(image, session, |lent| lent.set_row_label(text));
     handed_out(changed, session)
 }
 
 #[inline(never)]
 pub fn may_read(image: &[u8], session: &[u8; SESSION], tag: u32) -> Answer {
-    let lent = lent(image, session);
-    expected(lent.map(|(policy, lent)| verdicts::may_read(&policy, &lent, tag).into()))
+    let verdict = by_session(image, session, |lent| Ok(verdicts::may_read(lent, tag)));
+    expected(verdict.map(u64::from))
 }
 
 #[inline(never)]
 pub fn may_write(image: &[u8], session: &[u8; SESSION], tag: u32) -> Answer {
-    let lent = lent(image, session);
-    expected(lent.map(|(policy, lent)| verdicts::may_write(&policy, &lent, tag).into()))
+    let verdict = by_session(image, session, |lent| Ok(verdicts::may_write(lent, tag)));
+    expected(verdict.map(u64::from))
 }
 
 #[inline(never)]
@@ -89,26 +89,7 @@ pub fn read(
     width: usize,
     out: &mut [u8],
 ) -> Answer {
-    let count = lent(image, session).and_then(|(policy, lent)| {
-        let reader = Reader::new(&policy, &lent);
-        rows::read(table, width, out, |tag| reader.may_read(tag))
-    });
-    expected(count.map(|count| count as u64))
-}
-
-/// As `read`, with all verdicts found first.
-#[inline(never)]
-pub fn read_flat(
-    image: &[u8],
-    session: &[u8; SESSION],
-    table: &[u8],
-    width: usize,
-    out: &mut [u8],
-) -> Answer {
-    let count = lent(image, session).and_then(|(policy, lent)| {
-        let flat = Flat::new(&Reader::new(&policy, &lent));
-        rows::read(table, width, out, |tag| flat.may_read(tag))
-    });
+    let count = by_session(image, session, |lent| rows::read(lent, table, width, out));
     expected(count.map(|count| count as u64))
 }
 
@@ -121,8 +102,9 @@ pub fn update(
     n: usize,
     payload: &[u8],
 ) -> Answer {
-    let updated = lent(image, session)
-        .and_then(|(policy, lent)| rows::update(&policy, &lent, table, width, n, payload));
+    let updated = by_session(image, session, |lent| {
+        rows::update(lent, table, width, n, payload)
+    });
     expected(updated.map(|()| 0))
 }
 
@@ -136,22 +118,21 @@ pub fn masked(
     place: usize,
     _mask: &[u8],
 ) -> Answer {
-    let verdict = lent(image, session)
-        .and_then(|(policy, lent)| rows::masked(&policy, &lent, table, width, place));
+    let verdict = by_session(image, session, |lent| {
+        rows::masked(lent, table, width, place)
+    });
     expected(verdict.map(u64::from))
 }
 
 #[inline(never)]
 pub fn map(image: &[u8], session: &[u8; SESSION], out: &mut [u8]) -> Answer {
-    let length = lent(image, session)
-        .and_then(|(policy, lent)| maps::write(&Reader::new(&policy, &lent), out));
+    let length = by_session(image, session, |lent| maps::write(&Reader::new(lent), out));
     expected(length.map(|length| length as u64))
 }
 
 #[inline(never)]
 pub fn judge_map(image: &[u8], session: &[u8; SESSION], map: &[u8]) -> Answer {
-    let judged = lent(image, session)
-        .and_then(|(policy, lent)| maps::judge(&Reader::new(&policy, &lent), map));
+    let judged = by_session(image, session, |lent| maps::judge(&Reader::new(lent), map));
     expected(judged.map(|()| 0))
 }
 
@@ -164,9 +145,8 @@ pub fn read_mapped(
     map: &[u8],
     out: &mut [u8],
 ) -> Answer {
-    let count = lent(image, session).and_then(|(policy, lent)| {
-        let reader = Reader::new(&policy, &lent);
-        rows::read_mapped(&reader, table, width, map, out)
+    let count = by_session(image, session, |lent| {
+        rows::read_mapped(lent, table, width, map, out)
     });
     expected(count.map(|count| count as u64))
 }
@@ -186,17 +166,47 @@ pub fn merge(
     letters: &[u8],
     label: &mut [u8; LABEL],
 ) -> Answer {
-    expected(two_labels::merge(first, second, letters).map(|merged| {
-        *label = merged;
-        0
-    }))
+    match two_labels::merge(first, second, letters, label) {
+        Ok(()) => Answer::Done(0),
+        Err(refusal) => expected(Err(refusal)),
+    }
 }
 
-/// The accepted image and the accepted session.
-fn lent<'a>(image: &'a [u8], session: &[u8; SESSION]) -> Result<(Policy<'a>, Lent), Refusal> {
+#[inline(never)]
+pub fn write(lent: &model::Lent, out: &mut [u8]) -> Answer {
+    expected(write::write(lent, out).map(|length| length as u64))
+}
+
+#[inline(never)]
+pub fn component_records(image: &[u8], out: &mut [u8]) -> Answer {
+    records(image, Kind::Component, out)
+}
+
+#[inline(never)]
+pub fn label_records(image: &[u8], out: &mut [u8]) -> Answer {
+    records(image, Kind::Label, out)
+}
+
+#[inline(never)]
+pub fn user_records(image: &[u8], out: &mut [u8]) -> Answer {
+    records(image, Kind::User, out)
+}
+
+fn records(image: &[u8], kind: Kind, out: &mut [u8]) -> Answer {
+    let policy = Policy::accepted(image);
+    let length = policy.and_then(|policy| write::take_apart(&policy, kind, out));
+    expected(length.map(|length| length as u64))
+}
+
+/// What a call gives by an accepted image and an accepted session.
+fn by_session<Given>(
+    image: &[u8],
+    session: &[u8; SESSION],
+    call: impl FnOnce(&Lent) -> Result<Given, Refusal>,
+) -> Result<Given, Refusal> {
     let policy = Policy::accepted(image)?;
     let lent = Lent::accept(&policy, Session::read(session))?;
-    Ok((policy, lent))
+    call(&lent)
 }
 
 fn handed_out(result: Result<Session, Refusal>, session: &mut [u8; SESSION]) -> Answer {

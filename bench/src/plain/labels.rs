@@ -1,7 +1,6 @@
 //! The label records of an accepted image, by tag.
 
-use super::label::Label;
-use super::Block;
+use super::{slices, Block};
 
 #[derive(Clone, Copy)]
 pub struct Labels<'a> {
@@ -11,48 +10,37 @@ pub struct Labels<'a> {
 
 impl<'a> Labels<'a> {
     /// All records, block by block.
-    pub fn records(&self) -> impl Iterator<Item = &'a [u8; 24]> {
-        let blocks = self.blocks.iter();
-        let records = blocks.flat_map(|block| block[4..508].as_chunks().0);
-        records.take(self.count)
+    pub fn slices(&self) -> impl Iterator<Item = &'a [[u8; 24]]> {
+        slices::<24, 21>(self.blocks, 0, self.count)
     }
 
-    fn record(&self, place: usize) -> &'a [u8] {
-        &self.blocks[place / 21][4 + place % 21 * 24..][..24]
-    }
-
-    /// The label under a tag.
-    pub fn with(&self, tag: u32) -> Option<Label> {
-        let low = self.first_from(tag);
-        let found = (low < self.count).then(|| self.record(low));
-        let found = found.filter(|record| tag_of(record) == tag);
-        found.map(Label::of_record)
-    }
-
-    /// The place of the record that has a tag.
-    pub fn place_of(&self, tag: u32) -> Option<usize> {
-        let low = self.first_from(tag);
-        let found = (low < self.count).then_some(low);
-        found.filter(|&place| tag_of(self.record(place)) == tag)
-    }
-
-    /// The place of the first tag that is not below this one. Tags rise, so the range is halved until it is
-    /// left. Equal tags on the way don't end it: asking for them costs more.
-    #[inline(always)]
-    fn first_from(&self, tag: u32) -> usize {
-        let (mut low, mut high) = (0, self.count);
-        while low < high {
-            let middle = (low + high) / 2;
-            if tag_of(self.record(middle)) < tag {
-                low = middle + 1;
-            } else {
-                high = middle;
-            }
-        }
-        low
+    /// The record of a tag. Tags rise, so its block is found by the first tags of blocks, and then its record.
+    pub fn with(&self, tag: u32) -> Option<&'a [u8; 24]> {
+        let block = last_up_to(self.blocks, tag, |block| tag_of(&block[4..]))?;
+        let records: &[[u8; 24]] = block[4..508].as_chunks().0;
+        let found = last_up_to(records.get(..block[1].into())?, tag, |record| {
+            tag_of(record)
+        })?;
+        (tag_of(found) == tag).then_some(found)
     }
 }
 
+/// Of items whose tags rise, the last one whose tag isn't above this, or the first. The range is halved.
+#[inline(always)]
+fn last_up_to<Item>(items: &[Item], tag: u32, tag_of: impl Fn(&Item) -> u32) -> Option<&Item> {
+    let mut items = items;
+    while items.len() > 1 {
+        let half = items.len() / 2;
+        let rest = items.len() - half;
+        items = match tag_of(&items[half]) <= tag {
+            true => &items[half..],
+            false => &items[..rest],
+        };
+    }
+    items.first()
+}
+
+#[inline(always)]
 pub fn tag_of(record: &[u8]) -> u32 {
     u32::from_le_bytes(record[..4].try_into().unwrap())
 }

@@ -1,10 +1,10 @@
 //! The map of a session: a bit for each label record. It is made whole, and then handed out or compared.
 
-use super::label::Label;
 use super::reader::Reader;
 use brawnesk_tests::model::Refusal;
 
-const LONGEST: usize = 210;
+/// So many words hold 1,680 bits, and one more that stays 0.
+const WORDS: usize = 28;
 
 /// Writes the map to the front of the buffer and gives its length.
 pub fn write(reader: &Reader, buffer: &mut [u8]) -> Result<usize, Refusal> {
@@ -20,30 +20,32 @@ pub fn judge(reader: &Reader, map: &[u8]) -> Result<(), Refusal> {
     holds.then_some(()).ok_or(Refusal::Map)
 }
 
-/// The bit of the record that has a tag. An unknown tag has none.
-pub fn may_read(reader: &Reader, map: &[u8], tag: u32) -> bool {
-    let place = reader.labels.place_of(tag);
-    place.map_or(reader.reads_all, |place| {
-        map[place / 8] >> (place % 8) & 1 == 1
-    })
+/// The bit of the record at a place.
+pub fn bit(map: &[u8], place: usize) -> bool {
+    map[place / 8] >> (place % 8) & 1 == 1
 }
 
 fn length(reader: &Reader) -> usize {
     reader.labels.count.div_ceil(8)
 }
 
-/// The map, with zeros after it.
-fn right(reader: &Reader) -> [u8; LONGEST] {
-    let mut map = [0; LONGEST];
-    let mut place = 0;
-    for block in reader.labels.blocks {
-        let records: &[[u8; 24]] = block[4..508].as_chunks().0;
-        let left = reader.labels.count - place;
-        for record in records.iter().take(left) {
-            let reads = reader.reads_all || reader.is_readable(&Label::of_record(record));
-            map[place / 8] |= u8::from(reads) << (place % 8);
-            place += 1;
+/// The map, with zeros after it. The bits of a block's labels are gathered in a word.
+fn right(reader: &Reader) -> [u8; 8 * WORDS] {
+    let (mut words, mut place) = ([0; WORDS], 0);
+    for records in reader.labels.slices() {
+        let mut bits = 0;
+        for record in records.iter().rev() {
+            let reads = reader.reads_all || reader.reads(record);
+            bits = bits << 1 | u64::from(reads);
         }
+        let bits = u128::from(bits) << (place % 64);
+        words[place / 64] |= bits as u64;
+        words[place / 64 + 1] |= (bits >> 64) as u64;
+        place += records.len();
+    }
+    let mut map = [0; 8 * WORDS];
+    for (part, word) in map.as_chunks_mut().0.iter_mut().zip(words) {
+        *part = word.to_le_bytes();
     }
     map
 }

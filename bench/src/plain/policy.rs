@@ -1,9 +1,12 @@
 //! Look-ups in an accepted image: components by place and by name, users by name.
 
+use super::counts::Counts;
+use super::faults::first_fault;
+use super::groups::Ancestors;
 use super::label::Label;
 use super::labels::Labels;
 use super::records::set_exists;
-use super::{check, Block, Counts};
+use super::{accepted, sound, Block};
 use brawnesk_tests::model::Refusal;
 use std::cmp::Ordering;
 
@@ -11,6 +14,7 @@ use std::cmp::Ordering;
 pub struct Policy<'a> {
     pub blocks: &'a [Block],
     pub counts: Counts,
+    pub ancestors: Ancestors,
 }
 
 #[derive(Clone, Copy)]
@@ -28,44 +32,39 @@ pub struct Span {
 
 impl<'a> Policy<'a> {
     pub fn accepted(image: &'a [u8]) -> Result<Policy<'a>, Refusal> {
-        check(image)?;
-        let blocks = image.as_chunks().0;
-        let counts = Counts::read(&blocks[0]);
-        Ok(Policy { blocks, counts })
+        let blocks = sound(image)?;
+        let counts = Counts::read(blocks).ok_or(Refusal::Layout)?;
+        match accepted(blocks, &counts) {
+            Some(ancestors) => Ok(Policy {
+                blocks,
+                counts,
+                ancestors,
+            }),
+            None => Err(first_fault(blocks, &counts).expect("something is wrong")),
+        }
     }
 
-    fn first_label(&self) -> usize {
-        let Counts {
-            levels,
-            compartments,
-            groups,
-            ..
-        } = self.counts;
-        1 + (levels + compartments + groups).div_ceil(12)
-    }
-
-    fn first_user(&self) -> usize {
-        self.first_label() + self.counts.labels.div_ceil(21)
-    }
-
-    fn component(&self, place: usize) -> &'a [u8] {
-        &self.blocks[1 + place / 12][4 + place % 12 * 40..][..40]
+    /// The record at a place among all components.
+    #[inline(always)]
+    pub fn component(&self, place: usize) -> &'a [u8; 40] {
+        let records: &[[u8; 40]] = self.blocks[1 + place / 12][4..484].as_chunks().0;
+        &records[place % 12]
     }
 
     pub fn labels(&self) -> Labels<'a> {
         Labels {
-            blocks: &self.blocks[self.first_label()..self.first_user()],
+            blocks: &self.blocks[self.counts.first_label()..self.counts.first_user()],
             count: self.counts.labels,
         }
     }
 
     /// The record of a user that there is.
     pub fn user(&self, place: usize) -> &'a [u8] {
-        &self.blocks[self.first_user() + place / 3][4 + place % 3 * 128..][..128]
+        &self.blocks[self.counts.first_user() + place / 3][4 + place % 3 * 128..][..128]
     }
 
     /// Of a class: the place of its first component among all components, and its count.
-    fn class(&self, class: Class) -> (usize, usize) {
+    pub fn class(&self, class: Class) -> (usize, usize) {
         let counts = &self.counts;
         match class {
             Class::Level => (0, counts.levels),
@@ -86,27 +85,6 @@ impl<'a> Policy<'a> {
             offset: (1 + at / 12) * 512 + 4 + at % 12 * 40 + 2,
             length: self.name(class, place).len(),
         })
-    }
-
-    /// The place in its class of the component with the name, whose small letters are taken as capitals,
-    /// sought block by block. Bytes after a name are zero, so equal fields are equal names.
-    pub fn place_of(&self, class: Class, name: &[u8]) -> Option<usize> {
-        let mut field = [0; 31];
-        field[0] = name.len() as u8;
-        field[1..].get_mut(..name.len())?.copy_from_slice(name);
-        field[1..].make_ascii_uppercase();
-        let (first, count) = self.class(class);
-        let mut place = 0;
-        while place < count {
-            let at = first + place;
-            let records: &[[u8; 40]] = self.blocks[1 + at / 12][4..484].as_chunks().0;
-            let here = &records[at % 12..][..(12 - at % 12).min(count - place)];
-            if let Some(found) = here.iter().position(|record| record[1..32] == field) {
-                return Some(place + found);
-            }
-            place += here.len();
-        }
-        None
     }
 
     /// Whether there is all that the label names.

@@ -1,63 +1,51 @@
 //! The rules of one record. What is known of the records before it is handed on.
 
-use super::{all_zero, Counts};
+use super::all_zero;
+use super::counts::Counts;
+use super::names::Earlier;
 
-/// The numeric form before this one and the name fields so far, each with its length in front.
-/// Bytes after a name are zero, so equal fields are equal names. Their first eight bytes by
-/// themselves tell most of them apart.
-pub struct Earlier {
+/// The numeric form before this one, and the names of the class so far.
+pub struct Before<'a> {
     number: Option<u16>,
-    starts: [u64; 64],
-    names: [[u8; 31]; 64],
+    names: Earlier<'a>,
 }
 
-impl Earlier {
-    pub fn new() -> Earlier {
-        Earlier {
+impl<'a> Before<'a> {
+    pub fn new() -> Before<'a> {
+        Before {
             number: None,
-            starts: [0; 64],
-            names: [[0; 31]; 64],
+            names: Earlier::new(),
         }
     }
-
-    /// Whether one of the first `count` names is this one, which is then kept after them.
-    fn repeats(&mut self, count: usize, name: [u8; 31]) -> bool {
-        let start = set_at(&name, 0);
-        let found = self.starts[..count].contains(&start) && self.names[..count].contains(&name);
-        self.starts[count] = start;
-        self.names[count] = name;
-        found
-    }
 }
 
-pub fn component_holds(
-    record: &[u8; 40],
+pub fn component_holds<'a>(
+    record: &'a [u8; 40],
     place: usize,
     counts: &Counts,
-    earlier: &mut Earlier,
+    before: &mut Before<'a>,
 ) -> bool {
-    let groups = counts.levels + counts.compartments;
     let (class, first) = if place < counts.levels {
         (1, 0)
-    } else if place < groups {
+    } else if place < counts.first_group() {
         (2, counts.levels)
     } else {
-        (3, groups)
+        (3, counts.first_group())
     };
     if place == first {
-        earlier.number = None;
+        before.number = None;
+        before.names.clear();
     }
     let parent = record[34];
     let number = u16::from_le_bytes([record[32], record[33]]);
-    let name: [u8; 31] = record[1..32].try_into().unwrap();
     let holds = record[0] == class
-        && name_holds(&name)
+        && name_holds(record[1..32].try_into().unwrap())
         && number <= 9_999
-        && earlier.number.is_none_or(|before| before < number)
+        && before.number.is_none_or(|before| before < number)
         && (parent == 255 || class == 3 && usize::from(parent) < counts.groups)
         && all_zero(&record[35..])
-        && !earlier.repeats(place - first, name);
-    earlier.number = Some(number);
+        && before.names.add(record);
+    before.number = Some(number);
     holds
 }
 
@@ -71,22 +59,6 @@ const IN_NAMES: [bool; 256] = {
     }
     table
 };
-
-/// Which bytes a name in label text may hold: small letters too.
-const IN_TEXTS: [bool; 256] = {
-    let mut table = IN_NAMES;
-    let mut byte = b'a';
-    while byte <= b'z' {
-        table[byte as usize] = true;
-        byte += 1;
-    }
-    table
-};
-
-/// A name in label text, of any length: one byte at least, and no byte that it may not hold.
-pub fn is_name(bytes: &[u8]) -> bool {
-    !bytes.is_empty() && bytes.iter().all(|&byte| IN_TEXTS[usize::from(byte)])
-}
 
 /// A length and 30 bytes: a name and zeros.
 fn name_holds(field: &[u8; 31]) -> bool {

@@ -1,7 +1,6 @@
 //! Sessions: opening, and new labels. The groups below a set are never written down: each group that is
 //! asked for is looked up in the table of ancestors.
 
-use super::groups::Ancestors;
 use super::label::{Label, Session};
 use super::policy::Policy;
 use super::records::set_at;
@@ -24,9 +23,9 @@ pub fn open(policy: &Policy, name: &[u8]) -> Result<Session, Refusal> {
 }
 
 /// A session that keeps its rules, with its user's rights.
-pub struct Lent {
+pub struct Lent<'a> {
+    pub policy: &'a Policy<'a>,
     pub session: Session,
-    pub ancestors: Ancestors,
     pub privileges: u8,
     pub minimum: u8,
     maximum: u8,
@@ -36,15 +35,15 @@ pub struct Lent {
     pub write_groups: u64,
 }
 
-impl Lent {
+impl<'a> Lent<'a> {
     /// 19 unless the user exists and both labels meet their rules.
-    pub fn accept(policy: &Policy, session: Option<Session>) -> Result<Lent, Refusal> {
+    pub fn accept(policy: &'a Policy, session: Option<Session>) -> Result<Lent<'a>, Refusal> {
         let exists = |session: &Session| usize::from(session.user) < policy.counts.users;
         let session = session.filter(exists).ok_or(Refusal::Session)?;
         let record = policy.user(session.user.into());
         let lent = Lent {
+            policy,
             session,
-            ancestors: Ancestors::read(policy.blocks, &policy.counts).map_err(Refusal::Ring)?,
             privileges: record[31],
             maximum: record[32],
             minimum: record[33],
@@ -58,8 +57,8 @@ impl Lent {
         holds.then_some(lent).ok_or(Refusal::Session)
     }
 
-    pub fn set_label(self, policy: &Policy, text: &[u8]) -> Result<Session, Refusal> {
-        let label = text::read(policy, text)?;
+    pub fn set_label(&self, text: &[u8]) -> Result<Session, Refusal> {
+        let label = text::read(self.policy, text)?;
         self.may_have(&label, &self.session.row)?;
         Ok(Session {
             label,
@@ -67,8 +66,8 @@ impl Lent {
         })
     }
 
-    pub fn set_row_label(self, policy: &Policy, text: &[u8]) -> Result<Session, Refusal> {
-        let row = text::read(policy, text)?;
+    pub fn set_row_label(&self, text: &[u8]) -> Result<Session, Refusal> {
+        let row = text::read(self.policy, text)?;
         self.may_have_row(&self.session.label, &row)?;
         Ok(Session {
             row,
@@ -84,7 +83,8 @@ impl Lent {
         if label.compartments & !self.read_compartments != 0 {
             return Err(Refusal::Compartments);
         }
-        if !self.ancestors.lies_below(label.groups, self.read_groups) {
+        let ancestors = &self.policy.ancestors;
+        if !ancestors.lies_below(label.groups, self.read_groups) {
             return Err(Refusal::Groups);
         }
         let inside = row.level <= label.level
@@ -107,7 +107,7 @@ impl Lent {
 
     /// Whether a row label's groups lie in the session's write groups.
     fn row_groups_hold(&self, label: &Label, row: &Label) -> bool {
-        self.ancestors.lies_below(row.groups, label.groups)
-            && self.ancestors.lies_below(row.groups, self.write_groups)
+        let ancestors = &self.policy.ancestors;
+        ancestors.all_below(row.groups, label.groups, self.write_groups)
     }
 }

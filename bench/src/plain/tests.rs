@@ -1,19 +1,20 @@
 //! The plain calls against the model.
 
-use super::*;
+use super::calls;
+use super::policy::Policy;
 use brawnesk_tests::builder::{to_image, Edition, Profile};
 use brawnesk_tests::calls::{Call, PairCall};
 use brawnesk_tests::cases::Case;
-use brawnesk_tests::compare::expected;
-use brawnesk_tests::ffi::LABEL;
-use brawnesk_tests::maps::{each_map_call, MapCall};
+use brawnesk_tests::compare::{expected, written};
+use brawnesk_tests::ffi::{Answer, LABEL};
+use brawnesk_tests::model::Kind;
 use brawnesk_tests::rng::Rng;
-use brawnesk_tests::row_calls::RowCall;
-use brawnesk_tests::{model, pairs, tables, texts, walk};
+use brawnesk_tests::writing::WriteCase;
+use brawnesk_tests::{model, pairs, texts, walk};
 
 /// Some damaged images of edition 1 bear the number of edition 2 or of the release profile, which the plain
 /// version doesn't know: it refuses the header, and the model goes on to the records.
-fn is_known(image: &[u8]) -> bool {
+pub fn is_known(image: &[u8]) -> bool {
     let is_two = image.get(4) == Some(&Edition::Two.number());
     let is_release = image.get(12) == Some(&Profile::Release.number());
     !is_two && !is_release
@@ -28,7 +29,7 @@ fn checks() {
             unknown += 1;
             continue;
         }
-        let answer = check(&image);
+        let answer = Policy::accepted(&image).map(|_| ());
         assert_eq!(answer, model::check(&image), "{kind:?}, seed {seed}");
     }
     assert!(unknown < 400, "{unknown}");
@@ -113,58 +114,6 @@ fn sessions_and_verdicts() {
 }
 
 #[test]
-fn rows() {
-    for seed in 0..500 {
-        tables::each_row_call(Edition::One, seed, 40, |step| {
-            if !is_known(step.image) {
-                return;
-            }
-            let (image, call, mut lent) = (step.image, &step.call, step.lent.clone());
-            let (session, table) = (&lent.session, &mut lent.table);
-            let answer = match call {
-                RowCall::Read { width } => {
-                    let mut buffer = lent.buffer.clone();
-                    let flat = calls::read_flat(image, session, table, *width, &mut buffer);
-                    assert_eq!(flat, step.answer, "seed {seed}: {call:?}, flat");
-                    assert!(buffer == step.after.buffer, "seed {seed}: {call:?}, flat");
-                    calls::read(image, session, table, *width, &mut lent.buffer)
-                }
-                RowCall::Update { width, n, payload } => {
-                    calls::update(image, session, table, *width, *n, payload)
-                }
-                RowCall::Masked { width, place, mask } => {
-                    calls::masked(image, session, table, *width, *place, mask)
-                }
-                RowCall::ReadMapped { width, map } => {
-                    calls::read_mapped(image, session, table, *width, map, &mut lent.buffer)
-                }
-            };
-            assert_eq!(answer, step.answer, "seed {seed}: {call:?}");
-            assert!(lent == step.after, "seed {seed}: {call:?}");
-        });
-    }
-}
-
-#[test]
-fn maps() {
-    for seed in 0..1_000 {
-        each_map_call(Edition::One, seed, 40, |step| {
-            if !is_known(step.image) {
-                return;
-            }
-            let (image, call, mut lent) = (step.image, &step.call, step.lent.clone());
-            let answer = match call {
-                MapCall::Make => calls::map(image, &lent.session, &mut lent.buffer),
-                MapCall::Judge(map) => calls::judge_map(image, &lent.session, map),
-                MapCall::Read(_) => panic!("no rows are read here"),
-            };
-            assert_eq!(answer, step.answer, "seed {seed}: {call:?}");
-            assert!(lent == step.after, "seed {seed}: {call:?}");
-        });
-    }
-}
-
-#[test]
 fn dominance() {
     for seed in 0..500 {
         pairs::each_pair(Edition::One, seed, 40, |step| {
@@ -196,3 +145,45 @@ fn merging() {
         }
     }
 }
+
+/// Records that are told to be of another edition or profile are not asked about.
+#[test]
+fn writing() {
+    let (mut unknown, mut done) = (0, 0);
+    for seed in 0..4_000 {
+        let case = WriteCase::new(Edition::One.tree(), seed);
+        if case.lists.edition == 2 || case.lists.profile == 1 {
+            unknown += 1;
+            continue;
+        }
+        let mut out = case.buffer.clone();
+        let answer = calls::write(&case.lists.lent(), &mut out);
+        assert_eq!(answer, case.answer, "{:?}, seed {seed}", case.kind);
+        assert!(out == case.after, "{:?}, seed {seed}", case.kind);
+        done += u32::from(matches!(answer, Answer::Done(_)));
+    }
+    assert!(unknown < 400 && done > 200, "{unknown} {done}");
+}
+
+#[test]
+fn taking_apart() {
+    for seed in 0..1_000 {
+        let image = Case::new(Edition::One, seed).image;
+        if !is_known(&image) {
+            continue;
+        }
+        let room = Rng::new(!seed).range(0, image.len());
+        for (kind, ask) in Kind::ALL.into_iter().zip(RECORDS) {
+            let (mut out, before) = (vec![b'#'; room], vec![b'#'; room]);
+            let answer = ask(&image, &mut out);
+            let wanted = written(model::records_of(&image, kind, room), &before);
+            assert!((answer, out) == wanted, "seed {seed}: {kind:?}");
+        }
+    }
+}
+
+const RECORDS: [fn(&[u8], &mut [u8]) -> Answer; 3] = [
+    calls::component_records,
+    calls::label_records,
+    calls::user_records,
+];

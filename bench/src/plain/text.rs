@@ -1,104 +1,130 @@
-//! Label text, read and printed.
+//! Label text, read name by name, 32 bytes of it at once.
 
-use super::label::{places, Label};
+use super::label::Label;
+use super::look_up::LookUp;
+use super::names::{capitals, name_in, Front, Words};
 use super::policy::{Class, Policy};
-use super::records::is_name;
 use brawnesk_tests::model::Refusal;
 
 const LONGEST: usize = 4_096;
 
-/// The label that a text names. The shape of the whole text comes before any of its names.
+/// The label that a text names.
 pub fn read(policy: &Policy, text: &[u8]) -> Result<Label, Refusal> {
-    if text.len() > LONGEST || !has_shape(text) {
+    if text.len() > LONGEST {
         return Err(Refusal::Text);
     }
-    let mut parts = text.split(|&byte| byte == b':');
-    let [level, compartments, groups] = [(); 3].map(|()| parts.next().unwrap_or_default());
-    let place = policy.place_of(Class::Level, level);
-    let first = level.len() + 1;
-    let second = first + compartments.len() + 1;
-    Ok(Label {
-        level: place.ok_or(Refusal::NameUnknown(0))? as u8,
-        compartments: read_list(policy, Class::Compartment, compartments, first)?,
-        groups: read_list(policy, Class::Group, groups, second)?,
-    })
-}
-
-/// LEVEL, LEVEL:list, LEVEL:list:list or LEVEL::list.
-fn has_shape(text: &[u8]) -> bool {
-    let mut parts = text.split(|&byte| byte == b':');
-    let level = parts.next().unwrap_or_default();
-    let lists = [(); 3].map(|()| parts.next());
-    is_name(level)
-        && match lists {
-            [None, ..] => true,
-            [Some(first), None, _] => is_list(first),
-            [Some(first), Some(second), None] => {
-                (first.is_empty() || is_list(first)) && is_list(second)
-            }
-            _ => false,
-        }
-}
-
-fn is_list(part: &[u8]) -> bool {
-    part.split(|&byte| byte == b',').all(is_name)
-}
-
-/// The places that a list names; `at` is its offset in the text.
-fn read_list(policy: &Policy, class: Class, list: &[u8], mut at: usize) -> Result<u64, Refusal> {
-    let mut set = 0;
-    if list.is_empty() {
-        return Ok(set);
-    }
-    for name in list.split(|&byte| byte == b',') {
-        let place = policy.place_of(class, name);
-        let bit = 1 << place.ok_or(Refusal::NameUnknown(at))?;
-        if set & bit != 0 {
-            return Err(Refusal::NameRepeated(at));
-        }
-        set |= bit;
-        at += name.len() + 1;
-    }
-    Ok(set)
-}
-
-/// Prints a label to the front of the buffer and gives the text's length.
-pub fn print(policy: &Policy, label: Option<Label>, buffer: &mut [u8]) -> Result<usize, Refusal> {
-    let known = label.filter(|label| policy.has(label));
-    let label = known.ok_or(Refusal::Component)?;
-    let length = pieces(policy, &label).map(<[u8]>::len).sum();
-    let mut rest = buffer.get_mut(..length).ok_or(Refusal::Room)?;
-    for piece in pieces(policy, &label) {
-        let (here, after) = rest.split_at_mut(piece.len());
-        here.copy_from_slice(piece);
-        rest = after;
-    }
-    Ok(length)
-}
-
-/// The names of a text and what stands before each of them.
-fn pieces<'a>(policy: &'a Policy, label: &Label) -> impl Iterator<Item = &'a [u8]> {
-    let level = policy.name(Class::Level, label.level.into());
-    let before_groups: &[u8] = match label.compartments {
-        0 => b"::",
-        _ => b":",
+    let mut reading = Reading {
+        policy,
+        text,
+        at: 0,
+        refused: None,
     };
-    [level]
-        .into_iter()
-        .chain(list(policy, Class::Compartment, label.compartments, b":"))
-        .chain(list(policy, Class::Group, label.groups, before_groups))
+    let label = reading.label().ok_or(Refusal::Text)?;
+    reading.refused.map_or(Ok(label), Err)
 }
 
-/// The names of a set's places, each after its separator.
-fn list<'a>(
-    policy: &'a Policy,
-    class: Class,
-    set: u64,
-    first: &'a [u8],
-) -> impl Iterator<Item = &'a [u8]> {
-    let lowest = set.trailing_zeros() as usize;
-    places(set).flat_map(move |place| {
-        let separator = if place == lowest { first } else { b"," };
-        [separator, policy.name(class, place)]
-    })
+struct Reading<'a> {
+    policy: &'a Policy<'a>,
+    text: &'a [u8],
+    at: usize,
+    /// The leftmost name that is refused. The shape of the whole text comes before it.
+    refused: Option<Refusal>,
+}
+
+impl Reading<'_> {
+    /// LEVEL, LEVEL:list, LEVEL:list:list or LEVEL::list; nothing for any other shape.
+    fn label(&mut self) -> Option<Label> {
+        let name = self.name()?;
+        let found = name.and_then(|name| LookUp::few(self.policy, Class::Level).place_of(&name));
+        if found.is_none() {
+            self.refused = Some(Refusal::NameUnknown(0));
+        }
+        let mut label = Label {
+            level: found.unwrap_or(0) as u8,
+            compartments: 0,
+            groups: 0,
+        };
+        if self.is_done() {
+            return Some(label);
+        }
+        self.passes(b':').then_some(())?;
+        if !self.is_at(b':') {
+            label.compartments = self.list(Class::Compartment)?;
+            if self.is_done() {
+                return Some(label);
+            }
+        }
+        self.passes(b':').then_some(())?;
+        label.groups = self.list(Class::Group)?;
+        self.is_done().then_some(label)
+    }
+
+    /// The places that a list names.
+    fn list(&mut self, class: Class) -> Option<u64> {
+        let look_up = LookUp::new(self.policy, class, self.text.len() - self.at);
+        let mut set = 0;
+        loop {
+            let at = self.at;
+            let name = self.name()?;
+            if self.refused.is_none() {
+                let place = name.and_then(|name| look_up.place_of(&name));
+                let bit = place.map_or(0, |place| 1 << place);
+                if bit == 0 {
+                    self.refused = Some(Refusal::NameUnknown(at));
+                } else if set & bit != 0 {
+                    self.refused = Some(Refusal::NameRepeated(at));
+                }
+                set |= bit;
+            }
+            if !self.passes(b',') {
+                return Some(set);
+            }
+        }
+    }
+
+    /// Goes behind the name that stands here and gives it in capitals; nothing inside where it has over 30 bytes, and
+    /// nothing where there is none.
+    #[inline(always)]
+    fn name(&mut self) -> Option<Option<Words>> {
+        let (capitals, length) = capitals(&self.front());
+        self.at += length;
+        if length > 30 {
+            while self.passes_letter() {}
+            return Some(None);
+        }
+        (length > 0).then(|| Some(name_in(&capitals, length)))
+    }
+
+    /// The next 32 bytes, with zeros after the text.
+    #[inline(always)]
+    fn front(&self) -> Front {
+        let rest = &self.text[self.at..];
+        if let Some(front) = rest.first_chunk() {
+            return *front;
+        }
+        let mut front = [0; 32];
+        front[..rest.len()].copy_from_slice(rest);
+        front
+    }
+
+    fn is_done(&self) -> bool {
+        self.at == self.text.len()
+    }
+
+    fn is_at(&self, byte: u8) -> bool {
+        self.text.get(self.at) == Some(&byte)
+    }
+
+    fn passes(&mut self, byte: u8) -> bool {
+        let is_at = self.is_at(byte);
+        self.at += usize::from(is_at);
+        is_at
+    }
+
+    fn passes_letter(&mut self) -> bool {
+        let byte = self.text.get(self.at);
+        let is_letter = byte.is_some_and(|byte| byte.is_ascii_alphanumeric() || *byte == b'_');
+        self.at += usize::from(is_letter);
+        is_letter
+    }
 }

@@ -1,34 +1,39 @@
 //! Verdicts on a row's tag.
 
 use super::label::Label;
-use super::policy::Policy;
 use super::sessions::Lent;
 
 pub const READ: u8 = 1;
 pub const FULL: u8 = 2;
 pub const COMPACCESS: u8 = 4;
 
-pub fn may_read(policy: &Policy, lent: &Lent, tag: u32) -> bool {
+pub fn may_read(lent: &Lent, tag: u32) -> bool {
     lent.privileges & (READ | FULL) != 0
-        || policy
+        || lent
+            .policy
             .labels()
             .with(tag)
-            .is_some_and(|row| is_readable(lent, &row))
+            .is_some_and(|row| is_readable(lent, &Label::of_record(row)))
 }
 
-pub fn may_write(policy: &Policy, lent: &Lent, tag: u32) -> bool {
+pub fn may_write(lent: &Lent, tag: u32) -> bool {
     lent.privileges & FULL != 0
-        || policy
+        || lent
+            .policy
             .labels()
             .with(tag)
-            .is_some_and(|row| is_writable(lent, &row))
+            .is_some_and(|row| is_writable(lent, &Label::of_record(row)))
 }
 
 fn is_readable(lent: &Lent, row: &Label) -> bool {
     let label = &lent.session.label;
     let by_groups = || {
         let groups = label.groups;
-        row.groups == 0 || lent.ancestors.meets_below(row.groups, groups, groups)
+        row.groups == 0
+            || lent
+                .policy
+                .ancestors
+                .meets_below(row.groups, groups, groups)
     };
     row.level <= label.level
         && row.compartments & !label.compartments == 0
@@ -44,7 +49,7 @@ fn is_writable(lent: &Lent, row: &Label) -> bool {
     if row.groups == 0 || has_compaccess(lent, row) && all_written {
         return all_written;
     }
-    let ancestors = &lent.ancestors;
+    let ancestors = &lent.policy.ancestors;
     row.compartments & !label.compartments == 0
         && ancestors.meets_below(row.groups, label.groups, lent.write_groups)
 }
