@@ -3,6 +3,7 @@ pub mod MeaningComponents
 pub mod MeaningHeader
 pub mod MeaningLabels
 pub mod MeaningUsers
+pub mod Marks
 pub mod Parts
 pub mod Rising
 pub mod Rooms

@@ -2,15 +2,18 @@
 use Prim.Native.Nat.{ℕ, _+_, _-_, _*_, _/_, _≤_, _<_}
 use mathlib.Core.Path.{_≡_, sym, ap, _∙_}
 use mathlib.Core.List.{List}
-use native.Mathlib.Nat.{add-zero, add-sub-of-le, mul-div-right}
+use native.Mathlib.Nat.{zero-add, add-zero, add-sub-of-le, mul-div-right}
 use native.Mathlib.Omega.{arith}
 use lib.Dec.{eqb}
 use lib.ListN.{length}
 use Rattle.fields.specs.Scan.{firstBad}
-use Rattle.fields.proofs.Scan.{bad-shift, bad-same-on}
+use Rattle.fields.proofs.Scan.{bad-shift, bad-same-on, list-length, list-at}
+use Rattle.header.specs.declared.layout.Kind.the-variants.{Component}
 use Rattle.header.specs.declared.counts.Counts.{Counts}
+use Rattle.header.specs.Layout.{countOf, recordsOf}
+use Rattle.header.proofs.Inside.{record-of}
 use Rattle.records.specs.Fields.{componentName}
-use Rattle.records.specs.Rules.{recordIn, runRecord, classStart, otherName, runNamed, newNameRule}
+use Rattle.records.specs.Rules.{recordIn, runRecord, runRecords, classStart, otherName, runNamed, othersNamed, newNameRule}
 
 -- a name is new where a search of the class up to it finds none before it
 pub fresh-by : (n : Counts) (records : List (List ℕ)) (i start r : ℕ) → start ≡ classStart n i → start ≤ i
@@ -28,3 +31,18 @@ run-bad run n from other long same name =
     let alike = bad-same-on (runNamed run name) (λ q. otherName name (other (from + q))) n 0 (λ q low high. ap (otherName name) (same q (omega arith))) in
     ap (λ (k : ℕ). from + firstBad (runNamed run name) k 0) count ∙ ap (λ (k : ℕ). from + k) alike
     ∙ sym (bad-shift (λ j. otherName name (other j)) from n 0) ∙ ap (firstBad (λ j. otherName name (other j)) n) (add-zero from)
+
+-- ---- the same searches by the list of the records: of an image, and of a run
+pub listed : (im name : List ℕ) (n k : ℕ) → k + n ≤ countOf im Component
+    → firstBad (othersNamed im name) n k ≡ firstBad (λ j. otherName name (recordIn (recordsOf im Component) j)) n k
+listed im name n k h =
+    bad-same-on _ _ n k (λ i low high. ap (otherName name) (sym (record-of im Component i (omega arith))))
+
+module _ (size : ℕ) (run : List ℕ) where
+  pub run-count : length (runRecords size run) ≡ length run / size
+  unfolding runRecords
+  run-count = list-length (runRecord size run) (length run / size) 0
+
+  pub run-record : (j : ℕ) → j < length run / size → recordIn (runRecords size run) j ≡ runRecord size run j
+  unfolding runRecords
+  run-record j h = list-at (runRecord size run) (length run / size) 0 j _ h ∙ rw zero-add

@@ -3,3 +3,4 @@ pub mod Fields
 pub mod Users
 pub mod Existing
 pub mod Rules
+pub mod Fresh

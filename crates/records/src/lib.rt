@@ -3,6 +3,7 @@ pub mod blocks;
 pub mod component_run;
 pub mod components;
 pub mod existing;
+pub mod fresh;
 pub mod group_sets;
 pub mod label_run;
 pub mod labels;

@@ -5,21 +5,14 @@ use native.Mathlib.Omega.{arith}
 use borrow.Author.Needs.{needs}
 use lib.ListN.{length, length-take, length-drop}
 use Rattle.fields.specs.Scan.{firstBad}
-use Rattle.fields.proofs.Scan.{bad-same-on}
 use Rattle.header.specs.declared.layout.Kind.the-variants.{Component}
 use Rattle.header.specs.Layout.{countOf, recordAt, recordsOf}
 use Rattle.header.proofs.Inside.{record-of}
 use Rattle.records.specs.Fields.{componentName}
-use Rattle.records.specs.Rules.{recordIn, otherName, othersNamed, freshRule}
-use Rattle.records.proofs.Parts.{fresh-by}
+use Rattle.records.specs.Rules.{recordIn, othersNamed}
+use Rattle.records.proofs.Parts.{fresh-by, listed}
 use Rattle.records.proofs.blocks.fresh_ok.Statement.{statement}
 use Rattle.records.proofs.blocks.fresh_ok.Tie as tie
-
--- the image's components are those of the list
-listed : (im name : List ℕ) (n k : ℕ) → k + n ≤ countOf im Component
-    → firstBad (othersNamed im name) n k ≡ firstBad (λ j. otherName name (recordIn (recordsOf im Component) j)) n k
-listed im name n k h =
-    bad-same-on _ _ n k (λ i low high. ap (otherName name) (sym (record-of im Component i (omega arith))))
 
 enum-told : tie.Need-enum-told
 enum-told c = search needs

@@ -1,0 +1,117 @@
+-- The filter of names: what marking a key does, that equal names have one key, and what a name that is not marked tells. Assumes nothing.
+use Prim.Native.Nat.{ℕ, _+_, _-_, _%_, _≤_, _<_}
+use mathlib.Core.Path.{_≡_, refl, sym, ap, _∙_}
+use mathlib.Core.Bool.{Bool, true, false, true≢false}
+use mathlib.Core.List.{List}
+use mathlib.Core.Logic.{⊎-elim}
+use native.Mathlib.Nat.{eq-or-lt-of-le}
+use native.Mathlib.Omega.{arith}
+use borrow.Author.Tests.{eqb-true, eqb-false}
+use lib.Dec.{eqb}
+use lib.ListN.{length, getD, set, List·getD-eq-default}
+use lib.Seq.{getD-set-same, getD-set-other}
+use Rattle.fields.specs.Bytes.{byteAt, part, number2, number4, number8}
+use Rattle.fields.specs.Names.{nameIn, nameRule}
+use Rattle.fields.proofs.Both.{below-or}
+use Rattle.fields.proofs.Laws.{part-byte, part-short}
+use Rattle.fields.proofs.Meaning.{NameKept, name-means, name-byte-at}
+use Rattle.sets.specs.Sets.{union, within}
+use Rattle.sets.proofs.Within.{within-trans, within-union-left, within-union-right}
+use Rattle.header.specs.declared.counts.Counts.{Counts}
+use Rattle.header.specs.Layout.{classFirst, classAt}
+use Rattle.records.specs.Fields.{componentNameField, componentName}
+use Rattle.records.specs.Rules.{recordIn, classStart, newNameRule}
+use Rattle.records.specs.Fresh.{nameKey, wordOfKey, bitsOfKey, marked, MarkedToo, NamesKept, Marked}
+use Rattle.records.proofs.MeaningComponents.{class-between, new-name-holds}
+
+-- ---- the bits of a key are set in its word
+module _ (filter : List ℕ) (key : ℕ) (room : wordOfKey key < length filter) where
+  abbrev pub withMark : List ℕ
+  withMark = set filter (wordOfKey key) (union (getD filter (wordOfKey key) 0) (bitsOfKey key))
+
+  mark-here : marked withMark key ≡ true
+  unfolding marked
+  mark-here = rw (getD-set-same filter (wordOfKey key) (union (getD filter (wordOfKey key) 0) (bitsOfKey key)) 0 room)
+      (within-union-right (getD filter (wordOfKey key) 0) (bitsOfKey key))
+
+  mark-still : (other : ℕ) → marked filter other ≡ true → marked withMark other ≡ true
+  unfolding marked
+  mark-still other e = at (eqb (wordOfKey other) (wordOfKey key)) refl
+    where
+      at : (t : Bool) → eqb (wordOfKey other) (wordOfKey key) ≡ t → within (bitsOfKey other) (getD withMark (wordOfKey other) 0) ≡ true
+      at true q =
+          let same : wordOfKey other ≡ wordOfKey key = eqb-true _ _ q in
+          rw (same, getD-set-same filter (wordOfKey key) (union (getD filter (wordOfKey key) 0) (bitsOfKey key)) 0 room)
+          (within-trans (bitsOfKey other) (getD filter (wordOfKey key) 0) _ (rw same at e) (within-union-left (getD filter (wordOfKey key) 0) (bitsOfKey key)))
+      at false q = rw (getD-set-other filter (wordOfKey key) (wordOfKey other) (union (getD filter (wordOfKey key) 0) (bitsOfKey key)) 0 (eqb-false _ _ q)) e
+
+  pub mark-too : MarkedToo key filter withMark
+  mark-too = record { here = mark-here; still = mark-still }
+
+-- ---- equal names have one key
+-- the 30 bytes after the length are the name and then zeros
+padded : (field : List ℕ) → NameKept field → (i : ℕ) → i < 30 → byteAt field (1 + i) ≡ byteAt (nameIn field) i
+unfolding nameIn
+padded field k i h =
+    ⊎-elim (λ l. sym (part-byte field 1 (byteAt field 0) i l))
+    (λ l. k .rest (1 + i) (omega arith) (omega arith)
+    ∙ sym (List·getD-eq-default (part field 1 (byteAt field 0)) 0 (omega (arith, part-short field 1 (byteAt field 0)))))
+    (below-or i (byteAt field 0))
+
+module _ (a b : List ℕ) where
+  same-word : (k : ℕ) → ((i : ℕ) → k ≤ i → i < k + 8 → byteAt a i ≡ byteAt b i) → number8 a k ≡ number8 b k
+  unfolding number8 number4 number2
+  same-word k f =
+      rw (
+        f k (omega arith) (omega arith),
+        f (k + 1) (omega arith) (omega arith),
+        f (k + 2) (omega arith) (omega arith),
+        f (k + 2 + 1) (omega arith) (omega arith),
+        f (k + 4) (omega arith) (omega arith),
+        f (k + 4 + 1) (omega arith) (omega arith),
+        f (k + 4 + 2) (omega arith) (omega arith),
+        f (k + 4 + 2 + 1) (omega arith) (omega arith),
+      )
+
+  same-bytes : nameRule (componentNameField a) ≡ true → nameRule (componentNameField b) ≡ true → componentName a ≡ componentName b
+      → (i : ℕ) → 2 ≤ i → i < 32 → byteAt a i ≡ byteAt b i
+  same-bytes p q e i low high =
+      let j : ℕ = i - 2 in
+      let at : 1 + (1 + j) ≡ i = omega arith in
+      let of : (rec : List ℕ) → nameRule (componentNameField rec) ≡ true → byteAt rec i ≡ byteAt (componentName rec) j =
+      λ rec r. ap (byteAt rec) (sym at) ∙ sym (part-byte rec 1 31 (1 + j) (omega arith))
+      ∙ padded (componentNameField rec) (name-means _ r) j (omega arith) in
+      of a p ∙ ap (λ (name : List ℕ). byteAt name j) e ∙ sym (of b q)
+
+  pub same-key : nameRule (componentNameField a) ≡ true → nameRule (componentNameField b) ≡ true → componentName a ≡ componentName b
+      → nameKey a ≡ nameKey b
+  unfolding nameKey
+  same-key p q e =
+      let word : (k : ℕ) → 2 ≤ k → k + 8 ≤ 32 → number8 a k ≡ number8 b k =
+      λ k low high. same-word k (λ i l h. same-bytes p q e i (omega arith) (omega arith)) in
+      rw (word 2 (omega arith) (omega arith), word 10 (omega arith) (omega arith), word 18 (omega arith) (omega arith), word 24 (omega arith) (omega arith))
+
+-- ---- the components of a class up to place i are marked
+module _ (n : Counts) (records : List (List ℕ)) (i : ℕ) (filter : List ℕ) where
+  -- where a class begins there is none
+  pub marked-none : i ≡ classStart n i → Marked n records i filter
+  marked-none e = record { each = λ j low high. absurd (omega arith) }
+
+  pub marked-next : (after : List ℕ) → Marked n records i filter → MarkedToo (nameKey (recordIn records i)) filter after
+      → Marked n records (i + 1) after
+  marked-next after m too = record { each = each }
+    where
+      each : (j : ℕ) → classStart n (i + 1) ≤ j → j < i + 1 → marked after (nameKey (recordIn records j)) ≡ true
+      each j low high =
+          let upto : j ≤ i = omega arith in
+          let class : classAt n i ≡ classAt n (i + 1) = class-between n i (i + 1) (omega arith) (omega arith) in
+          let start : classStart n i ≡ classStart n (i + 1) = ap (classFirst n) class in
+          ⊎-elim (λ e. rw e (too .here)) (λ l. too .still _ (m .each j (omega arith) l)) (eq-or-lt-of-le upto)
+
+  -- a name that is not marked is new
+  pub new-unmarked : NamesKept records (i + 1) → Marked n records i filter → marked filter (nameKey (recordIn records i)) ≡ false
+      → newNameRule n records i ≡ true
+  new-unmarked kept m e =
+      new-name-holds n records i
+      (λ j low high named. let key = same-key (recordIn records j) (recordIn records i) (kept .each j (omega arith)) (kept .each i (omega arith)) named in
+      true≢false (sym (m .each j low high) ∙ ap (marked filter) key ∙ e))

@@ -1,0 +1,90 @@
+use Prim.Native.Nat.{ℕ, _+_, _-_, _≤_}
+use mathlib.Core.Path.{_≡_, sym, ap, _∙_}
+use mathlib.Core.List.{List}
+use mathlib.Core.Logic.{⊎-elim}
+use borrow.Author.Tests.{not-true, not-false}
+use native.Mathlib.Omega.{arith}
+use Rattle.fields.specs.Scan.{firstBad}
+use Rattle.records.specs.Fields.{componentName}
+use Rattle.records.specs.Rules.{recordIn, otherName}
+use Rattle.records.specs.Fresh.{nameKey, marked, componentsIn, Marked}
+use Rattle.records.proofs.Marks.{marked-none, marked-next, new-unmarked}
+use Rattle.records.proofs.Parts.{fresh-by}
+use borrow.Author.Needs.{needs}
+use Rattle.records.proofs.fresh.is_fresh.Statement.{statement}
+use Rattle.records.proofs.fresh.is_fresh.Tie as tie
+
+-- the components of the class up to i are marked in the filter as it goes to `mark`, cleared or not
+marked-yet : (c : tie.After-mark)
+    → let joined = c .before .before in
+    let start = joined .before .before .before .before in
+    Marked (start .args .counts) (componentsIn (start .args .source) (start .args .records .now)) (start .args .i) (joined .if1 .seen)
+marked-yet c =
+    let joined = c .before .before in
+    let begun = joined .before in
+    let start = begun .before .before .before in
+    ⊎-elim
+    (λ t. marked-none _ _ _ _ (t .0 .taken ∙ begun .class-start .ensures .0))
+    (λ e. rw (e .1) (start .pre .1 .1 .1))
+    (joined .if1 .came)
+
+class-start-requires : tie.Need-class-start-requires
+class-start-requires c κs = search needs
+
+mark-requires : tie.Need-mark-requires
+mark-requires c κs = search needs
+
+returns : tie.Need-returns
+returns c =
+    let asked = c .before in
+    let start = asked .before .before .before .before .before .before in
+    let yet = marked-yet asked in
+    let is = start .pre .1 .0 .0 in
+    let told = asked .mark .ensures in
+    let unset = sym (told .0 ∙ ap (λ (rec : List ℕ). marked (asked .before .before .if1 .seen) (nameKey rec)) is) ∙ not-true _ (c .if2 .taken) in
+    (sym (new-unmarked _ _ _ _ (start .pre .1 .1 .0) yet unset), marked-next _ _ _ _ _ yet (rw is at (told .1)))
+
+sub-name-in : tie.Need-sub-name-in
+sub-name-in c = search needs
+
+part-name-in-start : tie.Need-part-name-in-start
+part-name-in-start c = search needs
+
+part-name-in-end : tie.Need-part-name-in-end
+part-name-in-end c = search needs
+
+name-in-requires : tie.Need-name-in-requires
+name-in-requires c κs = search needs
+
+first-same-requires : tie.Need-first-same-requires
+first-same-requires c κs = search needs
+
+returns-2 : tie.Need-returns-2
+returns-2 c =
+    let named = c .before in
+    let asked = named .before .before .before in
+    let begun = asked .before .before .before in
+    let start = begun .before .before .before in
+    let a = start .args in
+    let records = componentsIn (a .source) (a .records .now) in
+    let is = start .pre .1 .0 .0 in
+    let found = c .first-same .ensures
+    ∙ ap (λ (name : List ℕ). firstBad (λ j. otherName name (recordIn records j)) (a .i - begun .class-start .result) (begun .class-start .result))
+    (named .name-in .ensures ∙ ap componentName is) in (
+      fresh-by (a .counts) records (a .i) _ _ (begun .class-start .ensures .0) (begun .class-start .ensures .1) found,
+      marked-next _ _ _ _ _ (marked-yet asked) (rw is at (asked .mark .ensures .1)),
+    )
+
+pub is-fresh-spec : {M : Type 1} → statement M
+is-fresh-spec =
+    tie.close
+    (tie.spec
+    class-start-requires
+    mark-requires
+    returns
+    sub-name-in
+    part-name-in-start
+    part-name-in-end
+    name-in-requires
+    first-same-requires
+    returns-2)
