@@ -1,3 +1,4 @@
 pub mod Sets
 pub mod Words
 pub mod Groups
+pub mod Transposed
