@@ -10,6 +10,8 @@
 --     OrderTurns the loop that orders them
 --     InOrder   `below` of a set by one pass over the order
 --     OfImage   the forest and the rules of an image, by its records
+--     ColumnTurns the pass over the groups for many users at once
+--     ColumnRules what that pass tells of the users
 pub mod Lineage
 pub mod Room
 pub mod Walks
@@ -21,3 +23,5 @@ pub mod Ordering
 pub mod OrderTurns
 pub mod InOrder
 pub mod OfImage
+pub mod ColumnTurns
+pub mod ColumnRules

@@ -1,4 +1,5 @@
 -- Groups and their parents: what lies below a set of groups, and the paths by which the code finds it.
 pub mod Forest
 pub mod Below
+pub mod Columns
 pub mod Paths

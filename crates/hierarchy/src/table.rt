@@ -30,7 +30,7 @@ pub(crate) fn wide(place: u16) -> usize
 }
 
 // The parent's place that the table holds for g.
-fn stored(table: &Table, g: usize) -> usize
+pub(crate) fn stored(table: &Table, g: usize) -> usize
     requires { ⌜ g < tableRoom ⌝ }
     ensures { λ r. ⌜ r ≡ getD (now (table .entry)) g 0 ⌝ }
 {
@@ -38,7 +38,7 @@ fn stored(table: &Table, g: usize) -> usize
 }
 
 // The group at place i of the order.
-fn ordered(table: &Table, i: usize) -> usize
+pub(crate) fn ordered(table: &Table, i: usize) -> usize
     requires { ⌜ i < tableRoom ⌝ }
     ensures { λ r. ⌜ r ≡ orderAt (now (table .entry)) i ⌝ }
 {
