@@ -12,6 +12,7 @@
 --     OfImage   the forest and the rules of an image, by its records
 --     ColumnTurns the pass over the groups for many users at once
 --     ColumnRules what that pass tells of the users
+--     PutSets   sets in rows, and the rows turned over
 pub mod Lineage
 pub mod Room
 pub mod Walks
@@ -25,3 +26,4 @@ pub mod InOrder
 pub mod OfImage
 pub mod ColumnTurns
 pub mod ColumnRules
+pub mod PutSets

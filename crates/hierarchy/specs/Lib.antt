@@ -2,4 +2,5 @@
 pub mod Forest
 pub mod Below
 pub mod Columns
+pub mod SetRows
 pub mod Paths

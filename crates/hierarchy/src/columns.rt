@@ -50,7 +50,12 @@ fn lacked(count: usize, table: &Table, first: &mut [u64], second: &mut [u64]) ->
 }
 
 // The lowest of thirty-two users whose groups break the rule of the tree; 32 where there is none. The rows are written over.
-pub fn lowest_bad(count: usize, table: &Table, first: &mut [u64], second: &mut [u64]) -> usize
+pub(crate) fn lowest_bad(
+    count: usize,
+    table: &Table,
+    first: &mut [u64],
+    second: &mut [u64],
+) -> usize
     requires { ⌜ OrderedBy count (now table) × ((length (now first) ≡ tableRoom) × (length (now second) ≡ tableRoom)) ⌝ }
     ensures { λ r. ⌜ r ≡ firstBad (columnsRule (forestBy count (now (table .entry))) (now (first .entry)) (now (second .entry))) 32 0 ⌝ }
 {

@@ -1,5 +1,6 @@
 // Groups and their parents: rings of parents, and what lies below a set of groups.
-pub mod columns;
+mod columns;
 pub mod group_rules;
 pub mod order;
+pub mod set_rows;
 pub mod table;
