@@ -4,6 +4,7 @@ pub mod Reading
 pub mod Runs
 pub mod Splitting
 pub mod Classes
+pub mod Unique
 pub mod Naming
 pub mod Tells
 pub mod Letters

@@ -5,3 +5,4 @@ pub mod Text
 pub mod Parse
 pub mod States
 pub mod Lists
+pub mod Hints

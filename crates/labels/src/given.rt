@@ -1,6 +1,6 @@
 // Reading a text, for the crates above, once the image is known to be accepted.
 ghost use mathlib.Core.Path.{_≡_};
-ghost use Rattle.header.specs.Limits.{Counted};
+ghost use Rattle.image.specs.Check.{IsAccepted};
 ghost use Rattle.labels.specs.Parse.{readText, readOf};
 use crate::answers::Reason;
 use crate::answers::TextRead;
@@ -10,7 +10,7 @@ use header::limits::text_limit;
 
 // The shape of the whole text comes before any of its names.
 pub fn read_text(image: &[u8], text: &[u8]) -> TextRead
-    requires { ⌜ Counted (now image) ⌝ }
+    requires { ⌜ IsAccepted (now image) ⌝ }
     ensures { λ r. ⌜ readOf r ≡ readText (now (image .entry)) (now (text .entry)) ⌝ }
 {
     if !shape_ok(text, text_limit(image)) {

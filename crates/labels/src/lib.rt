@@ -2,6 +2,7 @@
 pub mod answers;
 pub mod given;
 pub mod group_test;
+mod hints;
 pub mod label;
 mod lists;
 mod names;

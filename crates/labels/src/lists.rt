@@ -2,14 +2,16 @@
 ghost use Prim.Native.Nat.{_+_, _≤_};
 ghost use mathlib.Core.Path.{_≡_};
 ghost use lib.ListN.{length, drop};
-ghost use Rattle.header.specs.Limits.{Counted};
 ghost use Rattle.sets.specs.Groups.{placesOf};
+ghost use Rattle.image.specs.Check.{IsAccepted};
 ghost use Rattle.labels.specs.Text.{comma, split};
 ghost use Rattle.labels.specs.Parse.{readNames, readList};
 ghost use Rattle.labels.specs.Lists.{untilMark, afterMark, namesOf, listOf};
 use crate::answers::Reason;
+use crate::hints::Hints;
+use crate::hints::fill;
 use crate::names::Found;
-use crate::names::find;
+use crate::names::find_by;
 use sets::groups::Groups;
 
 // What a list gives: the places that it names, or why the text is refused.
@@ -51,39 +53,41 @@ pub fn mark_from(text: &[u8], at: usize, mark: u8) -> usize
 }
 
 // A list is one name, or one name, a comma and a list. `set` has the names before this one.
-fn read_names(image: &[u8], class: u8, text: &[u8], at: usize, set: Groups) -> Names
-    requires { ⌜ Counted (now image) × (((1 ≤ class) × (class ≤ 3)) × (at ≤ length (now text))) ⌝ }
+fn read_names(image: &[u8], class: u8, text: &[u8], at: usize, hints: &Hints, set: Groups) -> Names
+    requires { ⌜ IsAccepted (now image) × (((1 ≤ class) × (class ≤ 3)) × (at ≤ length (now text))) ⌝ }
     ensures { λ r. ⌜ namesOf r ≡ readNames (now (image .entry)) class at (placesOf set) (split comma (drop at (now (text .entry)))) ⌝ }
 {
     let end = mark_from(text, at, 44);
-    let found = find(image, class, &text[at..end]);
+    let found = find_by(image, class, hints, &text[at..end]);
     let Found::At(place) = found else {
         return Names::Unknown(at);
     };
     if set.has(place) {
         return Names::Repeated(at);
     }
-    after_name(image, class, text, end, set.with(place))
+    after_name(image, class, text, end, hints, set.with(place))
 }
 
 // After a name the list ends, or a comma and a list follow.
-fn after_name(image: &[u8], class: u8, text: &[u8], at: usize, set: Groups) -> Names
-    requires { ⌜ Counted (now image) × (((1 ≤ class) × (class ≤ 3)) × (at ≤ length (now text))) ⌝ }
+fn after_name(image: &[u8], class: u8, text: &[u8], at: usize, hints: &Hints, set: Groups) -> Names
+    requires { ⌜ IsAccepted (now image) × (((1 ≤ class) × (class ≤ 3)) × (at ≤ length (now text))) ⌝ }
     ensures { λ r. ⌜ namesOf r ≡ readNames (now (image .entry)) class (at + 1) (placesOf set) (afterMark comma (now (text .entry)) at) ⌝ }
 {
     if at < text.len() {
-        return read_names(image, class, text, at + 1, set);
+        return read_names(image, class, text, at + 1, hints, set);
     }
     Names::Read(set)
 }
 
 // The list from `at` on; one that is empty gives the empty set.
 pub fn read_list(image: &[u8], class: u8, text: &[u8], at: usize) -> ListRead
-    requires { ⌜ Counted (now image) × (((1 ≤ class) × (class ≤ 3)) × (at ≤ length (now text))) ⌝ }
+    requires { ⌜ IsAccepted (now image) × (((1 ≤ class) × (class ≤ 3)) × (at ≤ length (now text))) ⌝ }
     ensures { λ r. ⌜ listOf r ≡ readList (now (image .entry)) class at (drop at (now (text .entry))) ⌝ }
 {
     if at < text.len() {
-        return list_read(read_names(image, class, text, at, Groups::none()));
+        let mut hints = [0u8; 1024];
+        fill(image, class, text.len() - at, &mut hints);
+        return list_read(read_names(image, class, text, at, &hints, Groups::none()));
     }
     ListRead::Read(Groups::none())
 }

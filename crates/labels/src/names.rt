@@ -1,9 +1,17 @@
 // Names in a text: the component of a class that one matches. Small letters are taken as capitals.
-ghost use Prim.Native.Nat.{_≤_};
+ghost use Prim.Native.Nat.{_≤_, _<_};
 ghost use mathlib.Core.Path.{_≡_};
+ghost use Rattle.header.specs.Layout.{Fitted, components, componentRecord};
 ghost use Rattle.header.specs.Limits.{Counted};
-ghost use Rattle.labels.specs.Parse.{placeOfName};
+ghost use Rattle.records.specs.Fields.{componentName};
+ghost use Rattle.image.specs.Check.{IsAccepted};
+ghost use Rattle.labels.specs.Parse.{matches, placeOfName};
 ghost use Rattle.labels.specs.Lists.{foundOf};
+ghost use Rattle.labels.specs.Hints.{HasName};
+use crate::hints::Hints;
+use crate::hints::name_number;
+use crate::hints::wide;
+use fields::folded::same_folded;
 use fields::names::Letters;
 use header::layout;
 use records::components;
@@ -34,4 +42,45 @@ pub fn find(image: &[u8], class: u8, name: &[u8]) -> Found
     } else {
         Found::Nothing
     }
+}
+
+// Does the component at place i among all components have the name?
+fn is_named(image: &[u8], i: usize, name: &[u8]) -> bool
+    requires { ⌜ Fitted (now image) × (i < components (now image)) ⌝ }
+    ensures { λ r. ⌜ r ≡ matches (componentName (componentRecord (now (image .entry)) i)) (now (name .entry)) ⌝ }
+{
+    same_folded(components::component_name(image, i), name)
+}
+
+// A place of the class at which the hints tell the name and the component has it; the class's count where they tell none.
+fn hinted(image: &[u8], class: u8, hints: &Hints, name: &[u8]) -> usize
+    requires { ⌜ Counted (now image) ⌝ }
+    ensures { λ r. ⌜ HasName (now (image .entry)) class (now (name .entry)) r ⌝ }
+{
+    let count = layout::class_count(image, class);
+    let start = layout::class_first(image, class);
+    let mut k = name_number(name);
+    let end = k + 4;
+    while k < end {
+        let p = wide(hints[k]);
+        if p < count {
+            if is_named(image, start + p, name) {
+                return p;
+            }
+        }
+        k += 1;
+    }
+    count
+}
+
+// The same as `find`. The names of a class differ, so that a component that has the name is the only one.
+pub fn find_by(image: &[u8], class: u8, hints: &Hints, name: &[u8]) -> Found
+    requires { ⌜ IsAccepted (now image) × ((1 ≤ class) × (class ≤ 3)) ⌝ }
+    ensures { λ r. ⌜ r ≡ foundOf (now (image .entry)) class (now (name .entry)) ⌝ }
+{
+    let p = hinted(image, class, hints, name);
+    if p < layout::class_count(image, class) {
+        return Found::At(p);
+    }
+    find(image, class, name)
 }

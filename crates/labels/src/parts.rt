@@ -3,7 +3,7 @@
 ghost use Prim.Native.Nat.{_+_, _≤_};
 ghost use mathlib.Core.Path.{_≡_};
 ghost use lib.ListN.{length};
-ghost use Rattle.header.specs.Limits.{Counted};
+ghost use Rattle.image.specs.Check.{IsAccepted};
 ghost use Rattle.labels.specs.Text.{colon, split};
 ghost use Rattle.labels.specs.Parse.{groupsAfter, readSets, readParts, readOf};
 ghost use Rattle.labels.specs.Lists.{afterMark};
@@ -19,7 +19,7 @@ use sets::groups::Groups;
 
 // The groups, where the compartments end at `end`.
 fn read_groups(image: &[u8], text: &[u8], level: u8, compartments: u64, end: usize) -> TextRead
-    requires { ⌜ Counted (now image) × (end ≤ length (now text)) ⌝ }
+    requires { ⌜ IsAccepted (now image) × (end ≤ length (now text)) ⌝ }
     ensures { λ r. ⌜ readOf r ≡ groupsAfter (now (image .entry)) level compartments (end + 1) (afterMark colon (now (text .entry)) end) ⌝ }
 {
     if text.len() <= end {
@@ -44,7 +44,7 @@ fn read_groups(image: &[u8], text: &[u8], level: u8, compartments: u64, end: usi
 
 // Compartments and groups, where the level ends at `end`.
 fn read_sets(image: &[u8], text: &[u8], level: u8, end: usize) -> TextRead
-    requires { ⌜ Counted (now image) × (end ≤ length (now text)) ⌝ }
+    requires { ⌜ IsAccepted (now image) × (end ≤ length (now text)) ⌝ }
     ensures { λ r. ⌜ readOf r ≡ readSets (now (image .entry)) level (end + 1) (afterMark colon (now (text .entry)) end) ⌝ }
 {
     if text.len() <= end {
@@ -65,7 +65,7 @@ fn read_sets(image: &[u8], text: &[u8], level: u8, end: usize) -> TextRead
 
 // The level counts as a name, at offset 0.
 pub fn read_parts(image: &[u8], text: &[u8]) -> TextRead
-    requires { ⌜ Counted (now image) ⌝ }
+    requires { ⌜ IsAccepted (now image) ⌝ }
     ensures { λ r. ⌜ readOf r ≡ readParts (now (image .entry)) (split colon (now (text .entry))) ⌝ }
 {
     let end = mark_from(text, 0, 58);

@@ -5,6 +5,7 @@ ghost use Rattle.refusals.specs.declared.answers.Checked.the-variants.{Refused}
 ghost use Rattle.header.specs.Layout.{users};
 ghost use Rattle.header.specs.Limits.{Counted};
 ghost use Rattle.hierarchy.specs.Below.{Tabled};
+ghost use Rattle.image.specs.Check.{IsAccepted};
 ghost use Rattle.labels.specs.Label.{marksOf};
 ghost use Rattle.labels.specs.Parse.{refusalOf};
 ghost use Rattle.access.specs.Rights.{rightsOf};
@@ -69,7 +70,7 @@ fn put_label(session: Session, image: &[u8], table: &Table, new: Label) -> Chang
 }
 
 pub fn change_label(session: Session, image: &[u8], table: &Table, text: &[u8]) -> Changed
-    requires { ⌜ Counted (now image) × (Tabled (now image) (now table) × (session .user < users (now image))) ⌝ }
+    requires { ⌜ IsAccepted (now image) × (Tabled (now image) (now table) × (session .user < users (now image))) ⌝ }
     ensures { λ r. ⌜ changeOf r ≡ labelChange (now (image .entry)) (sessionOf session) (now (text .entry)) ⌝ }
 {
     let read = read_text(image, text);
@@ -95,7 +96,7 @@ fn put_row_label(session: Session, view: View, new: Label) -> Changed
 
 // The view is what the session gives its user.
 pub fn change_row_label(session: Session, image: &[u8], view: View, text: &[u8]) -> Changed
-    requires { ⌜ Counted (now image) × (rightsOf view ≡ sessionRights (now image) (sessionOf session)) ⌝ }
+    requires { ⌜ IsAccepted (now image) × (rightsOf view ≡ sessionRights (now image) (sessionOf session)) ⌝ }
     ensures { λ r. ⌜ changeOf r ≡ rowLabelChange (now (image .entry)) (sessionOf session) (now (text .entry)) ⌝ }
 {
     let read = read_text(image, text);

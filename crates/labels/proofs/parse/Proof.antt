@@ -1,5 +1,4 @@
 use mathlib.Core.Path.{sym, ap, _∙_}
-use Rattle.image.proofs.Accepted.{accepted-counted}
 use Rattle.labels.specs.Parse.{ofText, parseOf}
 use borrow.Author.Needs.{needs}
 use Rattle.labels.proofs.parse.Statement.{statement}
@@ -12,7 +11,7 @@ enum-told : tie.Need-enum-told
 enum-told c = search needs
 
 read-text-requires : tie.Need-read-text-requires
-read-text-requires c κs = accepted-counted _ (sym (c .before .before .check .ensures) ∙ c .enum-told .given .1)
+read-text-requires c κs = sym (c .before .before .check .ensures) ∙ c .enum-told .given .1
 
 of-text-requires : tie.Need-of-text-requires
 of-text-requires c κs = search needs

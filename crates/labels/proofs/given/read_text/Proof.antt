@@ -2,11 +2,12 @@ use mathlib.Core.Path.{sym, _∙_}
 use borrow.Author.Tests.{not-true, not-false}
 use borrow.Author.Needs.{needs}
 use Rattle.header.proofs.Inside.{header-inside}
+use Rattle.image.proofs.Accepted.{accepted-counted}
 use Rattle.labels.proofs.given.read_text.Statement.{statement}
 use Rattle.labels.proofs.given.read_text.Tie as tie
 
 text-limit-requires : tie.Need-text-limit-requires
-text-limit-requires c κs = header-inside _ (c .before .before .pre .fitted)
+text-limit-requires c κs = header-inside _ (accepted-counted _ (c .before .before .pre) .fitted)
 
 shape-ok-requires : tie.Need-shape-ok-requires
 shape-ok-requires c κs = search needs

@@ -6,6 +6,7 @@ use native.Mathlib.Omega.{arith}
 use borrow.Author.Needs.{needs}
 use borrow.Author.Tests.{lt-ltb, le-ltb}
 use lib.ListN.{length}
+use Rattle.image.proofs.Accepted.{accepted-counted}
 use Rattle.labels.specs.Parse.{readNames}
 use Rattle.labels.proofs.Classes.{class-limit}
 use Rattle.labels.proofs.Naming.{found-below, list-unknown, list-repeated, list-next}
@@ -18,33 +19,33 @@ use Rattle.labels.proofs.lists.read_names.Reads as read-names
 use Rattle.labels.proofs.lists.read_names.Kinds as read-names-kinds
 use Rattle.labels.proofs.lists.+after_name+read_names.Lts-read_names as read-names-lts
 use Rattle.labels.proofs.lists.mark_from.Reads as mark-from-reads
-use Rattle.labels.proofs.names.find.Reads as find-reads
+use Rattle.labels.proofs.names.find_by.Reads as find-by-reads
 use Rattle.sets.proofs.groups.Groups.has.Reads as has-reads
 use Rattle.sets.proofs.groups.Groups.with.Reads as with-reads
 use Rattle.labels.proofs.lists.+after_name+read_names.{statement}
 use Rattle.labels.proofs.lists.+after_name+read_names.Tie.{close}
 
-abbrev μ-after-name : Measures 2 after-name-kinds.ps ℕ
+abbrev μ-after-name : Measures 3 after-name-kinds.ps ℕ
 μ-after-name κs a = 2 * (length (a .1 .1 .0 .now) - a .1 .1 .1 .0)
 
-abbrev μ-read-names : Measures 2 read-names-kinds.ps ℕ
+abbrev μ-read-names : Measures 3 read-names-kinds.ps ℕ
 μ-read-names κs a = 2 * (length (a .1 .1 .0 .now) - a .1 .1 .1 .0) + 1
 
-abbrev after-name-at : ℕ → In 2 after-name-kinds.ps
+abbrev after-name-at : ℕ → In 3 after-name-kinds.ps
 after-name-at t =
-    and 2 after-name-kinds.ps (is 2 after-name-kinds.ps μ-after-name t) after-name.Pre
+    and 3 after-name-kinds.ps (is 3 after-name-kinds.ps μ-after-name t) after-name.Pre
 
-abbrev after-name-below : ℕ → In 2 after-name-kinds.ps
+abbrev after-name-below : ℕ → In 3 after-name-kinds.ps
 after-name-below t =
-    and 2 after-name-kinds.ps (falls 2 after-name-kinds.ps _<_ μ-after-name t) after-name.Pre
+    and 3 after-name-kinds.ps (falls 3 after-name-kinds.ps _<_ μ-after-name t) after-name.Pre
 
-abbrev read-names-at : ℕ → In 2 read-names-kinds.ps
+abbrev read-names-at : ℕ → In 3 read-names-kinds.ps
 read-names-at t =
-    and 2 read-names-kinds.ps (is 2 read-names-kinds.ps μ-read-names t) read-names.Pre
+    and 3 read-names-kinds.ps (is 3 read-names-kinds.ps μ-read-names t) read-names.Pre
 
-abbrev read-names-below : ℕ → In 2 read-names-kinds.ps
+abbrev read-names-below : ℕ → In 3 read-names-kinds.ps
 read-names-below t =
-    and 2 read-names-kinds.ps (falls 2 read-names-kinds.ps _<_ μ-read-names t) read-names.Pre
+    and 3 read-names-kinds.ps (falls 3 read-names-kinds.ps _<_ μ-read-names t) read-names.Pre
 
 -- what the two are told of the functions that they call
 abbrev after-name-calls : ℕ → after-name-lts.Claims
@@ -54,8 +55,8 @@ abbrev read-names-calls : ℕ → read-names-lts.Claims
 read-names-calls t = (
   mark-from-reads.Asked,
   mark-from-reads.Learnt,
-  find-reads.Asked,
-  find-reads.Learnt,
+  find-by-reads.Asked,
+  find-by-reads.Learnt,
   has-reads.Asked,
   has-reads.Learnt,
   with-reads.Asked,
@@ -80,17 +81,17 @@ after-name-returns-2 t c = rw (le-ltb _ _ (c .if1 .left))
 read-names-mark-from-requires : (t : ℕ) → read-names-lts.Need-mark-from-requires (read-names-calls t) (read-names-at t) read-names.Post
 read-names-mark-from-requires t c κs = omega arith
 
-read-names-sub-find : (t : ℕ) → read-names-lts.Need-sub-find (read-names-calls t) (read-names-at t) read-names.Post
-read-names-sub-find t c = omega arith
+read-names-sub-find-by : (t : ℕ) → read-names-lts.Need-sub-find-by (read-names-calls t) (read-names-at t) read-names.Post
+read-names-sub-find-by t c = omega arith
 
-read-names-part-find-start : (t : ℕ) → read-names-lts.Need-part-find-start (read-names-calls t) (read-names-at t) read-names.Post
-read-names-part-find-start t c = omega arith
+read-names-part-find-by-start : (t : ℕ) → read-names-lts.Need-part-find-by-start (read-names-calls t) (read-names-at t) read-names.Post
+read-names-part-find-by-start t c = omega arith
 
-read-names-part-find-end : (t : ℕ) → read-names-lts.Need-part-find-end (read-names-calls t) (read-names-at t) read-names.Post
-read-names-part-find-end t c = omega arith
+read-names-part-find-by-end : (t : ℕ) → read-names-lts.Need-part-find-by-end (read-names-calls t) (read-names-at t) read-names.Post
+read-names-part-find-by-end t c = omega arith
 
-read-names-find-requires : (t : ℕ) → read-names-lts.Need-find-requires (read-names-calls t) (read-names-at t) read-names.Post
-read-names-find-requires t c κs = let p = c .before .before .before .before .pre .1 in (p .0, p .1 .0)
+read-names-find-by-requires : (t : ℕ) → read-names-lts.Need-find-by-requires (read-names-calls t) (read-names-at t) read-names.Post
+read-names-find-by-requires t c κs = let p = c .before .before .before .before .pre .1 in (p .0, p .1 .0)
 
 read-names-enum-known-found : (t : ℕ) → read-names-lts.Need-enum-known-found (read-names-calls t) (read-names-at t) read-names.Post
 read-names-enum-known-found t c = search needs
@@ -103,7 +104,7 @@ read-names-returns t c =
     let end = c .before .before .before .before in
     let start = end .before .before .before in
     list-unknown _ _ _ _ _ _ (start .pre .1 .1 .1) (end .mark-from .ensures .0) (end .mark-from .ensures .1 .1)
-    (sym (c .before .before .find .ensures) ∙ c .enum-told .given .1)
+    (sym (c .before .before .find-by .ensures) ∙ c .enum-told .given .1)
 
 read-names-has-requires : (t : ℕ) → read-names-lts.Need-has-requires (read-names-calls t) (read-names-at t) read-names.Post
 read-names-has-requires t c κs = search needs
@@ -115,14 +116,14 @@ read-names-returns-2 t c =
     let end = look .before .before in
     let start = end .before .before .before in
     list-repeated _ _ _ _ _ _ (start .pre .1 .1 .1) (end .mark-from .ensures .0) (end .mark-from .ensures .1 .1) _
-    (sym (look .find .ensures) ∙ place .found .given .1) (sym (c .before .has .ensures) ∙ c .if1 .taken)
+    (sym (look .find-by .ensures) ∙ place .found .given .1) (sym (c .before .has .ensures) ∙ c .if1 .taken)
 
 read-names-with-requires : (t : ℕ) → read-names-lts.Need-with-requires (read-names-calls t) (read-names-at t) read-names.Post
 read-names-with-requires t c κs =
     let place = c .before .before .before in
     let look = place .before .before in
     let start = look .before .before .before .before .before in
-    omega (arith, found-below _ _ _ _ (sym (look .find .ensures) ∙ place .found .given .1), class-limit _ (start .args .class) (start .pre .1 .0))
+    omega (arith, found-below _ _ _ _ (sym (look .find-by .ensures) ∙ place .found .given .1), class-limit _ (start .args .class) (accepted-counted _ (start .pre .1 .0)))
 
 read-names-after-name-requires : (t : ℕ) → read-names-lts.Need-after-name-requires (read-names-calls t) (read-names-at t) read-names.Post
 read-names-after-name-requires t c κs =
@@ -141,7 +142,7 @@ read-names-returns-3 t c =
     c .after-name .ensures
     ∙ rw (c .before .with .ensures)
     (list-next _ _ _ _ _ _ (start .pre .1 .1 .1) (end .mark-from .ensures .0) (end .mark-from .ensures .1 .1) _
-    (sym (look .find .ensures) ∙ place .found .given .1) (sym (test .before .has .ensures) ∙ test .if1 .left))
+    (sym (look .find-by .ensures) ∙ place .found .given .1) (sym (test .before .has .ensures) ∙ test .if1 .left))
 
 pub +after-name+read-names-spec : {M : Type 1} → statement M
 +after-name+read-names-spec = close μ-after-name μ-read-names (λ t. after-name-lts.spec (after-name-calls t)
@@ -155,10 +156,10 @@ pub +after-name+read-names-spec : {M : Type 1} → statement M
     (read-names-at t)
     read-names.Post
     (read-names-mark-from-requires t)
-    (read-names-sub-find t)
-    (read-names-part-find-start t)
-    (read-names-part-find-end t)
-    (read-names-find-requires t)
+    (read-names-sub-find-by t)
+    (read-names-part-find-by-start t)
+    (read-names-part-find-by-end t)
+    (read-names-find-by-requires t)
     (read-names-enum-known-found t)
     (read-names-enum-told t)
     (read-names-returns t)

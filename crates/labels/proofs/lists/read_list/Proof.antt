@@ -1,8 +1,15 @@
 use mathlib.Core.Path.{_∙_}
+use Rattle.image.proofs.Accepted.{accepted-counted}
 use Rattle.labels.proofs.Naming.{list-begun, list-empty}
 use borrow.Author.Needs.{needs}
 use Rattle.labels.proofs.lists.read_list.Statement.{statement}
 use Rattle.labels.proofs.lists.read_list.Tie as tie
+
+sub-fill : tie.Need-sub-fill
+sub-fill c = search needs
+
+fill-requires : tie.Need-fill-requires
+fill-requires c κs = accepted-counted _ (c .before .before .before .before .pre .0)
 
 none-requires : tie.Need-none-requires
 none-requires c κs = search needs
@@ -16,8 +23,9 @@ list-read-requires c κs = search needs
 returns : tie.Need-returns
 returns c =
     let names = c .before in
+    let begun = names .before .before .before .before .before in
     c .list-read .ensures ∙ names .read-names .ensures
-    ∙ rw (names .before .none .ensures) (list-begun _ _ _ _ (names .before .before .if1 .taken))
+    ∙ rw (names .before .none .ensures) (list-begun _ _ _ _ (begun .if1 .taken))
 
 none-requires-2 : tie.Need-none-requires-2
 none-requires-2 c κs = search needs
@@ -27,4 +35,13 @@ returns-2 c = rw (c .none2 .ensures) (list-empty _ _ _ _ (c .before .if1 .left))
 
 pub read-list-spec : {M : Type 1} → statement M
 read-list-spec =
-    tie.close (tie.spec none-requires read-names-requires list-read-requires returns none-requires-2 returns-2)
+    tie.close
+    (tie.spec
+    sub-fill
+    fill-requires
+    none-requires
+    read-names-requires
+    list-read-requires
+    returns
+    none-requires-2
+    returns-2)

@@ -4,6 +4,7 @@ use Rattle.labels.proofs.Classes.{class-limit}
 use Rattle.labels.proofs.Naming.{found-below}
 use Rattle.labels.proofs.Joining.{level-unknown, level-found}
 use borrow.Author.Needs.{needs}
+use Rattle.image.proofs.Accepted.{accepted-counted}
 use Rattle.labels.proofs.parts.read_parts.Statement.{statement}
 use Rattle.labels.proofs.parts.read_parts.Tie as tie
 
@@ -20,7 +21,9 @@ part-find-end : tie.Need-part-find-end
 part-find-end c = search needs
 
 find-requires : tie.Need-find-requires
-find-requires c κs = search needs
+find-requires c κs =
+    let start = c .before .before .before .before in
+    (accepted-counted _ (start .pre), (omega arith, omega arith))
 
 enum-known-found : tie.Need-enum-known-found
 enum-known-found c = search needs
@@ -38,7 +41,7 @@ cast-read-sets : tie.Need-cast-read-sets
 cast-read-sets c =
     let look = c .before .before .before in
     let start = look .before .before .before .before .before in
-    omega (arith, found-below _ _ _ _ (sym (look .find .ensures) ∙ c .before .found .given .1), class-limit _ 1 (start .pre))
+    omega (arith, found-below _ _ _ _ (sym (look .find .ensures) ∙ c .before .found .given .1), class-limit _ 1 (accepted-counted _ (start .pre)))
 
 read-sets-requires : tie.Need-read-sets-requires
 read-sets-requires c κs = search needs

@@ -1,6 +1,7 @@
 use mathlib.Core.Path.{_∙_}
 use Rattle.labels.proofs.Joining.{sets-told, sets-read, sets-none}
 use borrow.Author.Needs.{needs}
+use Rattle.image.proofs.Accepted.{accepted-counted}
 use Rattle.labels.proofs.parts.read_sets.Statement.{statement}
 use Rattle.labels.proofs.parts.read_sets.Tie as tie
 
@@ -51,7 +52,7 @@ returns-2 c =
     let start = stop .before .before .before .before in
     c .read-groups .ensures
     ∙ rw (c .before .word .ensures)
-    (sets-read _ _ _ _ _ (stop .before .if1 .left) (ends .0) (ends .1 .1) (start .pre .0) _ _ (read .names .given .1) (list .read-list .ensures))
+    (sets-read _ _ _ _ _ (stop .before .if1 .left) (ends .0) (ends .1 .1) (accepted-counted _ (start .pre .0)) _ _ (read .names .given .1) (list .read-list .ensures))
 
 returns-3 : tie.Need-returns-3
 returns-3 c =

@@ -1,5 +1,6 @@
 use Rattle.sessions.specs.Changes.{labelChange}
 use borrow.Author.Needs.{needs}
+use Rattle.image.proofs.Accepted.{accepted-counted}
 use Rattle.sessions.proofs.changes.change_label.Statement.{statement}
 use Rattle.sessions.proofs.changes.change_label.Tie as tie
 
@@ -10,7 +11,9 @@ enum-known-read : tie.Need-enum-known-read
 enum-known-read c = search needs
 
 put-label-requires : tie.Need-put-label-requires
-put-label-requires c κs = search needs
+put-label-requires c κs =
+    let start = c .before .before .before .before .before .before in
+    (accepted-counted _ (start .pre .0), start .pre .1)
 
 enum-known-read-2 : tie.Need-enum-known-read-2
 enum-known-read-2 c = search needs

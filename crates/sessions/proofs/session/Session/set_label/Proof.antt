@@ -1,5 +1,4 @@
 use Rattle.sessions.specs.Changes.{setLabelOf}
-use Rattle.image.proofs.Accepted.{accepted-counted}
 use Rattle.sessions.proofs.Accepting.{lent-accepted, lent-user, lent-at, lent-refused}
 use borrow.Author.Needs.{needs}
 use Rattle.sessions.proofs.session.Session.set_label.Statement.{statement}
@@ -14,7 +13,7 @@ enum-known-found c = search needs
 change-label-requires : tie.Need-change-label-requires
 change-label-requires c κs =
     let g = lent-at _ _ _ _ _ (c .before .before .found .given .1) (c .before .before .before .before .lent-rights .ensures) in
-    (accepted-counted _ (lent-accepted _ _ (g .0)), (g .1 .0, lent-user _ _ (g .0)))
+    (lent-accepted _ _ (g .0), (g .1 .0, lent-user _ _ (g .0)))
 
 enum-known-found-2 : tie.Need-enum-known-found-2
 enum-known-found-2 c = search needs
