@@ -10,3 +10,4 @@ pub mod Answered
 pub mod Giving
 pub mod Nth
 pub mod ByMap
+pub mod Remembering

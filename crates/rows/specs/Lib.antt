@@ -6,3 +6,4 @@ pub mod Updating
 pub mod Masked
 pub mod Mapped
 pub mod Scan
+pub mod Slots

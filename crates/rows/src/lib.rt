@@ -5,6 +5,7 @@ mod masking;
 mod reading;
 mod run;
 mod scan;
+mod slots;
 mod updating;
 
 ghost use mathlib.Core.Path.{_≡_};

@@ -1,70 +1,47 @@
-use Prim.Native.Nat.{_≤_, _<_}
-use mathlib.Core.Path.{_≡_, sym, ap, _∙_}
-use native.Mathlib.Omega.{arith}
-use borrow.Author.Tests.{lt-ltb, le-ltb}
+use mathlib.Core.Path.{sym, ap, _∙_}
 use borrow.Author.Needs.{needs}
-use Rattle.header.specs.Layout.{labels}
-use Rattle.header.proofs.Inside.{header-inside}
-use Rattle.image.specs.Lookup.{labelOfTag}
-use Rattle.image.proofs.Accepted.{accepted-counted}
-use Rattle.access.specs.Verdicts.{knownTag}
-use Rattle.maps.specs.Map.{bitOf}
-use Rattle.rows.specs.Table.{rowTag}
 use Rattle.rows.specs.Mapped.{tagMapped}
+use Rattle.rows.proofs.Remembering.{told-tag}
 use Rattle.rows.proofs.mapped.is_mapped.Statement.{statement}
 use Rattle.rows.proofs.mapped.is_mapped.Tie as tie
 
 number4-requires : tie.Need-number4-requires
 number4-requires c κs = search needs
 
-label-of-tag-requires : tie.Need-label-of-tag-requires
-label-of-tag-requires c κs = search needs
+seek-requires : tie.Need-seek-requires
+seek-requires c κs = search needs
 
-labels-requires : tie.Need-labels-requires
-labels-requires c κs =
-    let start = c .before .before .before .before .before in
-    header-inside _ (accepted-counted _ (start .pre .0 .accepted) .fitted)
+mul-entry : tie.Need-mul-entry
+mul-entry c = search needs
 
-bit-of-requires : tie.Need-bit-of-requires
-bit-of-requires c κs =
-    let counted = c .before in
-    let looked = counted .before in
-    let start = looked .before .before .before .before .before in
-    omega (arith, start .pre .0 .enough, counted .labels .ensures .0, c .if1 .taken)
+element-copy-out-entry : tie.Need-element-copy-out-entry
+element-copy-out-entry c = search needs
 
 returns : tie.Need-returns
-unfolding tagMapped knownTag
 returns c =
-    let counted = c .before .before in
-    let looked = counted .before in
-    let number = looked .before in
-    let a = number .before .before .before .before .args in
-    let p : labelOfTag (a .image .now) (rowTag (a .row .now)) ≡ looked .label-of-tag .result =
-    sym (looked .label-of-tag .ensures ∙ ap (labelOfTag (a .image .now)) (number .number4 .ensures)) in
-    let h : labelOfTag (a .image .now) (rowTag (a .row .now)) < labels (a .image .now) =
-    omega (arith, p, counted .labels .ensures .0, c .before .if1 .taken) in
-    rw (lt-ltb _ _ h) (c .bit-of .ensures ∙ ap (bitOf (a .bits .now)) (sym p))
+    let sought = c .before .before in
+    let number = sought .before .before in
+    let start = number .before .before .before .before in
+    let remembered = start .pre .1 in
+    (told-tag _ _ _ _ _ (remembered .told _ (sought .seek .ensures)) (c .if1 .taken ∙ number .number4 .ensures), remembered)
+
+ask-requires : tie.Need-ask-requires
+ask-requires c κs = search needs
 
 returns-2 : tie.Need-returns-2
-unfolding tagMapped knownTag
 returns-2 c =
-    let counted = c .before in
-    let looked = counted .before in
-    let number = looked .before in
+    let number = c .before .before .before .before .before .before in
     let a = number .before .before .before .before .args in
-    let p : labelOfTag (a .image .now) (rowTag (a .row .now)) ≡ looked .label-of-tag .result =
-    sym (looked .label-of-tag .ensures ∙ ap (labelOfTag (a .image .now)) (number .number4 .ensures)) in
-    let h : labels (a .image .now) ≤ labelOfTag (a .image .now) (rowTag (a .row .now)) =
-    omega (arith, p, counted .labels .ensures .0, c .if1 .left) in
-    rw (le-ltb _ _ h)
+    (c .ask .ensures .0 ∙ ap (tagMapped (a .image .now) (a .bits .now) (a .unknown)) (number .number4 .ensures), c .ask .ensures .1)
 
 pub is-mapped-spec : {M : Type 1} → statement M
 is-mapped-spec =
     tie.close
     (tie.spec
     number4-requires
-    label-of-tag-requires
-    labels-requires
-    bit-of-requires
+    seek-requires
+    mul-entry
+    element-copy-out-entry
     returns
+    ask-requires
     returns-2)

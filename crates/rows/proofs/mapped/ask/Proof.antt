@@ -1,0 +1,37 @@
+use borrow.Author.Needs.{needs}
+use Rattle.rows.proofs.Remembering.{told-made, remembered-set}
+use Rattle.rows.proofs.mapped.ask.Statement.{statement}
+use Rattle.rows.proofs.mapped.ask.Tie as tie
+
+tag-mapped-requires : tie.Need-tag-mapped-requires
+tag-mapped-requires c κs = search needs
+
+entry-of-requires : tie.Need-entry-of-requires
+entry-of-requires c κs = search needs
+
+mul-slots : tie.Need-mul-slots
+mul-slots c = search needs
+
+element-write-slots : tie.Need-element-write-slots
+element-write-slots c = search needs
+
+returns : tie.Need-returns
+returns c =
+    let asked = c .before .before in
+    let pre = asked .before .before .before .pre in
+    let answer = asked .tag-mapped .ensures in
+    (answer, remembered-set _ _ _ _ (pre .1) _ _ (pre .0 .1) (told-made _ _ _ _ _ _ (c .entry-of .ensures) answer))
+
+returns-2 : tie.Need-returns-2
+returns-2 c = search needs
+
+pub ask-spec : {M : Type 1} → statement M
+ask-spec =
+    tie.close
+    (tie.spec
+    tag-mapped-requires
+    entry-of-requires
+    mul-slots
+    element-write-slots
+    returns
+    returns-2)
