@@ -6,6 +6,7 @@ pub mod Splitting
 pub mod Classes
 pub mod Unique
 pub mod Naming
+pub mod ListWords
 pub mod Tells
 pub mod Letters
 pub mod Existing

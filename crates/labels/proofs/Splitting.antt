@@ -28,7 +28,7 @@ module _ (mark : ℕ) (s : List ℕ) (i w : ℕ) where
   until-done h inv = omega (arith, rw (drop-of-length-le s h) at inv)
 
 -- ---- the first part ends at the first mark
-ltb-suc : (u n : ℕ) → ltb u n ≡ ltb (suc u) (suc n)
+pub ltb-suc : (u n : ℕ) → ltb u n ≡ ltb (suc u) (suc n)
 ltb-suc u n = go (ltb u n) refl
   where
     go : (t : Bool) → ltb u n ≡ t → t ≡ ltb (suc u) (suc n)

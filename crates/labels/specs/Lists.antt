@@ -27,11 +27,11 @@ untilMark mark (x ∷ xs) = cond (eqb x mark) 0 (suc (untilMark mark xs))
 abbrev pub afterMark : ℕ → List ℕ → ℕ → List (List ℕ)
 afterMark mark text at = cond (ltb at (length text)) (split mark (drop (at + 1) text)) []
 
--- what the answers of the code stand for
-abbrev pub namesOf : Names → Reading ℕ
-namesOf (names.Read g) = read (placesOf g)
-namesOf (names.Unknown offset) = unknown offset
-namesOf (names.Repeated offset) = repeated offset
+-- what the answers of the code stand for; while names are read, the set of their places is kept beside the answer
+abbrev pub namesOf : Names → ℕ → Reading ℕ
+namesOf names.Read set = read set
+namesOf (names.Unknown offset) set = unknown offset
+namesOf (names.Repeated offset) set = repeated offset
 
 abbrev pub listOf : ListRead → Reading ℕ
 listOf (list.Read g) = read (placesOf g)

@@ -2,7 +2,7 @@
 ghost use Prim.Native.Nat.{_+_, _≤_};
 ghost use mathlib.Core.Path.{_≡_};
 ghost use lib.ListN.{length, drop};
-ghost use Rattle.sets.specs.Groups.{placesOf};
+ghost use Rattle.sets.specs.Words.{joined};
 ghost use Rattle.image.specs.Check.{IsAccepted};
 ghost use Rattle.labels.specs.Text.{comma, split};
 ghost use Rattle.labels.specs.Parse.{readNames, readList};
@@ -13,6 +13,7 @@ use crate::hints::fill;
 use crate::names::Found;
 use crate::names::find_by;
 use sets::groups::Groups;
+use sets::word;
 
 // What a list gives: the places that it names, or why the text is refused.
 pub enum ListRead {
@@ -20,18 +21,20 @@ pub enum ListRead {
     Refused(Reason),
 }
 
-// The same while its names are read, in two words: the offset is that of the leftmost name that is unknown or came before.
+// The same while its names are read: the offset is that of the leftmost name that is unknown or came before.
 pub enum Names {
-    Read(Groups),
+    Read,
     Unknown(usize),
     Repeated(usize),
 }
 
-fn list_read(names: Names) -> ListRead
-    ensures { λ r. ⌜ listOf r ≡ namesOf names ⌝ }
+// The set of the places that were read is kept as its words.
+fn list_read(names: Names, words: &[u64]) -> ListRead
+    requires { ⌜ length (now words) ≡ 4 ⌝ }
+    ensures { λ r. ⌜ listOf r ≡ namesOf names (joined (now (words .entry))) ⌝ }
 {
     match names {
-        Names::Read(set) => ListRead::Read(set),
+        Names::Read => ListRead::Read(Groups::of_words(words[0], words[1], words[2], words[3])),
         Names::Unknown(offset) => ListRead::Refused(Reason::Unknown(offset)),
         Names::Repeated(offset) => ListRead::Refused(Reason::Repeated(offset)),
     }
@@ -52,31 +55,47 @@ pub fn mark_from(text: &[u8], at: usize, mark: u8) -> usize
     i
 }
 
-// A list is one name, or one name, a comma and a list. `set` has the names before this one.
-fn read_names(image: &[u8], class: u8, text: &[u8], at: usize, hints: &Hints, set: Groups) -> Names
-    requires { ⌜ IsAccepted (now image) × (((1 ≤ class) × (class ≤ 3)) × (at ≤ length (now text))) ⌝ }
-    ensures { λ r. ⌜ namesOf r ≡ readNames (now (image .entry)) class at (placesOf set) (split comma (drop at (now (text .entry)))) ⌝ }
+// A list is one name, or one name, a comma and a list. `words` have the names before this one.
+fn read_names(
+    image: &[u8],
+    class: u8,
+    text: &[u8],
+    at: usize,
+    hints: &Hints,
+    words: &mut [u64],
+) -> Names
+    requires { ⌜ IsAccepted (now image) × (((1 ≤ class) × (class ≤ 3)) × ((at ≤ length (now text)) × (length (now words) ≡ 4))) ⌝ }
+    ensures { λ r. ⌜ namesOf r (joined (now (words .exit))) ≡ readNames (now (image .entry)) class at (joined (now (words .entry))) (split comma (drop at (now (text .entry)))) ⌝ }
 {
     let end = mark_from(text, at, 44);
     let found = find_by(image, class, hints, &text[at..end]);
     let Found::At(place) = found else {
         return Names::Unknown(at);
     };
-    if set.has(place) {
+    let w = words[place / 64];
+    if word::has(w, place % 64) {
         return Names::Repeated(at);
     }
-    after_name(image, class, text, end, hints, set.with(place))
+    words[place / 64] = word::with(w, place % 64);
+    after_name(image, class, text, end, hints, words)
 }
 
 // After a name the list ends, or a comma and a list follow.
-fn after_name(image: &[u8], class: u8, text: &[u8], at: usize, hints: &Hints, set: Groups) -> Names
-    requires { ⌜ IsAccepted (now image) × (((1 ≤ class) × (class ≤ 3)) × (at ≤ length (now text))) ⌝ }
-    ensures { λ r. ⌜ namesOf r ≡ readNames (now (image .entry)) class (at + 1) (placesOf set) (afterMark comma (now (text .entry)) at) ⌝ }
+fn after_name(
+    image: &[u8],
+    class: u8,
+    text: &[u8],
+    at: usize,
+    hints: &Hints,
+    words: &mut [u64],
+) -> Names
+    requires { ⌜ IsAccepted (now image) × (((1 ≤ class) × (class ≤ 3)) × ((at ≤ length (now text)) × (length (now words) ≡ 4))) ⌝ }
+    ensures { λ r. ⌜ namesOf r (joined (now (words .exit))) ≡ readNames (now (image .entry)) class (at + 1) (joined (now (words .entry))) (afterMark comma (now (text .entry)) at) ⌝ }
 {
     if at < text.len() {
-        return read_names(image, class, text, at + 1, hints, set);
+        return read_names(image, class, text, at + 1, hints, words);
     }
-    Names::Read(set)
+    Names::Read
 }
 
 // The list from `at` on; one that is empty gives the empty set.
@@ -86,8 +105,10 @@ pub fn read_list(image: &[u8], class: u8, text: &[u8], at: usize) -> ListRead
 {
     if at < text.len() {
         let mut hints = [0u8; 1024];
+        let mut words = [0u64; 4];
         fill(image, class, text.len() - at, &mut hints);
-        return list_read(read_names(image, class, text, at, &hints, Groups::none()));
+        let names = read_names(image, class, text, at, &hints, &mut words);
+        return list_read(names, &words);
     }
     ListRead::Read(Groups::none())
 }

@@ -1,15 +1,15 @@
 -- A list's reader and the reader after a name call each other, and the bytes that are left fall: twice their number, and one more for
 -- the reader of a name, since a name at the end is followed by the reader after it at the same place. Assumes nothing.
-use Prim.Native.Nat.{ℕ, _<_, _*_, _+_, _-_}
+use Prim.Native.Nat.{ℕ, _<_, _*_, _+_, _-_, _/_}
 use mathlib.Core.Path.{sym, _∙_}
 use native.Mathlib.Omega.{arith}
 use borrow.Author.Needs.{needs}
 use borrow.Author.Tests.{lt-ltb, le-ltb}
-use lib.ListN.{length}
+use lib.ListN.{length, length-set}
 use Rattle.image.proofs.Accepted.{accepted-counted}
 use Rattle.labels.specs.Parse.{readNames}
-use Rattle.labels.proofs.Classes.{class-limit}
-use Rattle.labels.proofs.Naming.{found-below, list-unknown, list-repeated, list-next}
+use Rattle.labels.proofs.Naming.{list-unknown}
+use Rattle.labels.proofs.ListWords.{words-repeated, words-room, words-next}
 use borrow.Fn.Kinds.{In}
 use borrow.Fn.PlainCycle.{Measures, is, falls, and}
 use Rattle.labels.proofs.lists.after_name.Reads as after-name
@@ -20,32 +20,32 @@ use Rattle.labels.proofs.lists.read_names.Kinds as read-names-kinds
 use Rattle.labels.proofs.lists.+after_name+read_names.Lts-read_names as read-names-lts
 use Rattle.labels.proofs.lists.mark_from.Reads as mark-from-reads
 use Rattle.labels.proofs.names.find_by.Reads as find-by-reads
-use Rattle.sets.proofs.groups.Groups.has.Reads as has-reads
-use Rattle.sets.proofs.groups.Groups.with.Reads as with-reads
+use Rattle.sets.proofs.word.has.Reads as has-reads
+use Rattle.sets.proofs.word.with.Reads as with-reads
 use Rattle.labels.proofs.lists.+after_name+read_names.{statement}
 use Rattle.labels.proofs.lists.+after_name+read_names.Tie.{close}
 
-abbrev μ-after-name : Measures 3 after-name-kinds.ps ℕ
+abbrev μ-after-name : Measures 4 after-name-kinds.ps ℕ
 μ-after-name κs a = 2 * (length (a .1 .1 .0 .now) - a .1 .1 .1 .0)
 
-abbrev μ-read-names : Measures 3 read-names-kinds.ps ℕ
+abbrev μ-read-names : Measures 4 read-names-kinds.ps ℕ
 μ-read-names κs a = 2 * (length (a .1 .1 .0 .now) - a .1 .1 .1 .0) + 1
 
-abbrev after-name-at : ℕ → In 3 after-name-kinds.ps
+abbrev after-name-at : ℕ → In 4 after-name-kinds.ps
 after-name-at t =
-    and 3 after-name-kinds.ps (is 3 after-name-kinds.ps μ-after-name t) after-name.Pre
+    and 4 after-name-kinds.ps (is 4 after-name-kinds.ps μ-after-name t) after-name.Pre
 
-abbrev after-name-below : ℕ → In 3 after-name-kinds.ps
+abbrev after-name-below : ℕ → In 4 after-name-kinds.ps
 after-name-below t =
-    and 3 after-name-kinds.ps (falls 3 after-name-kinds.ps _<_ μ-after-name t) after-name.Pre
+    and 4 after-name-kinds.ps (falls 4 after-name-kinds.ps _<_ μ-after-name t) after-name.Pre
 
-abbrev read-names-at : ℕ → In 3 read-names-kinds.ps
+abbrev read-names-at : ℕ → In 4 read-names-kinds.ps
 read-names-at t =
-    and 3 read-names-kinds.ps (is 3 read-names-kinds.ps μ-read-names t) read-names.Pre
+    and 4 read-names-kinds.ps (is 4 read-names-kinds.ps μ-read-names t) read-names.Pre
 
-abbrev read-names-below : ℕ → In 3 read-names-kinds.ps
+abbrev read-names-below : ℕ → In 4 read-names-kinds.ps
 read-names-below t =
-    and 3 read-names-kinds.ps (falls 3 read-names-kinds.ps _<_ μ-read-names t) read-names.Pre
+    and 4 read-names-kinds.ps (falls 4 read-names-kinds.ps _<_ μ-read-names t) read-names.Pre
 
 -- what the two are told of the functions that they call
 abbrev after-name-calls : ℕ → after-name-lts.Claims
@@ -69,10 +69,19 @@ after-name-add-read-names : (t : ℕ) → after-name-lts.Need-add-read-names (af
 after-name-add-read-names t c = omega arith
 
 after-name-read-names-requires : (t : ℕ) → after-name-lts.Need-read-names-requires (after-name-calls t) (after-name-at t) after-name.Post
-after-name-read-names-requires t c κs = (omega arith, (c .before .before .before .pre .1 .0, (c .before .before .before .pre .1 .1 .0, omega arith)))
+after-name-read-names-requires t c κs =
+    let start = c .before .before .before .before .before in
+    let p = start .pre .1 in
+    (omega arith, (p .0, (p .1 .0, (omega arith, p .1 .1 .1))))
+
+after-name-same-length : (t : ℕ) → after-name-lts.Need-same-length (after-name-calls t) (after-name-at t) after-name.Post
+after-name-same-length t c = search needs
 
 after-name-returns : (t : ℕ) → after-name-lts.Need-returns (after-name-calls t) (after-name-at t) after-name.Post
-after-name-returns t c = rw (lt-ltb _ _ (c .before .if1 .taken)) (c .read-names .ensures)
+after-name-returns t c =
+    let start = c .before .before .before .before .before .before .before .before in
+    let h : start .args .at < length (start .args .text .now) = omega arith in
+    rw (lt-ltb _ _ h) (c .before .before .read-names .ensures)
 
 after-name-returns-2 : (t : ℕ) → after-name-lts.Need-returns-2 (after-name-calls t) (after-name-at t) after-name.Post
 unfolding readNames
@@ -91,7 +100,7 @@ read-names-part-find-by-end : (t : ℕ) → read-names-lts.Need-part-find-by-end
 read-names-part-find-by-end t c = omega arith
 
 read-names-find-by-requires : (t : ℕ) → read-names-lts.Need-find-by-requires (read-names-calls t) (read-names-at t) read-names.Post
-read-names-find-by-requires t c κs = let p = c .before .before .before .before .pre .1 in (p .0, p .1 .0)
+read-names-find-by-requires t c κs = let p = c .before .before .before .before .before .pre .1 in (p .0, p .1 .0)
 
 read-names-enum-known-found : (t : ℕ) → read-names-lts.Need-enum-known-found (read-names-calls t) (read-names-at t) read-names.Post
 read-names-enum-known-found t c = search needs
@@ -101,48 +110,83 @@ read-names-enum-told t c = search needs
 
 read-names-returns : (t : ℕ) → read-names-lts.Need-returns (read-names-calls t) (read-names-at t) read-names.Post
 read-names-returns t c =
-    let end = c .before .before .before .before in
-    let start = end .before .before .before in
-    list-unknown _ _ _ _ _ _ (start .pre .1 .1 .1) (end .mark-from .ensures .0) (end .mark-from .ensures .1 .1)
-    (sym (c .before .before .find-by .ensures) ∙ c .enum-told .given .1)
+    let look = c .before .before in
+    let ends = look .before .before in
+    let start = ends .before .before .before .before in
+    list-unknown _ _ _ _ _ _ (start .pre .1 .1 .1 .0) (ends .mark-from .ensures .0) (ends .mark-from .ensures .1 .1)
+    (sym (look .find-by .ensures) ∙ c .enum-told .given .1)
+
+read-names-mul-w : (t : ℕ) → read-names-lts.Need-mul-w (read-names-calls t) (read-names-at t) read-names.Post
+read-names-mul-w t c = omega arith
+
+read-names-slice-read-w : (t : ℕ) → read-names-lts.Need-slice-read-w (read-names-calls t) (read-names-at t) read-names.Post
+read-names-slice-read-w t c =
+    let place = c .before .before in
+    let look = place .before .before in
+    let ends = look .before .before in
+    let start = ends .before .before .before .before in
+    let p = start .pre .1 in
+    words-room _ _ _ _ _ (start .args .words .now) (p .1 .1 .0) (ends .mark-from .ensures .0) (ends .mark-from .ensures .1 .1) _
+    (sym (look .find-by .ensures) ∙ place .found .given .1) (accepted-counted _ (p .0)) (p .1 .1 .1)
 
 read-names-has-requires : (t : ℕ) → read-names-lts.Need-has-requires (read-names-calls t) (read-names-at t) read-names.Post
 read-names-has-requires t c κs = search needs
 
 read-names-returns-2 : (t : ℕ) → read-names-lts.Need-returns-2 (read-names-calls t) (read-names-at t) read-names.Post
 read-names-returns-2 t c =
-    let place = c .before .before .before in
+    let asked = c .before in
+    let place = asked .before .before .before in
     let look = place .before .before in
-    let end = look .before .before in
-    let start = end .before .before .before in
-    list-repeated _ _ _ _ _ _ (start .pre .1 .1 .1) (end .mark-from .ensures .0) (end .mark-from .ensures .1 .1) _
-    (sym (look .find-by .ensures) ∙ place .found .given .1) (sym (c .before .has .ensures) ∙ c .if1 .taken)
+    let ends = look .before .before in
+    let start = ends .before .before .before .before in
+    words-repeated _ _ _ _ _ _ (start .pre .1 .1 .1 .0) (ends .mark-from .ensures .0) (ends .mark-from .ensures .1 .1) _
+    (sym (look .find-by .ensures) ∙ place .found .given .1) (sym (asked .has .ensures) ∙ c .if1 .taken)
 
 read-names-with-requires : (t : ℕ) → read-names-lts.Need-with-requires (read-names-calls t) (read-names-at t) read-names.Post
-read-names-with-requires t c κs =
-    let place = c .before .before .before in
+read-names-with-requires t c κs = omega arith
+
+read-names-mul-words : (t : ℕ) → read-names-lts.Need-mul-words (read-names-calls t) (read-names-at t) read-names.Post
+read-names-mul-words t c = omega arith
+
+read-names-slice-write-words : (t : ℕ) → read-names-lts.Need-slice-write-words (read-names-calls t) (read-names-at t) read-names.Post
+read-names-slice-write-words t c =
+    let place = c .before .before .before .before .before in
     let look = place .before .before in
-    let start = look .before .before .before .before .before in
-    omega (arith, found-below _ _ _ _ (sym (look .find-by .ensures) ∙ place .found .given .1), class-limit _ (start .args .class) (accepted-counted _ (start .pre .1 .0)))
+    let ends = look .before .before in
+    let start = ends .before .before .before .before in
+    let p = start .pre .1 in
+    words-room _ _ _ _ _ (start .args .words .now) (p .1 .1 .0) (ends .mark-from .ensures .0) (ends .mark-from .ensures .1 .1) _
+    (sym (look .find-by .ensures) ∙ place .found .given .1) (accepted-counted _ (p .0)) (p .1 .1 .1)
 
 read-names-after-name-requires : (t : ℕ) → read-names-lts.Need-after-name-requires (read-names-calls t) (read-names-at t) read-names.Post
 read-names-after-name-requires t c κs =
-    let place = c .before .before .before .before in
-    let look = place .before .before in
-    let start = look .before .before .before .before .before in
-    (omega arith, (start .pre .1 .0, (start .pre .1 .1 .0, omega arith)))
+    let place = c .before .before .before .before .before .before in
+    let ends = place .before .before .before .before in
+    let start = ends .before .before .before .before in
+    let p = start .pre .1 in
+    (omega arith, (p .0, (p .1 .0, (ends .mark-from .ensures .1 .1, length-set (start .args .words .now) _ (c .before .with .result) ∙ p .1 .1 .1))))
+
+read-names-same-length : (t : ℕ) → read-names-lts.Need-same-length (read-names-calls t) (read-names-at t) read-names.Post
+read-names-same-length t c =
+    let stored = c .before .before .before .before in
+    let place = stored .before .before .before .before .before in
+    let start = place .before .before .before .before .before .before .before .before in
+    omega (arith, length-set (start .args .words .now) (place .found .given .0 .0 / 64) (stored .with .result))
 
 read-names-returns-3 : (t : ℕ) → read-names-lts.Need-returns-3 (read-names-calls t) (read-names-at t) read-names.Post
 read-names-returns-3 t c =
-    let test = c .before .before in
-    let place = test .before .before .before in
+    let handed = c .before .before in
+    let stored = handed .before .before in
+    let left = stored .before in
+    let asked = left .before in
+    let place = asked .before .before .before in
     let look = place .before .before in
-    let end = look .before .before in
-    let start = end .before .before .before in
-    c .after-name .ensures
-    ∙ rw (c .before .with .ensures)
-    (list-next _ _ _ _ _ _ (start .pre .1 .1 .1) (end .mark-from .ensures .0) (end .mark-from .ensures .1 .1) _
-    (sym (look .find-by .ensures) ∙ place .found .given .1) (sym (test .before .has .ensures) ∙ test .if1 .left))
+    let ends = look .before .before in
+    let start = ends .before .before .before .before in
+    let p = start .pre .1 in
+    handed .after-name .ensures
+    ∙ words-next _ _ _ _ _ (start .args .words .now) (p .1 .1 .0) (ends .mark-from .ensures .0) (ends .mark-from .ensures .1 .1) _
+    (sym (look .find-by .ensures) ∙ place .found .given .1) (accepted-counted _ (p .0)) (p .1 .1 .1) (sym (asked .has .ensures) ∙ left .if1 .left) _ (stored .with .ensures)
 
 pub +after-name+read-names-spec : {M : Type 1} → statement M
 +after-name+read-names-spec = close μ-after-name μ-read-names (λ t. after-name-lts.spec (after-name-calls t)
@@ -150,6 +194,7 @@ pub +after-name+read-names-spec : {M : Type 1} → statement M
     after-name.Post
     (after-name-add-read-names t)
     (after-name-read-names-requires t)
+    (after-name-same-length t)
     (after-name-returns t)
     (after-name-returns-2 t))
     λ t. read-names-lts.spec (read-names-calls t)
@@ -163,8 +208,13 @@ pub +after-name+read-names-spec : {M : Type 1} → statement M
     (read-names-enum-known-found t)
     (read-names-enum-told t)
     (read-names-returns t)
+    (read-names-mul-w t)
+    (read-names-slice-read-w t)
     (read-names-has-requires t)
     (read-names-returns-2 t)
     (read-names-with-requires t)
+    (read-names-mul-words t)
+    (read-names-slice-write-words t)
     (read-names-after-name-requires t)
+    (read-names-same-length t)
     (read-names-returns-3 t)

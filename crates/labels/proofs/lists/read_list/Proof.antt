@@ -1,4 +1,5 @@
 use mathlib.Core.Path.{_∙_}
+use Rattle.sets.specs.Words.{joined}
 use Rattle.image.proofs.Accepted.{accepted-counted}
 use Rattle.labels.proofs.Naming.{list-begun, list-empty}
 use borrow.Author.Needs.{needs}
@@ -11,27 +12,30 @@ sub-fill c = search needs
 fill-requires : tie.Need-fill-requires
 fill-requires c κs = accepted-counted _ (c .before .before .before .before .pre .0)
 
-none-requires : tie.Need-none-requires
-none-requires c κs = search needs
+slice-aggregate-read-names : tie.Need-slice-aggregate-read-names
+slice-aggregate-read-names c = search needs
 
 read-names-requires : tie.Need-read-names-requires
 read-names-requires c κs = search needs
+
+slice-aggregate-list-read : tie.Need-slice-aggregate-list-read
+slice-aggregate-list-read c = search needs
 
 list-read-requires : tie.Need-list-read-requires
 list-read-requires c κs = search needs
 
 returns : tie.Need-returns
+unfolding joined
 returns c =
-    let names = c .before in
+    let names = c .before .before .before in
     let begun = names .before .before .before .before .before in
-    c .list-read .ensures ∙ names .read-names .ensures
-    ∙ rw (names .before .none .ensures) (list-begun _ _ _ _ (begun .if1 .taken))
+    c .list-read .ensures ∙ names .read-names .ensures ∙ list-begun _ _ _ _ (begun .if1 .taken)
 
-none-requires-2 : tie.Need-none-requires-2
-none-requires-2 c κs = search needs
+none-requires : tie.Need-none-requires
+none-requires c κs = search needs
 
 returns-2 : tie.Need-returns-2
-returns-2 c = rw (c .none2 .ensures) (list-empty _ _ _ _ (c .before .if1 .left))
+returns-2 c = rw (c .none .ensures) (list-empty _ _ _ _ (c .before .if1 .left))
 
 pub read-list-spec : {M : Type 1} → statement M
 read-list-spec =
@@ -39,9 +43,10 @@ read-list-spec =
     (tie.spec
     sub-fill
     fill-requires
-    none-requires
+    slice-aggregate-read-names
     read-names-requires
+    slice-aggregate-list-read
     list-read-requires
     returns
-    none-requires-2
+    none-requires
     returns-2)
