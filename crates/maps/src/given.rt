@@ -35,7 +35,7 @@ pub fn bit_of(bits: &[u8], p: usize) -> bool
 }
 
 // Writes the map to the front of the buffer, and tells its length.
-fn put_map(image: &[u8], view: View, buffer: &mut [u8]) -> usize
+pub fn put_map(image: &[u8], view: View, buffer: &mut [u8]) -> usize
     requires { ⌜ Counted (now image) × (mapLength (now image) ≤ length (now buffer)) ⌝ }
     ensures { λ r. ⌜ Written (now (buffer .entry)) 0 (mapOf (now (image .entry)) (rightsOf view)) (now (buffer .exit)) r ⌝ }
 {

@@ -11,3 +11,5 @@ pub mod Giving
 pub mod Nth
 pub mod ByMap
 pub mod Remembering
+pub mod MadeMap
+pub mod EveryRow

@@ -2,7 +2,9 @@
 pub mod answers;
 mod mapped;
 mod masking;
+mod offsets;
 mod reading;
+mod remembered;
 mod run;
 mod scan;
 mod slots;

@@ -3,14 +3,18 @@ ghost use mathlib.Core.Path.{_≡_};
 ghost use lib.Dec.{leb};
 ghost use lib.ListN.{length};
 ghost use Rattle.access.specs.Rights.{rightsOf};
-ghost use Rattle.rows.specs.Run.{kept, runRows};
+ghost use Rattle.rows.specs.Run.{IsRun, kept, runRows};
 ghost use Rattle.rows.specs.Table.{rowReadable};
 ghost use Rattle.rows.specs.Reading.{handedOut};
 ghost use Rattle.rows.specs.Scan.{keptBytes, Usable};
 use crate::answers::RowsRead;
+use crate::mapped::read_by_map;
 use crate::scan::copy_readable;
 use crate::scan::readable_length;
 use access::rights::View;
+use access::verdicts::unknown_read;
+use buffers::given::put;
+use maps::given::put_map;
 use refusals::Refusal;
 
 // Do that many bytes hold the readable rows? Where they hold the whole run, nothing has to be counted.
@@ -24,7 +28,43 @@ fn has_room(image: &[u8], view: View, run: &[u8], width: usize, room: usize) -> 
     readable_length(image, view, run, width) <= room
 }
 
-// 13 where the readable rows are longer than the buffer: then no byte is written.
+// A verdict is asked of each row.
+fn read_few(image: &[u8], view: View, run: &[u8], width: usize, buffer: &mut [u8]) -> RowsRead
+    requires { ⌜ Usable (now image) (now run) width ⌝ }
+    ensures { λ r. ⌜ (r, now (buffer .exit)) ≡ handedOut (kept (rowReadable (now (image .entry)) (rightsOf view)) (runRows (now (run .entry)) width)) (now (buffer .entry)) ⌝ }
+{
+    if !has_room(image, view, run, width, buffer.len()) {
+        return RowsRead::Refused(Refusal::Room);
+    }
+    let end = copy_readable(image, view, run, width, buffer);
+    RowsRead::Done(end / width)
+}
+
+// Every row is handed out.
+fn read_whole(run: &[u8], width: usize, buffer: &mut [u8]) -> RowsRead
+    requires { ⌜ IsRun (now run) width ⌝ }
+    ensures { λ r. ⌜ (r, now (buffer .exit)) ≡ handedOut (runRows (now (run .entry)) width) (now (buffer .entry)) ⌝ }
+{
+    if buffer.len() < run.len() {
+        return RowsRead::Refused(Refusal::Room);
+    }
+    let end = put(run, buffer, 0);
+    RowsRead::Done(end / width)
+}
+
+// A verdict is asked of each label once, as a map of the session. By it, the read is the same.
+fn read_many(image: &[u8], view: View, run: &[u8], width: usize, buffer: &mut [u8]) -> RowsRead
+    requires { ⌜ Usable (now image) (now run) width ⌝ }
+    ensures { λ r. ⌜ (r, now (buffer .exit)) ≡ handedOut (kept (rowReadable (now (image .entry)) (rightsOf view)) (runRows (now (run .entry)) width)) (now (buffer .entry)) ⌝ }
+{
+    let mut made = [0u8; 210];
+    let end = put_map(image, view, &mut made);
+    let unknown = unknown_read(image, view);
+    read_by_map(image, &made[0..end], unknown, run, width, buffer)
+}
+
+// 13 where the readable rows are longer than the buffer: then no byte is written. Whoever sees rows of unknown tags sees every row; a map pays
+// from some dozens of rows on.
 pub fn read_accepted(
     image: &[u8],
     view: View,
@@ -35,9 +75,11 @@ pub fn read_accepted(
     requires { ⌜ Usable (now image) (now run) width ⌝ }
     ensures { λ r. ⌜ (r, now (buffer .exit)) ≡ handedOut (kept (rowReadable (now (image .entry)) (rightsOf view)) (runRows (now (run .entry)) width)) (now (buffer .entry)) ⌝ }
 {
-    if !has_room(image, view, run, width, buffer.len()) {
-        return RowsRead::Refused(Refusal::Room);
+    if unknown_read(image, view) {
+        return read_whole(run, width, buffer);
     }
-    let end = copy_readable(image, view, run, width, buffer);
-    RowsRead::Done(end / width)
+    if run.len() / width < 64 {
+        return read_few(image, view, run, width, buffer);
+    }
+    read_many(image, view, run, width, buffer)
 }

@@ -3,9 +3,9 @@ ghost use mathlib.Core.Path.{_≡_};
 ghost use Rattle.access.specs.Rights.{rightsOf};
 ghost use Rattle.rows.specs.Updating.{updateWith};
 ghost use Rattle.rows.specs.Scan.{UsableTable};
+use crate::offsets::nth_offset;
 use crate::run::run_of;
 use crate::scan::is_writable;
-use crate::scan::nth_readable;
 use access::rights::View;
 use buffers::given::put;
 use refusals::Refusal;
@@ -27,7 +27,7 @@ pub fn update_accepted(
         return Checked::Refused(Refusal::PayloadLength);
     }
     let run = run_of(table, width);
-    let at = nth_readable(image, view, run, width, n);
+    let at = nth_offset(image, view, run, width, n);
     if run.len() <= at {
         return Checked::Refused(Refusal::NoRow);
     }

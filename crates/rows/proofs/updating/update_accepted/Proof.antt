@@ -19,8 +19,8 @@ returns c = update-payload _ _ _ _ _ _ (c .if1 .taken)
 run-of-requires : tie.Need-run-of-requires
 run-of-requires c κs = search needs
 
-nth-readable-requires : tie.Need-nth-readable-requires
-nth-readable-requires c κs =
+nth-offset-requires : tie.Need-nth-offset-requires
+nth-offset-requires c κs =
     let fitting = c .before .before in
     let pre = fitting .before .before .before .before .pre in
     record { accepted = pre .accepted; whole = held-means _ _ (pre .rule) _ (c .run-of .ensures) }
@@ -34,7 +34,7 @@ returns-2 c =
     let fitting = run .before .before in
     let pre = fitting .before .before .before .before .pre in
     update-none _ _ _ _ _ _ (fitting .if1 .left)
-    (table-missing _ _ _ _ (pre .rule) _ (run .run-of .ensures) _ _ (c .before .nth-readable .ensures) (c .if2 .taken))
+    (table-missing _ _ _ _ (pre .rule) _ (run .run-of .ensures) _ _ (c .before .nth-offset .ensures) (c .if2 .taken))
 
 add-is-writable : tie.Need-add-is-writable
 add-is-writable c =
@@ -42,7 +42,7 @@ add-is-writable c =
     let fitting = run .before .before in
     let start = fitting .before .before .before .before in
     let a = start .args in
-    let row = table-found (a .image .now) (rightsOf (a .view)) _ _ (start .pre .rule) _ (run .run-of .ensures) _ _ (c .before .nth-readable .ensures) (c .if2 .left) in
+    let row = table-found (a .image .now) (rightsOf (a .view)) _ _ (start .pre .rule) _ (run .run-of .ensures) _ _ (c .before .nth-offset .ensures) (c .if2 .left) in
     omega (arith, row .inside, row .within)
 
 sub-is-writable : tie.Need-sub-is-writable
@@ -57,7 +57,7 @@ part-is-writable-end c =
     let fitting = run .before .before in
     let start = fitting .before .before .before .before in
     let a = start .args in
-    let row = table-found (a .image .now) (rightsOf (a .view)) _ _ (start .pre .rule) _ (run .run-of .ensures) _ _ (c .before .nth-readable .ensures) (c .if2 .left) in
+    let row = table-found (a .image .now) (rightsOf (a .view)) _ _ (start .pre .rule) _ (run .run-of .ensures) _ _ (c .before .nth-offset .ensures) (c .if2 .left) in
     omega (arith, row .inside)
 
 is-writable-requires : tie.Need-is-writable-requires
@@ -67,7 +67,7 @@ is-writable-requires c κs =
     let fitting = run .before .before in
     let start = fitting .before .before .before .before in
     let a = start .args in
-    let row = table-found (a .image .now) (rightsOf (a .view)) _ _ (start .pre .rule) _ (run .run-of .ensures) _ _ (asked .before .nth-readable .ensures) (asked .if2 .left) in
+    let row = table-found (a .image .now) (rightsOf (a .view)) _ _ (start .pre .rule) _ (run .run-of .ensures) _ _ (asked .before .nth-offset .ensures) (asked .if2 .left) in
     (start .pre .accepted, row .tagged)
 
 same-length-2 : tie.Need-same-length-2
@@ -80,7 +80,7 @@ returns-3 c =
     let fitting = run .before .before in
     let start = fitting .before .before .before .before in
     let a = start .args in
-    let row = table-found (a .image .now) (rightsOf (a .view)) _ _ (start .pre .rule) _ (run .run-of .ensures) _ _ (asked .before .nth-readable .ensures) (asked .if2 .left) in
+    let row = table-found (a .image .now) (rightsOf (a .view)) _ _ (start .pre .rule) _ (run .run-of .ensures) _ _ (asked .before .nth-offset .ensures) (asked .if2 .left) in
     let writable = ap (rowWritable (a .image .now) (rightsOf (a .view))) (row .nth) ∙ sym (c .before .is-writable .ensures) in
     update-denied _ _ _ _ _ _ (fitting .if1 .left) (row .exists) (writable ∙ not-true _ (c .if3 .taken))
 
@@ -94,7 +94,7 @@ put-requires c κs =
     let fitting = run .before .before in
     let start = fitting .before .before .before .before in
     let a = start .args in
-    let row = table-found (a .image .now) (rightsOf (a .view)) _ _ (start .pre .rule) _ (run .run-of .ensures) _ _ (asked .before .nth-readable .ensures) (asked .if2 .left) in
+    let row = table-found (a .image .now) (rightsOf (a .view)) _ _ (start .pre .rule) _ (run .run-of .ensures) _ _ (asked .before .nth-offset .ensures) (asked .if2 .left) in
     omega (arith, row .inside, row .within, fitting .if1 .left)
 
 same-length-3 : tie.Need-same-length-3
@@ -108,7 +108,7 @@ returns-4 c =
     let fitting = run .before .before in
     let start = fitting .before .before .before .before in
     let a = start .args in
-    let row = table-found (a .image .now) (rightsOf (a .view)) _ _ (start .pre .rule) _ (run .run-of .ensures) _ _ (asked .before .nth-readable .ensures) (asked .if2 .left) in
+    let row = table-found (a .image .now) (rightsOf (a .view)) _ _ (start .pre .rule) _ (run .run-of .ensures) _ _ (asked .before .nth-offset .ensures) (asked .if2 .left) in
     let fits = fitting .if1 .left in
     let writable = ap (rowWritable (a .image .now) (rightsOf (a .view))) (row .nth) ∙ sym (tested .before .is-writable .ensures) in
     update-done _ _ _ _ _ _ fits (row .exists) (writable ∙ not-false _ (tested .if3 .left)) _ (c .before .before .put .ensures .bytes ∙ row .replaced _ fits)
@@ -120,7 +120,7 @@ update-accepted-spec =
     sub-if1
     returns
     run-of-requires
-    nth-readable-requires
+    nth-offset-requires
     same-length
     returns-2
     add-is-writable

@@ -1,7 +1,7 @@
 use borrow.Author.Needs.{needs}
 use Rattle.rows.proofs.Remembering.{told-made, remembered-set}
-use Rattle.rows.proofs.mapped.ask.Statement.{statement}
-use Rattle.rows.proofs.mapped.ask.Tie as tie
+use Rattle.rows.proofs.remembered.ask.Statement.{statement}
+use Rattle.rows.proofs.remembered.ask.Tie as tie
 
 tag-mapped-requires : tie.Need-tag-mapped-requires
 tag-mapped-requires c κs = search needs

@@ -12,8 +12,8 @@ use Rattle.image.proofs.Policy.{label-kept}
 use Rattle.rows.specs.Mapped.{tagMapped}
 use Rattle.rows.specs.Slots.{Remembered}
 use Rattle.rows.proofs.Remembering.{told-made, remembered-set, record-told}
-use Rattle.rows.proofs.mapped.fill.Statement.{statement}
-use Rattle.rows.proofs.mapped.fill.Tie as tie
+use Rattle.rows.proofs.remembered.fill.Statement.{statement}
+use Rattle.rows.proofs.remembered.fill.Tie as tie
 
 abbrev Inv-loop : tie.InvT-loop
 Inv-loop image bits unknown slots₀ shape count here₀ p₀ slots here p =

@@ -10,8 +10,8 @@ use Rattle.image.proofs.Accepted.{accepted-counted}
 use Rattle.access.specs.Verdicts.{knownTag}
 use Rattle.maps.specs.Map.{bitOf}
 use Rattle.rows.specs.Mapped.{tagMapped}
-use Rattle.rows.proofs.mapped.tag_mapped.Statement.{statement}
-use Rattle.rows.proofs.mapped.tag_mapped.Tie as tie
+use Rattle.rows.proofs.remembered.tag_mapped.Statement.{statement}
+use Rattle.rows.proofs.remembered.tag_mapped.Tie as tie
 
 label-of-tag-requires : tie.Need-label-of-tag-requires
 label-of-tag-requires c κs = search needs

@@ -2,8 +2,8 @@ use mathlib.Core.Path.{sym, ap, _∙_}
 use borrow.Author.Needs.{needs}
 use Rattle.rows.specs.Mapped.{tagMapped}
 use Rattle.rows.proofs.Remembering.{told-tag}
-use Rattle.rows.proofs.mapped.is_mapped.Statement.{statement}
-use Rattle.rows.proofs.mapped.is_mapped.Tie as tie
+use Rattle.rows.proofs.remembered.is_mapped.Statement.{statement}
+use Rattle.rows.proofs.remembered.is_mapped.Tie as tie
 
 number4-requires : tie.Need-number4-requires
 number4-requires c κs = search needs
