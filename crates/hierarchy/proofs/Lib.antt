@@ -13,6 +13,7 @@
 --     ColumnTurns the pass over the groups for many users at once
 --     ColumnRules what that pass tells of the users
 --     PutSets   sets in rows, and the rows turned over
+--     UsersInRows the users of an image in rows, thirty-two at once
 pub mod Lineage
 pub mod Room
 pub mod Walks
@@ -27,3 +28,4 @@ pub mod OfImage
 pub mod ColumnTurns
 pub mod ColumnRules
 pub mod PutSets
+pub mod UsersInRows

@@ -3,4 +3,5 @@ pub mod Forest
 pub mod Below
 pub mod Columns
 pub mod SetRows
+pub mod UserRows
 pub mod Paths

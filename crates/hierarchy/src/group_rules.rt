@@ -11,6 +11,7 @@ ghost use Rattle.hierarchy.specs.Below as groupwise;
 ghost use Rattle.hierarchy.specs.Below.{belowSets, releaseSets, setsRule, ofSets, firstBadBelow, Tabled};
 use crate::table;
 use crate::table::Table;
+use crate::tree_rules::first_bad_in_tree;
 use header::layout;
 use header::profile::Profile;
 use header::profile::profile_of;
@@ -80,8 +81,8 @@ pub fn lies_below(image: &[u8], table: &Table, all: Groups, set: Groups, other: 
     table::lies_below(layout::groups(image), table, all, set, other)
 }
 
-// The lowest user whose groups break their rule; the number of users where there is none.
-pub fn first_bad_below(image: &[u8], table: &Table) -> usize
+// The lowest user whose groups break their rule, one after the other; the number of users where there is none.
+pub(crate) fn first_bad_singly(image: &[u8], table: &Table) -> usize
     requires { ⌜ Counted (now image) × Tabled (now image) (now table) ⌝ }
     ensures { λ r. ⌜ r ≡ firstBadBelow (now (image .entry)) ⌝ }
 {
@@ -97,4 +98,15 @@ pub fn first_bad_below(image: &[u8], table: &Table) -> usize
         u += 1;
     }
     u
+}
+
+// The lowest user whose groups break their rule; the number of users where there is none.
+pub fn first_bad_below(image: &[u8], table: &Table) -> usize
+    requires { ⌜ Counted (now image) × Tabled (now image) (now table) ⌝ }
+    ensures { λ r. ⌜ r ≡ firstBadBelow (now (image .entry)) ⌝ }
+{
+    match profile_of(image) {
+        Profile::Tree => first_bad_in_tree(image, table),
+        Profile::Release => first_bad_singly(image, table),
+    }
 }

@@ -4,3 +4,4 @@ pub mod group_rules;
 pub mod order;
 pub mod set_rows;
 pub mod table;
+mod tree_rules;
