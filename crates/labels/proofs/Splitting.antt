@@ -1,9 +1,9 @@
 -- The first part of a text and the parts after it, and how a loop that looks for a mark finds its end. Assumes nothing.
-use Prim.Native.Nat.{ℕ, suc, _+_, _-_, _≤_, _<_}
+use Prim.Native.Nat.{ℕ, zero, suc, _+_, _-_, _≤_, _<_}
 use mathlib.Core.Path.{_≡_, refl, sym, ap, _∙_}
-use mathlib.Core.Bool.{Bool, true, false, cond}
+use mathlib.Core.Bool.{Bool, true, false, cond, true≢false}
 use mathlib.Core.List.{List, [], _∷_}
-use native.Mathlib.Nat.{add-sub-cancel-left}
+use native.Mathlib.Nat.{add-zero, add-sub-cancel-left, le-refl}
 use native.Mathlib.Numerals.{add-one}
 use native.Mathlib.Omega.{arith}
 use borrow.Author.Tests.{eq-eqb, ne-eqb, lt-ltb, le-ltb, ltb-true, ltb-false}
@@ -11,7 +11,10 @@ use lib.Dec.{eqb, ltb}
 use lib.ListN.{length, getD, take, drop, drop-of-length-le, length-drop}
 use lib.Seq.{drop-cons, drop-drop}
 use Rattle.labels.specs.Text.{onto, split}
-use Rattle.labels.specs.Lists.{untilMark, afterMark}
+use Rattle.fields.specs.Scan.{everywhere}
+use Rattle.fields.proofs.Scan.{everywhere-at}
+use Rattle.fields.proofs.Everywhere.{everywhere-within}
+use Rattle.labels.specs.Lists.{untilMark, lacksAt, afterMark}
 
 -- ---- the loop: what is left gives what the whole gives
 module _ (mark : ℕ) (s : List ℕ) (i w : ℕ) where
@@ -26,6 +29,16 @@ module _ (mark : ℕ) (s : List ℕ) (i w : ℕ) where
   pub until-done : length s ≤ i → i + untilMark mark (drop i s) ≡ w → i ≡ w
   unfolding untilMark
   until-done h inv = omega (arith, rw (drop-of-length-le s h) at inv)
+
+-- n places without the mark are passed over
+pub until-past : (mark : ℕ) (s : List ℕ) (i w n : ℕ) → i + n ≤ length s → i + untilMark mark (drop i s) ≡ w → everywhere (lacksAt mark s) n i ≡ true
+    → i + n + untilMark mark (drop (i + n) s) ≡ w
+until-past mark s i w zero h inv good = rw add-zero inv
+until-past mark s i w (suc n) h inv good =
+    let before = until-past mark s i w n (omega arith) inv (everywhere-within (lacksAt mark s) (suc n) i n i (le-refl i) (omega arith) good) in
+    let other = everywhere-at (lacksAt mark s) (suc n) i (i + n) good (omega arith) (omega arith) in
+    let e : i + suc n ≡ i + n + 1 = omega arith in
+    rw e (until-step mark s (i + n) w (omega arith) before (λ q. true≢false (sym other ∙ rw (eq-eqb _ _ q))))
 
 -- ---- the first part ends at the first mark
 pub ltb-suc : (u n : ℕ) → ltb u n ≡ ltb (suc u) (suc n)

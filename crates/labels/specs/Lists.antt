@@ -1,9 +1,10 @@
 -- What the readers of names and lists give, in terms of the definitions of Parse.antt.
 use Prim.Native.Nat.{ℕ, suc, _+_}
-use mathlib.Core.Bool.{cond}
+use mathlib.Core.Bool.{Bool, cond, not}
 use mathlib.Core.List.{List, [], _∷_}
 use lib.Dec.{eqb, ltb}
 use lib.ListN.{length, drop}
+use Rattle.fields.specs.Bytes.{byteAt}
 use Rattle.sets.specs.Groups.{placesOf}
 use Rattle.labels.specs.declared.names.Found.{Found}
 use Rattle.labels.specs.declared.names.Found.the-variants.{At, Nothing}
@@ -22,6 +23,10 @@ foundOf im class name = let p = placeOfName im class name in cond (ltb p (classC
 unfoldable pub untilMark : ℕ → List ℕ → ℕ
 untilMark mark [] = 0
 untilMark mark (x ∷ xs) = cond (eqb x mark) 0 (suc (untilMark mark xs))
+
+-- the byte at place i is not the mark
+abbrev pub lacksAt : ℕ → List ℕ → ℕ → Bool
+lacksAt mark text i = not (eqb (byteAt text i) mark)
 
 -- the parts after one that ended at a mark, or at the end
 abbrev pub afterMark : ℕ → List ℕ → ℕ → List (List ℕ)

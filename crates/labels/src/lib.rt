@@ -7,6 +7,7 @@ pub mod label;
 mod lists;
 mod names;
 mod parts;
+mod scan;
 mod shape;
 
 ghost use mathlib.Core.Path.{_≡_};

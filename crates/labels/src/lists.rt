@@ -12,6 +12,7 @@ use crate::hints::Hints;
 use crate::hints::fill;
 use crate::names::Found;
 use crate::names::find_by;
+use crate::scan::past_parts;
 use sets::groups::Groups;
 use sets::word;
 
@@ -45,7 +46,7 @@ pub fn mark_from(text: &[u8], at: usize, mark: u8) -> usize
     requires { ⌜ at ≤ length (now text) ⌝ }
     ensures { λ r. ⌜ (r ≡ at + untilMark mark (drop at (now (text .entry)))) × ((at ≤ r) × (r ≤ length (now (text .entry)))) ⌝ }
 {
-    let mut i = at;
+    let mut i = past_parts(text, at, mark);
     while i < text.len() {
         if text[i] == mark {
             return i;

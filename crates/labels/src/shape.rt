@@ -6,6 +6,7 @@ ghost use Rattle.fields.specs.Scan.{firstBad};
 ghost use Rattle.labels.specs.Text.{textByte, shapeRule};
 ghost use Rattle.labels.specs.States.{textByteAt, afterNameByte, afterComma, afterColon, afterByte, afterAll, endsWell};
 ghost use Rattle.labels.specs.declared.shape.State.the-variants.{Start};
+use crate::scan::past_text;
 use fields::names::name_byte;
 use fields::names::small_letter;
 
@@ -115,7 +116,7 @@ fn name_end(text: &[u8], at: usize) -> usize
     requires { ⌜ at ≤ length (now text) ⌝ }
     ensures { λ r. ⌜ r ≡ firstBad (textByteAt (now (text .entry))) (length (now (text .entry)) - at) at ⌝ }
 {
-    let mut i = at;
+    let mut i = past_text(text, at);
     while i < text.len() {
         if !text_byte(text[i]) {
             return i;

@@ -1,6 +1,7 @@
 use Prim.Native.Nat.{_≤_, _-_, _+_}
-use mathlib.Core.Path.{_≡_, refl}
+use mathlib.Core.Path.{_≡_}
 use native.Mathlib.Omega.{arith}
+use borrow.Author.Needs.{needs}
 use lib.ListN.{length, drop}
 use Rattle.labels.specs.Lists.{untilMark}
 use Rattle.labels.proofs.Splitting.{until-stop, until-step, until-done}
@@ -13,8 +14,11 @@ Inv-loop text at mark i₀ i = (at ≤ i) × ((i ≤ length text) × (i + untilM
 abbrev μ-loop : tie.MeasureT-loop
 μ-loop text at mark i₀ i = length text - i
 
+past-parts-requires : tie.Need-past-parts-requires Inv-loop μ-loop
+past-parts-requires c κs = search needs
+
 loop-holds : tie.Need-loop-holds Inv-loop μ-loop
-loop-holds c = (omega arith, (omega arith, refl))
+loop-holds c = let past = c .past-parts .ensures in (past .1 .0, (past .1 .1, past .0))
 
 shared-slice-read-if1 : tie.Need-shared-slice-read-if1 Inv-loop μ-loop
 shared-slice-read-if1 c = omega arith
@@ -41,6 +45,7 @@ mark-from-spec =
     (tie.spec
     Inv-loop
     μ-loop
+    past-parts-requires
     loop-holds
     shared-slice-read-if1
     returns

@@ -1,5 +1,5 @@
 use Prim.Native.Nat.{_-_, _≤_}
-use mathlib.Core.Path.{_≡_, refl, sym, _∙_}
+use mathlib.Core.Path.{_≡_, sym, _∙_}
 use native.Mathlib.Omega.{arith}
 use borrow.Author.Needs.{needs}
 use borrow.Author.Tests.{not-true, not-false}
@@ -16,8 +16,11 @@ Inv-loop text at i₀ i = (i ≤ length text) × (firstBad (textByteAt text) (le
 abbrev μ-loop : tie.MeasureT-loop
 μ-loop text at i₀ i = length text - i
 
+past-text-requires : tie.Need-past-text-requires Inv-loop μ-loop
+past-text-requires c κs = search needs
+
 loop-holds : tie.Need-loop-holds Inv-loop μ-loop
-loop-holds c = (omega arith, refl)
+loop-holds c = let past = c .past-text .ensures in (past .1, past .0)
 
 shared-slice-read-text-byte : tie.Need-shared-slice-read-text-byte Inv-loop μ-loop
 shared-slice-read-text-byte c = omega arith
@@ -50,6 +53,7 @@ name-end-spec =
     (tie.spec
     Inv-loop
     μ-loop
+    past-text-requires
     loop-holds
     shared-slice-read-text-byte
     text-byte-requires
