@@ -1,3 +1,6 @@
+pub mod BlockRuns
+pub mod HeldBlocks
+pub mod KindWalk
 pub mod MeaningBlocks
 pub mod MeaningComponents
 pub mod MeaningHeader

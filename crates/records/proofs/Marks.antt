@@ -1,5 +1,5 @@
 -- The filter of names: what marking a key does, that equal names have one key, and what a name that is not marked tells. Assumes nothing.
-use Prim.Native.Nat.{ℕ, _+_, _-_, _%_, _≤_, _<_}
+use Prim.Native.Nat.{ℕ, _+_, _-_, _≤_, _<_}
 use mathlib.Core.Path.{_≡_, refl, sym, ap, _∙_}
 use mathlib.Core.Bool.{Bool, true, false, true≢false}
 use mathlib.Core.List.{List}
@@ -14,7 +14,7 @@ use Rattle.fields.specs.Bytes.{byteAt, part, number2, number4, number8}
 use Rattle.fields.specs.Names.{nameIn, nameRule}
 use Rattle.fields.proofs.Both.{below-or}
 use Rattle.fields.proofs.Laws.{part-byte, part-short}
-use Rattle.fields.proofs.Meaning.{NameKept, name-means, name-byte-at}
+use Rattle.fields.proofs.Meaning.{NameKept, name-means}
 use Rattle.sets.specs.Sets.{union, within}
 use Rattle.sets.proofs.Within.{within-trans, within-union-left, within-union-right}
 use Rattle.header.specs.declared.counts.Counts.{Counts}

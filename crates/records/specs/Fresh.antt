@@ -20,7 +20,8 @@ use Rattle.records.specs.Rules.{recordIn, runRecord, runRecords, classSt
 abbrev pub wrapped : ℕ → ℕ → ℕ
 wrapped a b = (a + b) % 2 ^ 64
 
--- of the words at bytes 2, 10, 18 and 24 of the record, which are the 30 bytes after the name's length: a + 3b + 4(c + 2d), then its remainder by 524,287, a prime
+-- of the words at bytes 2, 10, 18 and 24 of the record, which are the 30 bytes after the name's length, a + 3b + 4(c + 2d); then the remainder
+-- by 524,287, a prime
 unfoldable pub nameKey : List ℕ → ℕ
 nameKey rec =
     let b = number8 rec 10 in

@@ -4,3 +4,4 @@ pub mod Users
 pub mod Existing
 pub mod Rules
 pub mod Fresh
+pub mod Kinds

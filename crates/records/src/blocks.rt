@@ -13,17 +13,16 @@ use crate::components::component_ok;
 use crate::components::first_named;
 use crate::existing::Existing;
 use crate::existing::existing_in;
+use crate::kinds::laid_out;
 use crate::labels::label_ok;
 use crate::users::user_ok;
 use fields::names::Letters;
 use fields::names::name_in;
-use fields::numbers::all_zero;
 use header::contents::block_contents;
 use header::counts::Counts;
 use header::layout;
 use header::layout::Kind;
 use header::layout::Shape;
-use header::layout::kind_byte;
 
 // A record and the one right before it.
 pub fn after_ok(existing: Existing, kind: Kind, i: usize, previous: &[u8], rec: &[u8]) -> bool
@@ -120,14 +119,7 @@ pub fn layout_ok(image: &[u8], b: usize) -> bool
     requires { ⌜ Counted (now image) × ((1 ≤ b) × (b < blocksNeeded (now image))) ⌝ }
     ensures { λ r. ⌜ r ≡ layoutRule (now (image .entry)) b ⌝ }
 {
-    let held = block_contents(image, b);
-    let kind = held.kind;
-    let at = 512 * b;
-    let unused = at + held.end;
-    let end = at + 510;
-    (image[at] == kind_byte(kind))
-        & (image[at + 1] as usize == held.to - held.from)
-        & all_zero(&image[unused..end])
+    laid_out(image, b, block_contents(image, b))
 }
 
 pub fn content_ok(image: &[u8], b: usize) -> bool

@@ -1,12 +1,12 @@
-use Prim.Native.Nat.{ℕ, _+_, _-_, _≤_, _<_}
-use mathlib.Core.Path.{_≡_, refl, sym, ap, _∙_}
+use Prim.Native.Nat.{ℕ, _-_, _≤_, _<_}
+use mathlib.Core.Path.{_≡_, sym, ap, _∙_}
 use mathlib.Core.List.{List}
 use native.Mathlib.Omega.{arith}
 use borrow.Author.Needs.{needs}
 use lib.ListN.{length, length-take, length-drop}
 use Rattle.fields.specs.Scan.{firstBad}
 use Rattle.header.specs.declared.layout.Kind.the-variants.{Component}
-use Rattle.header.specs.Layout.{countOf, recordAt, recordsOf}
+use Rattle.header.specs.Layout.{countOf, recordsOf}
 use Rattle.header.proofs.Inside.{record-of}
 use Rattle.records.specs.Fields.{componentName}
 use Rattle.records.specs.Rules.{recordIn, othersNamed}

@@ -4,20 +4,17 @@ use native.Mathlib.Omega.{arith}
 use borrow.Author.Needs.{needs}
 use Rattle.records.specs.Rules.{layoutRule}
 use Rattle.header.proofs.Inside.{held-by, block-inside}
-use Rattle.records.proofs.blocks.layout_ok.Statement.{statement}
-use Rattle.records.proofs.blocks.layout_ok.Tie as tie
-
-block-contents-requires : tie.Need-block-contents-requires
-block-contents-requires c κs = search needs
+use Rattle.records.proofs.kinds.laid_out.Statement.{statement}
+use Rattle.records.proofs.kinds.laid_out.Tie as tie
 
 mul-at : tie.Need-mul-at
 mul-at c = search needs
 
 add-unused : tie.Need-add-unused
 add-unused c =
-    let p = c .before .before .before .pre in
-    let h = held-by _ _ _ (c .before .block-contents .ensures) (p .1 .0) (p .1 .1) in
-    omega (arith, block-inside _ _ (p .0 .fitted) (p .1 .1))
+    let p = c .before .before .pre in
+    let h = held-by _ _ _ (p .1) (p .0 .1 .0) (p .0 .1 .1) in
+    omega (arith, h .within, block-inside _ _ (p .0 .0 .fitted) (p .0 .1 .1))
 
 add-end : tie.Need-add-end
 add-end c = search needs
@@ -36,29 +33,25 @@ shared-slice-read-result-2 c = search needs
 
 cast-result : tie.Need-cast-result
 cast-result c =
-    let held = c .before .before .before .before in
-    omega (arith, c .shared-slice-known3 .given (512 * (held .before .before .args .b) + 1))
+    let start = c .before .before .before .before .before in
+    omega (arith, c .shared-slice-known3 .given (512 * (start .args .b) + 1))
 
 sub-result : tie.Need-sub-result
 sub-result c =
-    let held = c .before .before .before .before .before in
-    let p = held .before .before .pre in
-    let h = held-by _ _ _ (held .block-contents .ensures) (p .1 .0) (p .1 .1) in
-    h .ordered
+    let p = c .before .before .before .before .before .before .pre in
+    held-by _ _ _ (p .1) (p .0 .1 .0) (p .0 .1 .1) .ordered
 
 sub-all-zero : tie.Need-sub-all-zero
 sub-all-zero c =
-    let held = c .before .before .before .before .before in
-    let p = held .before .before .pre in
-    let h = held-by _ _ _ (held .block-contents .ensures) (p .1 .0) (p .1 .1) in
-    omega arith
+    let p = c .before .before .before .before .before .before .pre in
+    let h = held-by _ _ _ (p .1) (p .0 .1 .0) (p .0 .1 .1) in
+    omega (arith, h .after, h .within)
 
 part-all-zero-start : tie.Need-part-all-zero-start
 part-all-zero-start c =
-    let held = c .before .before .before .before .before in
-    let p = held .before .before .pre in
-    let h = held-by _ _ _ (held .block-contents .ensures) (p .1 .0) (p .1 .1) in
-    omega arith
+    let p = c .before .before .before .before .before .before .pre in
+    let h = held-by _ _ _ (p .1) (p .0 .1 .0) (p .0 .1 .1) in
+    omega (arith, h .after, h .within)
 
 part-all-zero-end : tie.Need-part-all-zero-end
 part-all-zero-end c = search needs
@@ -70,17 +63,16 @@ returns : tie.Need-returns
 unfolding layoutRule
 returns c =
     let kinded = c .before .before .before .before in
-    let held = kinded .before .before .before in
-    let b = held .before .before .args .b in
-    let e = held .block-contents .result .end in
+    let start = kinded .before .before .before .before in
+    let b = start .args .b in
+    let e = start .args .held .end in
     let cut : 512 * b + 510 - (512 * b + e) ≡ 510 - e = omega arith in
-    rw (c .all-zero .ensures, cut, kinded .kind-byte .ensures, held .block-contents .ensures)
+    rw (c .all-zero .ensures, cut, kinded .kind-byte .ensures, start .pre .1)
 
-pub layout-ok-spec : {M : Type 1} → statement M
-layout-ok-spec =
+pub laid-out-spec : {M : Type 1} → statement M
+laid-out-spec =
     tie.close
     (tie.spec
-    block-contents-requires
     mul-at
     add-unused
     add-end
