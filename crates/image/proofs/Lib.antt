@@ -3,6 +3,7 @@ pub mod EveryRule
 pub mod Exactly
 pub mod Halves
 mod InBlocks
+mod KindFaults
 pub mod Lowest
 pub mod Place
 pub mod Placed

@@ -14,7 +14,7 @@ use Rattle.records.specs.Rules.{layoutRule, firstBadRecord}
 use Rattle.image.specs.declared.faults.Fault.{Fault}
 use Rattle.image.specs.declared.faults.Fault.the-variants.{Sound, Length, Block, Layout, Component, Label, User, Ring, Below}
 use Rattle.image.specs.Faults.{shownAs, isSound, recordFault}
-use Rattle.image.specs.Walk.{firstBadContent, contentFault, contentsFault, groupFault, countedFault, Tells}
+use Rattle.image.specs.Walk.{firstBadContent, contentFault, rangeFault, contentsFault, groupFault, countedFault, Tells}
 
 refused-no : {r : Refusal} → Refused r ≡ Accepted → ⊥
 refused-no {r} e = let z : _≡_ {A = ℕ} 0 1 = cc in omega arith
@@ -51,7 +51,7 @@ record-fault kind.Component b r = refl
 record-fault kind.Label b r = refl
 record-fault kind.User b r = refl
 
-content-fault : (im : List ℕ) (b : ℕ) → isSound (contentFault im b) ≡ false
+pub content-fault : (im : List ℕ) (b : ℕ) → isSound (contentFault im b) ≡ false
 unfolding contentFault
 content-fault im b = at (layoutRule im b)
   where
@@ -61,7 +61,7 @@ content-fault im b = at (layoutRule im b)
 
 -- ---- the blocks after the header, and then the groups
 pub contents-none : (im : List ℕ) → isSound (contentsFault im) ≡ true → countedFault im ≡ groupFault im
-unfolding contentsFault countedFault
+unfolding rangeFault firstBadContent countedFault
 contents-none im = at (ltb (firstBadContent im) (blocksNeeded im))
   where
     at : (t : Bool) → isSound (cond t (contentFault im (firstBadContent im)) Sound) ≡ true
@@ -70,7 +70,7 @@ contents-none im = at (ltb (firstBadContent im) (blocksNeeded im))
     at false e = refl
 
 pub contents-first : (im : List ℕ) → isSound (contentsFault im) ≡ false → countedFault im ≡ contentsFault im
-unfolding contentsFault countedFault
+unfolding rangeFault firstBadContent countedFault
 contents-first im = at (ltb (firstBadContent im) (blocksNeeded im))
   where
     at : (t : Bool) → isSound (cond t (contentFault im (firstBadContent im)) Sound) ≡ false

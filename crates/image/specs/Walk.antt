@@ -1,13 +1,14 @@
 -- What the code finds, in the order in which it looks. No public call is told by these definitions: proofs/Told.antt shows that the fault
 -- which is found is the one with the lowest key.
-use Prim.Native.Nat.{ℕ, _-_}
+use Prim.Native.Nat.{ℕ, _+_, _-_}
 use mathlib.Core.Path.{_≡_}
 use mathlib.Core.Bool.{cond, _&&_}
 use mathlib.Core.List.{List}
 use lib.Dec.{ltb}
 use Rattle.fields.specs.Scan.{firstBad}
 use Rattle.blocks.specs.Blocks.{lengthRule, blockCount, firstBadBlock}
-use Rattle.header.specs.Layout.{groups, users, blocksNeeded, contentsOf}
+use Rattle.header.specs.declared.layout.Kind.{Kind}
+use Rattle.header.specs.Layout.{groups, users, blocksOf, firstBlock, blocksNeeded, contentsOf}
 use Rattle.header.specs.Header.{headerRule, fitRule}
 use Rattle.records.specs.Rules.{layoutRule, firstBadRecord, contentRule}
 use Rattle.hierarchy.specs.Below.{firstRing, firstBadBelow, Tabled}
@@ -25,9 +26,16 @@ contentFault im b =
     let held = contentsOf im b in
     cond (layoutRule im b) (recordFault (held .kind) b (firstBadRecord im b - held .from)) (Layout b)
 
--- of all blocks after the header
-unfoldable pub contentsFault : List ℕ → Fault
-contentsFault im = cond (ltb (firstBadContent im) (blocksNeeded im)) (contentFault im (firstBadContent im)) Sound
+-- of the blocks from `from` up to `to`: the fault of the lowest with one
+unfoldable pub rangeFault : List ℕ → ℕ → ℕ → Fault
+rangeFault im from to = let b = firstBad (contentRule im) (to - from) from in cond (ltb b to) (contentFault im b) Sound
+
+-- of the blocks of a kind, and of all blocks after the header
+abbrev pub kindFault : List ℕ → Kind → Fault
+kindFault im kind = rangeFault im (firstBlock im kind) (firstBlock im kind + blocksOf im kind)
+
+abbrev pub contentsFault : List ℕ → Fault
+contentsFault im = rangeFault im 1 (blocksNeeded im)
 
 -- of the groups: a ring of parents, a user's groups against below
 abbrev pub groupFault : List ℕ → Fault

@@ -1,17 +1,17 @@
 // The fault of an image that is told: the walk meets faults in the order of their keys, so the first is the lowest.
-ghost use Prim.Native.Nat.{_≤_, _<_};
+ghost use Prim.Native.Nat.{_<_};
 ghost use mathlib.Core.Path.{_≡_};
-ghost use Rattle.header.specs.Layout.{users, blocksNeeded};
+ghost use Rattle.header.specs.Layout.{countsOf, users};
 ghost use Rattle.header.specs.Limits.{Counted};
 ghost use Rattle.image.specs.Check.{faultOf};
 ghost use Rattle.image.specs.Faults.{belowFault};
-ghost use Rattle.image.specs.Walk.{firstBadContent, contentFault, contentsFault, groupFault, countedFault, Tells};
+ghost use Rattle.image.specs.Walk.{kindFault, contentsFault, groupFault, countedFault, Tells};
+ghost use Rattle.records.specs.Existing.{Exist};
 use crate::faults::Fault;
 use crate::faults::is_sound;
 use crate::faults::record_fault;
 use blocks::frame::first_bad_block;
 use blocks::frame::length_ok;
-use header::contents::block_contents;
 use header::layout;
 use header::layout::Kind;
 use header::rules::fit_ok;
@@ -19,39 +19,28 @@ use header::rules::header_ok;
 use hierarchy::group_rules;
 use hierarchy::table;
 use hierarchy::table::Table;
-use records::blocks::content_ok;
-use records::blocks::first_bad_record;
-use records::blocks::layout_ok;
+use records::existing::Existing;
+use records::existing::existing_in;
+use records::fresh;
+use records::fresh::Filter;
+use records::kinds::Found;
+use records::kinds::first_bad_of_kind;
 
-// The lowest block after the header that breaks a rule; the number of blocks where none does.
-fn first_bad_content(image: &[u8]) -> usize
-    requires { ⌜ Counted (now image) ⌝ }
-    ensures { λ r. ⌜ r ≡ firstBadContent (now (image .entry)) ⌝ }
+// The first fault of the blocks of a kind.
+fn kind_fault(image: &[u8], existing: Existing, kind: Kind, seen: &mut Filter) -> Fault
+    requires { ⌜ Counted (now image) × (Exist existing × (existing .counts ≡ countsOf (now image))) ⌝ }
+    ensures { λ r. ⌜ r ≡ kindFault (now (image .entry)) kind ⌝ }
 {
-    let count = layout::blocks_needed(image);
-    let mut b = 1;
-    while b < count {
-        if !content_ok(image, b) {
-            return b;
+    let found = first_bad_of_kind(image, existing, kind, seen);
+    match found {
+        Found::Nothing => Fault::Sound,
+        Found::Layout(b) => Fault::Layout(b),
+        Found::Record(b, r) => {
+            let block = b as u16;
+            let slot = r as u16;
+            record_fault(kind, block, slot)
         }
-        b += 1;
     }
-    b
-}
-
-fn content_fault(image: &[u8], b: usize) -> Fault
-    requires { ⌜ Counted (now image) × ((1 ≤ b) × (b < blocksNeeded (now image))) ⌝ }
-    ensures { λ r. ⌜ r ≡ contentFault (now (image .entry)) b ⌝ }
-{
-    if !layout_ok(image, b) {
-        return Fault::Layout(b);
-    }
-    let held = block_contents(image, b);
-    let kind = held.kind;
-    let r = first_bad_record(image, b) - held.from;
-    let block = b as u16;
-    let slot = r as u16;
-    record_fault(kind, block, slot)
 }
 
 // The block and the place there of a user's record.
@@ -83,16 +72,22 @@ fn group_fault(image: &[u8], table: &mut Table) -> Fault
     Fault::Sound
 }
 
-// The first fault of the blocks after the header.
+// The first fault of the blocks after the header: components stand first, then labels, then users.
 fn contents_fault(image: &[u8]) -> Fault
     requires { ⌜ Counted (now image) ⌝ }
     ensures { λ r. ⌜ r ≡ contentsFault (now (image .entry)) ⌝ }
 {
-    let b = first_bad_content(image);
-    if b < layout::blocks_needed(image) {
-        return content_fault(image, b);
+    let existing = existing_in(image);
+    let mut seen = fresh::EMPTY;
+    let components = kind_fault(image, existing, Kind::Component, &mut seen);
+    if !is_sound(components) {
+        return components;
     }
-    Fault::Sound
+    let labels = kind_fault(image, existing, Kind::Label, &mut seen);
+    if !is_sound(labels) {
+        return labels;
+    }
+    kind_fault(image, existing, Kind::User, &mut seen)
 }
 
 // The first fault once the header and the length are sound.
