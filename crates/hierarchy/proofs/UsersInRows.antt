@@ -1,8 +1,9 @@
 -- The users of an image in rows, thirty-two at once: the loop that fills the rows, and what the lowest bad user of each thirty-two tells.
 use Prim.Native.Nat.{ℕ, _+_, _-_, _≤_, _<_}
-use mathlib.Core.Path.{_≡_, refl, sym, ap, _∙_, subst}
+use mathlib.Core.Path.{_≡_, refl, sym, ap, ap₂, _∙_, subst}
 use mathlib.Core.Bool.{Bool, true, false, cond, true≢false}
 use mathlib.Core.List.{List}
+use native.Mathlib.Nat.{le-refl}
 use native.Mathlib.Omega.{arith}
 use borrow.Author.Count.{below-more}
 use borrow.Author.Tests.{lt-ltb, le-ltb, ltb-true, ltb-false}
@@ -10,9 +11,11 @@ use lib.Dec.{ltb}
 use lib.ListN.{length}
 use Rattle.fields.specs.Scan.{firstBad}
 use Rattle.fields.proofs.Scan.{good-before, bad-at, bad-is, all-good}
-use Rattle.sets.specs.Sets.{none, union, within, allBelow}
+use Rattle.fields.proofs.Both.{parts}
+use Rattle.sets.specs.Sets.{none, allBelow, union, intersection, within}
 use Rattle.sets.specs.Groups.{placesOf}
-use Rattle.sets.proofs.Within.{within-trans, within-none, within-union-left, within-union-right}
+use Rattle.sets.proofs.Within.{within-trans, within-none, within-union-left, within-union-right, intersection-within-left, intersection-within-right}
+use Rattle.sets.proofs.Bounds.{within-below}
 use Rattle.header.specs.declared.edition.Edition.{Edition}
 use Rattle.header.specs.declared.profile.Profile.the-variants.{Tree}
 use Rattle.header.specs.declared.layout.Kind.the-variants.{Component}
@@ -20,10 +23,11 @@ use Rattle.header.specs.Layout.{editionOf, profileOf, groups, users, countsOf, 
 use Rattle.records.specs.declared.users.GroupSets.{GroupSets}
 use Rattle.records.specs.Fields.{readGroups, writeGroups, defaultGroups, rowGroups}
 use Rattle.records.specs.Users.{GroupsAre}
-use Rattle.hierarchy.specs.Forest.{Forest, tableRoom, forestBy}
-use Rattle.hierarchy.specs.Below.{belowSets, releaseSets, groupSetsIn, forestOf, groupSetsRule, firstBadBelow, Parents}
+use Rattle.hierarchy.specs.Forest.{Forest, belowIn, tableRoom, forestBy}
+use Rattle.hierarchy.specs.Below.{belowSets, ofSets, groupSetsIn, forestOf, groupSetsRule, firstBadBelow, Parents}
 use Rattle.hierarchy.specs.SetRows.{setAt, UserPut, RowsFit, rowsRule}
-use Rattle.hierarchy.specs.UserRows.{userSet, SetsAre, Fits, Filled}
+use Rattle.hierarchy.specs.UserRows.{userSet, SetsAre, plainSets, plainRule, PlainUpto, Fits, Filled}
+use Rattle.hierarchy.proofs.Under.{below-self}
 use Rattle.hierarchy.proofs.Alike.{sets-alike}
 use Rattle.hierarchy.proofs.OfImage.{user-record, first-bad-users, in-tree, tabled-alike}
 
@@ -37,14 +41,18 @@ module _ (im : List ℕ) (u : ℕ) where
   unfolding userSet
   user-none field h = ap (λ (t : Bool). cond t (field (editionOf im) (userRecord im u)) none) (le-ltb u (users im) h)
 
-  pub sets-there : (sets : GroupSets) → u < users im → GroupsAre (editionOf im) (userRecord im u) sets → SetsAre im u sets
-  sets-there sets h are =
+  pub sets-there : (edition : Edition) (rec : List ℕ) (sets : GroupSets) → u < users im → edition ≡ editionOf im → rec ≡ userRecord im u
+      → GroupsAre edition rec sets → SetsAre im u sets
+  sets-there edition rec sets h e r are =
       record {
-        read = are .read ∙ sym (user-there readGroups h);
-        write = are .write ∙ sym (user-there writeGroups h);
-        default = are .default ∙ sym (user-there defaultGroups h);
-        row = are .row ∙ sym (user-there rowGroups h);
+        read = are .read ∙ field readGroups;
+        write = are .write ∙ field writeGroups;
+        default = are .default ∙ field defaultGroups;
+        row = are .row ∙ field rowGroups;
       }
+    where
+      field : (of : Edition → List ℕ → ℕ) → of edition rec ≡ userSet im of u
+      field of = ap₂ of e r ∙ sym (user-there of h)
 
   pub sets-none : (sets : GroupSets) → users im ≤ u → placesOf (sets .read) ≡ none → placesOf (sets .write) ≡ none → placesOf (sets .default) ≡ none
       → placesOf (sets .row) ≡ none → SetsAre im u sets
@@ -55,6 +63,45 @@ module _ (im : List ℕ) (u : ℕ) where
         default = default ∙ sym (user-none defaultGroups h);
         row = row ∙ sym (user-none rowGroups h);
       }
+
+-- ---- sets that lie within one another as they stand
+pub plain-below : (f : Forest) (read write default row : ℕ) → plainSets (allBelow (f .count)) read write default row ≡ true
+    → belowSets f read write default row ≡ true
+unfolding plainSets belowSets
+plain-below f read write default row e =
+    let all = allBelow (f .count) in
+    let two = parts _ _ e in
+    let one = parts _ _ (two .0) in
+    let write-in = within-trans write (union write default) read (within-union-left write default) (one .0) in
+    let default-in = within-trans default (union write default) read (within-union-right write default) (one .0) in
+    let row-in-default =
+    within-trans row (intersection default write) default (one .1) (intersection-within-left default write) in
+    let row-in-write =
+    within-trans row (intersection default write) write (one .1) (intersection-within-right default write) in
+    rw (
+      lies write read write-in (two .1),
+      lies default read default-in (two .1),
+      lies row default row-in-default (within-trans default read all default-in (two .1)),
+      lies row write row-in-write (within-trans write read all write-in (two .1)),
+    )
+  where
+    -- a part of t, which has groups only
+    lies : (s t : ℕ) → within s t ≡ true → within t (allBelow (f .count)) ≡ true → within s (belowIn f t) ≡ true
+    lies s t w inside = within-trans s t (belowIn f t) w (below-self f t (within-below t (f .count) inside))
+
+pub plain-none : (im : List ℕ) (from : ℕ) → PlainUpto im from from
+plain-none im from = record { after = le-refl from; plain = λ u low high. absurd (omega arith) }
+
+pub plain-next : (im : List ℕ) (from u all : ℕ) (sets : GroupSets) → PlainUpto im from u → SetsAre im u sets → all ≡ allBelow (groups im)
+    → ofSets (plainSets all) sets ≡ true → PlainUpto im from (u + 1)
+plain-next im from u all sets so are is e =
+    record {
+      after = let l = so .after in omega arith;
+      plain =
+          λ v low high.
+          below-more (λ (k : ℕ). from ≤ k → plainRule im k ≡ true) u (λ k h l. so .plain k l h)
+          (λ l. rw (← are .read, ← are .write, ← are .default, ← are .row, ← is) e) v high low;
+    }
 
 -- ---- filling the rows
 pub fill-none : (im : List ℕ) (from : ℕ) (first second : List ℕ) → length first ≡ tableRoom → length second ≡ tableRoom → Filled im from 0 first second
@@ -142,6 +189,36 @@ filled-fit im from count first second is so = (
         let is : 32 + (b - 32) ≡ b = omega arith in
         subst (Fits im rows) is (high (b - 32) (omega arith))
 
+-- ---- the rule of a user, by the sets
+module _ (im table : List ℕ) (count : ℕ) (is : count ≡ groups im) (tree : profileOf im ≡ Tree) (parents : Parents im table) where
+  in-image : (rec : List ℕ)
+      → belowSets (forestBy count table) (readGroups (editionOf im) rec) (writeGroups (editionOf im) rec) (defaultGroups (editionOf im) rec)
+      (rowGroups (editionOf im) rec)
+      ≡ groupSetsIn (countsOf im) (recordsOf im Component) rec
+  unfolding groupSetsIn
+  in-image rec =
+      sets-alike (forestOf im) (forestBy count table) (tabled-alike im table count is parents) _ _ _ _ ∙ in-tree (profileOf im) _ _ tree
+
+  by-user : (u : ℕ) → u < users im
+      → belowSets (forestBy count table) (userSet im readGroups u) (userSet im writeGroups u) (userSet im defaultGroups u) (userSet im rowGroups u)
+      ≡ groupSetsRule im u
+  by-user u l =
+      rw (user-there im u readGroups l, user-there im u writeGroups l, user-there im u defaultGroups l, user-there im u rowGroups l) (in-image (userRecord im u))
+      ∙ ap (groupSetsIn (countsOf im) (recordsOf im Component)) (sym (user-record im u l))
+
+  -- users whose sets lie within one another as they stand are good
+  pub good-upto : (m end : ℕ) → ((u : ℕ) → u < m → u < users im → groupSetsRule im u ≡ true) → PlainUpto im m end
+      → (u : ℕ) → u < end → u < users im → groupSetsRule im u ≡ true
+  good-upto m end good so u h l = at (ltb u m) refl
+    where
+      at : (t : Bool) → ltb u m ≡ t → groupSetsRule im u ≡ true
+      at true e = good u (ltb-true u m e) l
+      at false e =
+          sym (by-user u l)
+          ∙ plain-below (forestBy count table) (userSet im readGroups u) (userSet im writeGroups u) (userSet im defaultGroups u) (userSet im rowGroups u)
+          (ap (λ (n : ℕ). plainSets (allBelow n) (userSet im readGroups u) (userSet im writeGroups u) (userSet im defaultGroups u) (userSet im rowGroups u)) is
+          ∙ so .plain u (ltb-false u m e) h)
+
 -- ---- thirty-two users at once
 module _ (im table : List ℕ) (count : ℕ) (is : count ≡ groups im) (tree : profileOf im ≡ Tree) (parents : Parents im table) (from : ℕ)
     (first second : List ℕ) (so : Filled im from 32 first second) where
@@ -155,21 +232,8 @@ module _ (im table : List ℕ) (count : ℕ) (is : count ≡ groups im) (tree : 
       (userSet im rowGroups (from + i))
   by-sets i h = rw (so .read i h .0, so .write i h .0, so .default i h .0, so .row i h .0)
 
-  in-image : (rec : List ℕ)
-      → belowSets f (readGroups (editionOf im) rec) (writeGroups (editionOf im) rec) (defaultGroups (editionOf im) rec) (rowGroups (editionOf im) rec)
-      ≡ groupSetsIn (countsOf im) (recordsOf im Component) rec
-  unfolding groupSetsIn
-  in-image rec = sets-alike (forestOf im) f (tabled-alike im table count is parents) _ _ _ _ ∙ in-tree (profileOf im) _ _ tree
-
   user-rule : (i : ℕ) → i < 32 → from + i < users im → rowsRule f first second i ≡ groupSetsRule im (from + i)
-  user-rule i h l =
-      by-sets i h ∙ rw (
-        user-there im (from + i) readGroups l,
-        user-there im (from + i) writeGroups l,
-        user-there im (from + i) defaultGroups l,
-        user-there im (from + i) rowGroups l,
-      ) (in-image (userRecord im (from + i)))
-      ∙ ap (groupSetsIn (countsOf im) (recordsOf im Component)) (sym (user-record im (from + i) l))
+  user-rule i h l = by-sets i h ∙ by-user im table count is tree parents (from + i) l
 
   no-user : (i : ℕ) → i < 32 → users im ≤ from + i → rowsRule f first second i ≡ true
   unfolding belowSets

@@ -1,11 +1,11 @@
 -- The sets of thirty-two users of an image in rows, from the user at place `from` on. Where there is no user, there are empty sets.
-use Prim.Native.Nat.{ℕ, _+_, _<_}
+use Prim.Native.Nat.{ℕ, _+_, _≤_, _<_}
 use mathlib.Core.Path.{_≡_}
-use mathlib.Core.Bool.{true, cond}
+use mathlib.Core.Bool.{Bool, true, cond, _&&_}
 use mathlib.Core.List.{List}
 use lib.Dec.{ltb}
 use lib.ListN.{length}
-use Rattle.sets.specs.Sets.{none, within, allBelow}
+use Rattle.sets.specs.Sets.{none, allBelow, union, intersection, within}
 use Rattle.sets.specs.Groups.{placesOf}
 use Rattle.header.specs.declared.edition.Edition.{Edition}
 use Rattle.header.specs.Layout.{editionOf, groups, users, userRecord}
@@ -25,6 +25,21 @@ pub record SetsAre (im : List ℕ) (u : ℕ) (sets : GroupSets) : Type 0 where
   pub default : placesOf (sets .default) ≡ userSet im defaultGroups u
   pub row : placesOf (sets .row) ≡ userSet im rowGroups u
 
+-- ---- sets that lie within one another as they stand, and have groups of `all` only
+unfoldable pub plainSets : (all read write default row : ℕ) → Bool
+plainSets all read write default row = within (union write default) read && within row (intersection default write) && within read all
+
+-- those of the user at place u do
+abbrev pub plainRule : List ℕ → ℕ → Bool
+plainRule im u =
+    plainSets (allBelow (groups im)) (userSet im readGroups u) (userSet im writeGroups u) (userSet im defaultGroups u) (userSet im rowGroups u)
+
+-- those of the users from `from` up to `end` do
+pub record PlainUpto (im : List ℕ) (from end : ℕ) : Type 0 where
+  pub after : from ≤ end
+  pub plain : (u : ℕ) → from ≤ u → u < end → plainRule im u ≡ true
+
+-- ---- in rows
 -- the set at place b has groups of the image only
 abbrev pub Fits : List ℕ → List ℕ → ℕ → Type 0
 Fits im rows b = within (setAt rows b) (allBelow (groups im)) ≡ true

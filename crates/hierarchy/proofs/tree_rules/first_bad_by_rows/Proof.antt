@@ -1,4 +1,4 @@
-use Prim.Native.Nat.{ℕ, _-_, _≤_, _<_}
+use Prim.Native.Nat.{ℕ, _+_, _-_, _<_}
 use mathlib.Core.Path.{_≡_, ap, _∙_}
 use mathlib.Core.Bool.{true}
 use native.Mathlib.Omega.{arith}
@@ -12,7 +12,7 @@ use Rattle.hierarchy.specs.Forest.{tableRoom}
 use Rattle.hierarchy.specs.Below.{groupSetsRule}
 use Rattle.hierarchy.proofs.Room.{groups-fit}
 use Rattle.hierarchy.proofs.OfImage.{tabled-ordered}
-use Rattle.hierarchy.proofs.UsersInRows.{filled-fit, rows-good, rows-bad, rows-end}
+use Rattle.hierarchy.proofs.UsersInRows.{good-upto, filled-fit, rows-good, rows-bad, rows-end}
 use Rattle.hierarchy.proofs.tree_rules.first_bad_by_rows.Statement.{statement}
 use Rattle.hierarchy.proofs.tree_rules.first_bad_by_rows.Tie as tie
 
@@ -34,24 +34,37 @@ all-below-requires c κs =
 users-requires : tie.Need-users-requires Inv-loop μ-loop
 users-requires c κs = header-inside _ (c .before .before .before .before .before .pre .0 .0 .fitted)
 
+first-not-plain-requires : tie.Need-first-not-plain-requires Inv-loop μ-loop
+first-not-plain-requires c κs =
+    let every = c .before in
+    let start = every .before .before .before .before .before in
+    (start .pre .0 .0, (omega arith, every .all-below .ensures ∙ ap allBelow (every .before .groups .ensures .0)))
+
 loop-holds : tie.Need-loop-holds Inv-loop μ-loop
 loop-holds c =
-    let start = c .before .before .before .before .before .before in
-    (start .pre .1 .0, (start .pre .1 .1, λ u h l. absurd (omega arith)))
+    let counted = c .before .before .before in
+    let start = counted .before .before .before .before in (
+      start .pre .1 .0,
+      (
+        start .pre .1 .1,
+        good-upto _ (start .args .table .now) _ (counted .groups .ensures .0) (start .pre .0 .1 .1) (start .pre .0 .1 .0 .0) 0 _
+            (λ u h l. absurd (omega arith)) (c .first-not-plain .ensures),
+      ),
+    )
 
 fill-rows-requires : tie.Need-fill-rows-requires Inv-loop μ-loop
 fill-rows-requires c κs =
     let turn = c .before .before in
-    let every = turn .before .before .before in
+    let every = turn .before .before .before .before in
     let start = every .before .before .before .before .before in
     let loop = turn .before .loop in
-    let small : loop .from < 65536 = omega (arith, turn .before .before .users .ensures .1) in
+    let small : loop .from < 65536 = omega (arith, turn .before .before .before .users .ensures .1) in
     ((start .pre .0 .0, (small, every .all-below .ensures ∙ ap allBelow (every .before .groups .ensures .0))), (loop .inv .0, loop .inv .1 .0))
 
 first-bad-singly-requires : tie.Need-first-bad-singly-requires Inv-loop μ-loop
 first-bad-singly-requires c κs =
     let turn = c .before .before .before .before .before .before .before .before in
-    let start = turn .before .before .before .before .before .before .before .before in
+    let start = turn .before .before .before .before .before .before .before .before .before in
     (start .pre .0 .0, start .pre .0 .1 .0)
 
 same-length : tie.Need-same-length Inv-loop μ-loop
@@ -67,7 +80,7 @@ lowest-bad-user-requires : tie.Need-lowest-bad-user-requires Inv-loop μ-loop
 lowest-bad-user-requires c κs =
     let other = c .before .before in
     let filled = other .before .before .before .before .before in
-    let counted = filled .before .before .before .before .before .before .before in
+    let counted = filled .before .before .before .before .before .before .before .before in
     let start = counted .before .before .before .before in
     let so = filled .fill-rows .ensures (not-false _ (other .if1 .left)) in
     let is = counted .groups .ensures .0 in (
@@ -79,7 +92,7 @@ add-result : tie.Need-add-result Inv-loop μ-loop
 add-result c =
     let ran = c .before .before .before .before .before in
     let turn = ran .before .before .before .before .before .before .before .before .before .before .before in
-    omega (arith, turn .before .before .users .ensures .1)
+    omega (arith, turn .before .before .before .users .ensures .1)
 
 same-length-3 : tie.Need-same-length-3 Inv-loop μ-loop
 same-length-3 c = search needs
@@ -93,44 +106,56 @@ returns-2 c =
     let other = ran .before .before .before in
     let filled = other .before .before .before .before .before in
     let turn = filled .before .before .before in
-    let counted = turn .before .before .before .before in
+    let counted = turn .before .before .before .before .before in
     let start = counted .before .before .before .before in
     let loop = turn .before .loop in
     let so = filled .fill-rows .ensures (not-false _ (other .if1 .left)) in
     rows-bad _ (start .args .table .now) _ (counted .groups .ensures .0) (start .pre .0 .1 .1) (start .pre .0 .1 .0 .0) _ _ _ so (loop .inv .1 .1) _ (ran .lowest-bad-user .ensures)
     (c .if2 .taken)
 
-add-from : tie.Need-add-from Inv-loop μ-loop
-add-from c =
+add-first-not-plain : tie.Need-add-first-not-plain Inv-loop μ-loop
+add-first-not-plain c =
     let ran = c .before .before .before .before .before in
     let turn = ran .before .before .before .before .before .before .before .before .before .before .before in
-    omega (arith, turn .before .before .users .ensures .1)
+    omega (arith, turn .before .before .before .users .ensures .1)
+
+first-not-plain-requires-2 : tie.Need-first-not-plain-requires-2 Inv-loop μ-loop
+first-not-plain-requires-2 c κs =
+    let ran = c .before .before .before .before .before in
+    let turn = ran .before .before .before .before .before .before .before .before .before .before .before in
+    let asked = turn .before .before .before in
+    let every = asked .before in
+    let start = every .before .before .before .before .before in
+    let small : turn .before .loop .from + 32 < 131072 = omega (arith, asked .users .ensures .1) in
+    (start .pre .0 .0, (small, every .all-below .ensures ∙ ap allBelow (every .before .groups .ensures .0)))
 
 loop-less : tie.Need-loop-less Inv-loop μ-loop
 loop-less c =
-    let ran = c .before .before .before .before .before in
+    let ran = c .before .before .before .before .before .before in
     let turn = ran .before .before .before .before .before .before .before .before .before .before .before in
-    let start = turn .before .before .before .before .before .before .before .before in
-    let h : turn .before .loop .from < users (start .args .image .now) = omega (arith, turn .before .before .users .ensures .0) in
-    omega arith
+    let asked = turn .before .before .before in
+    let start = asked .before .before .before .before .before .before in
+    let h : turn .before .loop .from < users (start .args .image .now) = omega (arith, asked .users .ensures .0) in
+    omega (arith, c .first-not-plain2 .ensures .after)
 
 loop-again : tie.Need-loop-again Inv-loop μ-loop
 loop-again c =
-    let ran = c .before .before .before .before .before in
+    let ran = c .before .before .before .before .before .before in
     let other = ran .before .before .before in
     let filled = other .before .before .before .before .before in
     let turn = filled .before .before .before in
-    let counted = turn .before .before .before .before in
+    let counted = turn .before .before .before .before .before in
     let start = counted .before .before .before .before in
     let loop = turn .before .loop in
     let so = filled .fill-rows .ensures (not-false _ (other .if1 .left)) in
-    let known = c .before .before in (
+    let table = start .args .table .now in
+    let is = counted .groups .ensures .0 in
+    let tree = start .pre .0 .1 .1 in
+    let parents = start .pre .0 .1 .0 .0 in
+    let good = rows-good _ table _ is tree parents _ _ _ so (loop .inv .1 .1) _ (ran .lowest-bad-user .ensures) (c .before .if2 .left) in
+    let known = c .before .before .before in (
       known .before .before .first2 .given ∙ so .sizeFirst,
-      (
-        known .second2 .given ∙ so .sizeSecond,
-        rows-good _ (start .args .table .now) _ (counted .groups .ensures .0) (start .pre .0 .1 .1) (start .pre .0 .1 .0 .0) _ _ _ so (loop .inv .1 .1) _ (ran .lowest-bad-user .ensures)
-            (c .if2 .left),
-      ),
+      (known .second2 .given ∙ so .sizeSecond, good-upto _ table _ is tree parents _ _ good (c .first-not-plain2 .ensures)),
     )
 
 same-length-5 : tie.Need-same-length-5 Inv-loop μ-loop
@@ -141,7 +166,7 @@ same-length-6 c = search needs
 
 returns-3 : tie.Need-returns-3 Inv-loop μ-loop
 returns-3 c =
-    let asked = c .before .before in
+    let asked = c .before .before .before in
     rows-end _ _ _ (asked .users .ensures .0) (c .loop-test .left) (c .before .loop .inv .1 .1)
 
 pub first-bad-by-rows-spec : {M : Type 1} → statement M
@@ -153,6 +178,7 @@ first-bad-by-rows-spec =
     groups-requires
     all-below-requires
     users-requires
+    first-not-plain-requires
     loop-holds
     fill-rows-requires
     first-bad-singly-requires
@@ -164,7 +190,8 @@ first-bad-by-rows-spec =
     same-length-3
     same-length-4
     returns-2
-    add-from
+    add-first-not-plain
+    first-not-plain-requires-2
     loop-less
     loop-again
     same-length-5
