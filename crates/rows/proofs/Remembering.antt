@@ -37,18 +37,22 @@ module _ (im bits : List ℕ) (unknown : Bool) where
 
   -- ---- slots
   -- one more right entry
-  pub remembered-set : (slots : List ℕ) → Remembered im bits unknown slots → (slot entry : ℕ) → slot < 3120 → Told im bits unknown entry
+  pub remembered-set : (slots : List ℕ) → Remembered im bits unknown slots → (slot entry : ℕ) → slot < length slots → Told im bits unknown entry
       → Remembered im bits unknown (set slots slot entry)
   remembered-set slots r slot entry inside told =
-      record { long = length-set slots slot entry ∙ r .long; told = λ k h. at k h (eqb slot k) refl }
+      record { told = λ k h. at k (rw (length-set slots slot entry) at h) (eqb slot k) refl }
     where
-      at : (k : ℕ) → k < 3120 → (t : Bool) → eqb slot k ≡ t → Told im bits unknown (getD (set slots slot entry) k 0)
+      at : (k : ℕ) → k < length slots → (t : Bool) → eqb slot k ≡ t → Told im bits unknown (getD (set slots slot entry) k 0)
       at k h true e =
           let here : getD (set slots slot entry) k 0 ≡ entry =
           ap (λ (i : ℕ). getD (set slots slot entry) i 0) (sym (eqb-true slot k e))
-          ∙ getD-set-same slots slot entry 0 (omega (arith, r .long)) in
+          ∙ getD-set-same slots slot entry 0 inside in
           rw here told
       at k h false e = rw (getD-set-other slots slot k entry 0 (λ q. eqb-false slot k e (sym q))) (r .told k h)
+
+  -- no slots at all
+  pub remembered-none : (slots : List ℕ) → length slots ≡ 0 → Remembered im bits unknown slots
+  remembered-none slots none = record { told = λ k h. absurd (omega (arith, none)) }
 
   module _ (acc : IsAccepted im) where
     -- a tag that no label carries has the answer for unknown tags; 0 is one
@@ -57,11 +61,14 @@ module _ (im bits : List ℕ) (unknown : Bool) where
     zero-told = rw (le-ltb _ _ (tag-outside im acc 0 (λ h. absurd (omega arith))))
 
     -- so free slots are right
-    pub remembered-free : Remembered im bits unknown (replicate 3120 (boolByte unknown))
-    remembered-free =
+    pub remembered-free : (n : ℕ) → Remembered im bits unknown (replicate n (boolByte unknown))
+    remembered-free n =
         record {
-          long = length-replicate 3120 (boolByte unknown);
-          told = λ k h. rw (getD-replicate 3120 k (boolByte unknown) 0 h) (told-made (boolByte unknown) 0 unknown (free unknown) (sym zero-told));
+          told =
+              λ k h.
+              rw
+              (getD-replicate n k (boolByte unknown) 0 (rw (length-replicate n (boolByte unknown)) at h))
+              (told-made (boolByte unknown) 0 unknown (free unknown) (sym zero-told));
         }
 
     -- the answer on the tag of a label record is its bit

@@ -13,7 +13,6 @@ ghost use Rattle.rows.specs.Slots.{Remembered};
 use crate::answers::RowsRead;
 use crate::remembered::fill_for;
 use crate::remembered::is_mapped;
-use crate::slots::Slots;
 use buffers::given::put;
 use refusals::Refusal;
 
@@ -22,7 +21,7 @@ fn mapped_length(
     image: &[u8],
     bits: &[u8],
     unknown: bool,
-    slots: &mut Slots,
+    slots: &mut [u32],
     run: &[u8],
     width: usize,
 ) -> usize
@@ -47,7 +46,7 @@ fn mapped_fits(
     image: &[u8],
     bits: &[u8],
     unknown: bool,
-    slots: &mut Slots,
+    slots: &mut [u32],
     run: &[u8],
     width: usize,
     room: usize,
@@ -67,7 +66,7 @@ fn copy_mapped(
     image: &[u8],
     bits: &[u8],
     unknown: bool,
-    slots: &mut Slots,
+    slots: &mut [u32],
     run: &[u8],
     width: usize,
     buffer: &mut [u8],
@@ -91,6 +90,27 @@ fn copy_mapped(
 }
 
 // 13 where they are longer than the buffer: then no byte is written.
+fn read_remembering(
+    image: &[u8],
+    bits: &[u8],
+    unknown: bool,
+    slots: &mut [u32],
+    run: &[u8],
+    width: usize,
+    buffer: &mut [u8],
+) -> RowsRead
+    requires { ⌜ MappedRun (now image) (now bits) (now run) width ⌝ }
+    requires { ⌜ Remembered (now image) (now bits) unknown (now slots) ⌝ }
+    ensures { λ r. ⌜ (r, now (buffer .exit)) ≡ handedOut (kept (rowMapped (now (image .entry)) (now (bits .entry)) unknown) (runRows (now (run .entry)) width)) (now (buffer .entry)) ⌝ }
+{
+    if !mapped_fits(image, bits, unknown, slots, run, width, buffer.len()) {
+        return RowsRead::Refused(Refusal::Room);
+    }
+    let end = copy_mapped(image, bits, unknown, slots, run, width, buffer);
+    RowsRead::Done(end / width)
+}
+
+// The same with nothing remembered before. Over few rows no slots are lent, and each row is asked: clearing the slots would cost more than they save.
 pub fn read_by_map(
     image: &[u8],
     bits: &[u8],
@@ -102,13 +122,14 @@ pub fn read_by_map(
     requires { ⌜ MappedRun (now image) (now bits) (now run) width ⌝ }
     ensures { λ r. ⌜ (r, now (buffer .exit)) ≡ handedOut (kept (rowMapped (now (image .entry)) (now (bits .entry)) unknown) (runRows (now (run .entry)) width)) (now (buffer .entry)) ⌝ }
 {
-    let mut slots = [unknown as u32; 3120];
-    fill_for(image, bits, unknown, &mut slots, run.len() / width);
-    if !mapped_fits(image, bits, unknown, &mut slots, run, width, buffer.len()) {
-        return RowsRead::Refused(Refusal::Room);
+    let rows = run.len() / width;
+    if rows < 64 {
+        let mut none = [0u32; 1];
+        return read_remembering(image, bits, unknown, &mut none[0..0], run, width, buffer);
     }
-    let end = copy_mapped(image, bits, unknown, &mut slots, run, width, buffer);
-    RowsRead::Done(end / width)
+    let mut slots = [unknown as u32; 3120];
+    fill_for(image, bits, unknown, &mut slots, rows);
+    read_remembering(image, bits, unknown, &mut slots, run, width, buffer)
 }
 
 // The offset of the n-th row that is handed out; the run's length where there is none.
@@ -116,7 +137,7 @@ fn nth_mapped(
     image: &[u8],
     bits: &[u8],
     unknown: bool,
-    slots: &mut Slots,
+    slots: &mut [u32],
     run: &[u8],
     width: usize,
     n: usize,

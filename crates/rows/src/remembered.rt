@@ -6,7 +6,6 @@ ghost use lib.ListN.{length};
 ghost use Rattle.rows.specs.Mapped.{tagMapped, rowMapped};
 ghost use Rattle.rows.specs.Scan.{Mapping};
 ghost use Rattle.rows.specs.Slots.{Remembered};
-use crate::slots::Slots;
 use crate::slots::entry_of;
 use crate::slots::seek;
 use fields::numbers::number4;
@@ -29,8 +28,8 @@ fn tag_mapped(image: &[u8], bits: &[u8], unknown: bool, tag: u32) -> bool
 }
 
 // Asks the image, and remembers the answer in that slot.
-fn ask(image: &[u8], bits: &[u8], unknown: bool, slots: &mut Slots, slot: usize, tag: u32) -> bool
-    requires { ⌜ Mapping (now image) (now bits) × (slot < 3120) ⌝ }
+fn ask(image: &[u8], bits: &[u8], unknown: bool, slots: &mut [u32], slot: usize, tag: u32) -> bool
+    requires { ⌜ Mapping (now image) (now bits) × (slot < length (now slots)) ⌝ }
     requires { ⌜ Remembered (now image) (now bits) unknown (now slots) ⌝ }
     ensures { λ r. ⌜ (r ≡ tagMapped (now (image .entry)) (now (bits .entry)) unknown tag) × Remembered (now (image .entry)) (now (bits .entry)) unknown (now (slots .exit)) ⌝ }
 {
@@ -41,13 +40,16 @@ fn ask(image: &[u8], bits: &[u8], unknown: bool, slots: &mut Slots, slot: usize,
     answer
 }
 
-// Is the row handed out? Its tag decides: the answer is remembered, or asked.
-pub fn is_mapped(image: &[u8], bits: &[u8], unknown: bool, slots: &mut Slots, row: &[u8]) -> bool
+// Is the row handed out? Its tag decides: the answer is remembered, or asked. Where no slots are lent, it is asked.
+pub fn is_mapped(image: &[u8], bits: &[u8], unknown: bool, slots: &mut [u32], row: &[u8]) -> bool
     requires { ⌜ Mapping (now image) (now bits) × (4 ≤ length (now row)) ⌝ }
     requires { ⌜ Remembered (now image) (now bits) unknown (now slots) ⌝ }
     ensures { λ r. ⌜ (r ≡ rowMapped (now (image .entry)) (now (bits .entry)) unknown (now (row .entry))) × Remembered (now (image .entry)) (now (bits .entry)) unknown (now (slots .exit)) ⌝ }
 {
     let tag = number4(row, 0);
+    if slots.len() < 3120 {
+        return tag_mapped(image, bits, unknown, tag);
+    }
     let slot = seek(slots, tag);
     let entry = slots[slot];
     if entry / 2 == tag {
@@ -57,8 +59,8 @@ pub fn is_mapped(image: &[u8], bits: &[u8], unknown: bool, slots: &mut Slots, ro
 }
 
 // Remembers the answers on the tags of all label records. The walk goes from record to record, so that nothing is divided here.
-fn fill(image: &[u8], bits: &[u8], unknown: bool, slots: &mut Slots)
-    requires { ⌜ Mapping (now image) (now bits) ⌝ }
+fn fill(image: &[u8], bits: &[u8], unknown: bool, slots: &mut [u32])
+    requires { ⌜ Mapping (now image) (now bits) × (3120 ≤ length (now slots)) ⌝ }
     requires { ⌜ Remembered (now image) (now bits) unknown (now slots) ⌝ }
     ensures { λ r. ⌜ Remembered (now (image .entry)) (now (bits .entry)) unknown (now (slots .exit)) ⌝ }
 {
@@ -80,8 +82,8 @@ fn fill(image: &[u8], bits: &[u8], unknown: bool, slots: &mut Slots)
 
 // The same where so many rows will be looked at that it pays: a label costs about as much as a row that is remembered, and a row that is asked six
 // times as much.
-pub fn fill_for(image: &[u8], bits: &[u8], unknown: bool, slots: &mut Slots, rows: usize)
-    requires { ⌜ Mapping (now image) (now bits) ⌝ }
+pub fn fill_for(image: &[u8], bits: &[u8], unknown: bool, slots: &mut [u32], rows: usize)
+    requires { ⌜ Mapping (now image) (now bits) × (3120 ≤ length (now slots)) ⌝ }
     requires { ⌜ Remembered (now image) (now bits) unknown (now slots) ⌝ }
     ensures { λ r. ⌜ Remembered (now (image .entry)) (now (bits .entry)) unknown (now (slots .exit)) ⌝ }
 {

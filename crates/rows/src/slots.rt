@@ -1,12 +1,12 @@
 // Answers by tag that a call remembers while it goes over a table. Each entry that stands here is right, and nothing more is claimed: a tag that is
 // not found is asked of the image. So which tags are kept, and where, is a matter of speed alone.
-ghost use Prim.Native.Nat.{_/_, _%_, _<_};
+//
+// An entry is twice a tag, and 1 more where rows of the tag are handed out. One below 2 is free: it tells of tag 0, which no label carries. There are
+// 3,120 slots, or none where nothing is remembered.
+ghost use Prim.Native.Nat.{_/_, _%_, _<_, _≤_};
 ghost use mathlib.Core.Path.{_≡_};
 ghost use lib.Dec.{eqb};
 ghost use lib.ListN.{length};
-
-// An entry is twice a tag, and 1 more where rows of the tag are handed out. One below 2 is free: it tells of tag 0, which no label carries.
-pub type Slots = [u32; 3120];
 
 // The tag's own slot. Those from 3,072 on are nobody's own: with them a search for a tag needs no turn back to the first slot.
 fn slot_of(tag: u32) -> usize
@@ -16,7 +16,8 @@ fn slot_of(tag: u32) -> usize
 }
 
 // From the tag's own slot on the first that holds the tag or is free; its own where 24 hold others.
-pub fn seek(slots: &Slots, tag: u32) -> usize
+pub fn seek(slots: &[u32], tag: u32) -> usize
+    requires { ⌜ 3120 ≤ length (now slots) ⌝ }
     ensures { λ r. ⌜ r < 3120 ⌝ }
 {
     let own = slot_of(tag);

@@ -1,5 +1,5 @@
 use Prim.Native.Nat.{_+_, _-_}
-use mathlib.Core.Path.{refl, sym, _∙_}
+use mathlib.Core.Path.{_≡_, refl, sym, _∙_}
 use native.Mathlib.Nat.{zero-add}
 use native.Mathlib.Omega.{arith}
 use lib.ListN.{length, take, drop}
@@ -16,19 +16,19 @@ abbrev Inv-loop : tie.InvT-loop
 Inv-loop image bits unknown slots₀ run width buffer₀ to₀ at₀ slots buffer to at =
     let test = rowMapped image bits unknown in
     (Rest run width at × Left buffer₀ 0 (keptBytes test run width) buffer to (keptBytes test (drop at run) width))
-    × Remembered image bits unknown slots
+    × (Remembered image bits unknown slots × (length slots ≡ length slots₀))
 
 abbrev μ-loop : tie.MeasureT-loop
 μ-loop image bits unknown slots₀ run width buffer₀ to₀ at₀ slots buffer to at = length run - at
 
 loop-holds : tie.Need-loop-holds Inv-loop μ-loop
 loop-holds c =
-    let pre = c .before .before .before .before .pre in
-    ((rest-start _ _ (pre .0 .whole), left-start _ _ _ _ refl), pre .1 .1)
+    let pre = c .before .before .before .before .before .pre in
+    ((rest-start _ _ (pre .0 .whole), left-start _ _ _ _ refl), (pre .1 .1, refl))
 
 add-end : tie.Need-add-end Inv-loop μ-loop
 add-end c =
-    let start = c .before .before .before .before .before .before in
+    let start = c .before .before .before .before .before .before .before in
     let room = rest-room _ _ (start .pre .0 .whole) _ (c .before .loop .inv .0 .0) (c .loop-test .taken) in
     omega arith
 
@@ -40,22 +40,22 @@ part-row-start c = omega arith
 
 part-row-end : tie.Need-part-row-end Inv-loop μ-loop
 part-row-end c =
-    let start = c .before .before .before .before .before .before in
+    let start = c .before .before .before .before .before .before .before in
     let room = rest-room _ _ (start .pre .0 .whole) _ (c .before .loop .inv .0 .0) (c .loop-test .taken) in
     omega arith
 
 is-mapped-requires : tie.Need-is-mapped-requires Inv-loop μ-loop
 is-mapped-requires c κs =
     let turn = c .before .before in
-    let pre = turn .before .before .before .before .before .before .pre in
+    let pre = turn .before .before .before .before .before .before .before .pre in
     let inv = turn .before .loop .inv in
-    ((pre .0 .mapping, row-tagged _ _ (pre .0 .whole) _ (inv .0 .0) (turn .loop-test .taken)), inv .1)
+    ((pre .0 .mapping, row-tagged _ _ (pre .0 .whole) _ (inv .0 .0) (turn .loop-test .taken)), inv .1 .0)
 
 put-requires : tie.Need-put-requires Inv-loop μ-loop
 put-requires c κs =
-    let asked = c .before .before in
+    let asked = c .before .before .before .before in
     let turn = asked .before .before .before in
-    let start = turn .before .before .before .before .before .before in
+    let start = turn .before .before .before .before .before .before .before in
     let a = start .args in
     let at = turn .before .loop .at in
     let test = rowMapped (a .image .now) (a .bits .now) (a .unknown) in
@@ -67,18 +67,18 @@ put-requires c κs =
 
 loop-less : tie.Need-loop-less Inv-loop μ-loop
 loop-less c =
-    let asked = c .before .before .before .before .before in
+    let asked = c .before .before .before .before .before .before .before in
     let turn = asked .before .before .before in
-    let low = turn .before .before .before .before .before .before .pre .0 .whole .wide in
+    let low = turn .before .before .before .before .before .before .before .pre .0 .whole .wide in
     omega (arith, turn .loop-test .taken)
 
 loop-again : tie.Need-loop-again Inv-loop μ-loop
 loop-again c =
     let put = c .before .before in
     let passed = put .before .before in
-    let asked = passed .before in
+    let asked = passed .before .before .before in
     let turn = asked .before .before .before in
-    let start = turn .before .before .before .before .before .before in
+    let start = turn .before .before .before .before .before .before .before in
     let a = start .args in
     let at = turn .before .loop .at in
     let test = rowMapped (a .image .now) (a .bits .now) (a .unknown) in
@@ -91,20 +91,20 @@ loop-again c =
         rest-next _ _ whole _ (inv .0) (turn .loop-test .taken),
         left-turn _ _ _ _ _ _ (inv .1) (rowBytes test row) _ step _ _ (rw zero-add (start .pre .1 .0)) (rw all (put .put .ensures)),
       ),
-      asked .is-mapped .ensures .1,
+      (asked .is-mapped .ensures .1, asked .is-mapped .kept .1 .1 .1 .0 ∙ turn .before .loop .inv .1 .1),
     )
 
 loop-less-2 : tie.Need-loop-less-2 Inv-loop μ-loop
 loop-less-2 c =
-    let turn = c .before .before .before .before in
-    let low = turn .before .before .before .before .before .before .pre .0 .whole .wide in
+    let turn = c .before .before .before .before .before .before in
+    let low = turn .before .before .before .before .before .before .before .pre .0 .whole .wide in
     omega (arith, turn .loop-test .taken)
 
 loop-again-2 : tie.Need-loop-again-2 Inv-loop μ-loop
 loop-again-2 c =
-    let asked = c .before in
+    let asked = c .before .before .before in
     let turn = asked .before .before .before in
-    let start = turn .before .before .before .before .before .before in
+    let start = turn .before .before .before .before .before .before .before in
     let a = start .args in
     let at = turn .before .loop .at in
     let test = rowMapped (a .image .now) (a .bits .now) (a .unknown) in
@@ -117,15 +117,18 @@ loop-again-2 c =
         rest-next _ _ whole _ (inv .0) (turn .loop-test .taken),
         left-turn _ _ _ _ _ _ (inv .1) (rowBytes test row) _ step _ _ (rw zero-add (start .pre .1 .0)) (written-none _ _ _ none),
       ),
-      asked .is-mapped .ensures .1,
+      (asked .is-mapped .ensures .1, asked .is-mapped .kept .1 .1 .1 .0 ∙ turn .before .loop .inv .1 .1),
     )
 
 same-length : tie.Need-same-length Inv-loop μ-loop
-same-length c = c .before .loop .inv .0 .1 .long
+same-length c = c .before .loop .inv .1 .1
+
+same-length-2 : tie.Need-same-length-2 Inv-loop μ-loop
+same-length-2 c = c .before .loop .inv .0 .1 .long
 
 returns : tie.Need-returns Inv-loop μ-loop
 returns c =
-    let start = c .before .before .before .before .before .before in
+    let start = c .before .before .before .before .before .before .before in
     left-end _ _ _ _ _ _ (c .before .loop .inv .0 .1) (left-none _ _ _ (start .pre .0 .whole) _ (c .loop-test .left))
 
 pub copy-mapped-spec : {M : Type 1} → statement M
@@ -146,4 +149,5 @@ copy-mapped-spec =
     loop-less-2
     loop-again-2
     same-length
+    same-length-2
     returns)

@@ -1,5 +1,5 @@
 use Prim.Native.Nat.{_+_, _-_}
-use mathlib.Core.Path.{_≡_, sym, _∙_}
+use mathlib.Core.Path.{_≡_, refl, sym, _∙_}
 use mathlib.Core.Bool.{false, cond, _&&_}
 use native.Mathlib.Nat.{zero-add}
 use native.Mathlib.Omega.{arith}
@@ -16,19 +16,19 @@ use Rattle.rows.proofs.mapped.nth_mapped.Tie as tie
 
 abbrev Inv-loop : tie.InvT-loop
 Inv-loop image bits unknown slots₀ run width n left₀ at₀ slots left at =
-    Seek (rowMapped image bits unknown) run width n at left × Remembered image bits unknown slots
+    Seek (rowMapped image bits unknown) run width n at left × (Remembered image bits unknown slots × (length slots ≡ length slots₀))
 
 abbrev μ-loop : tie.MeasureT-loop
 μ-loop image bits unknown slots₀ run width n left₀ at₀ slots left at = length run - at
 
 loop-holds : tie.Need-loop-holds Inv-loop μ-loop
 loop-holds c =
-    let pre = c .before .before .before .pre in
-    (record { rest = rest-start _ _ (pre .0 .whole); sum = zero-add _ }, pre .1)
+    let pre = c .before .before .before .before .pre in
+    (record { rest = rest-start _ _ (pre .0 .whole); sum = zero-add _ }, (pre .1, refl))
 
 add-end : tie.Need-add-end Inv-loop μ-loop
 add-end c =
-    let start = c .before .before .before .before .before in
+    let start = c .before .before .before .before .before .before in
     let room = rest-room _ _ (start .pre .0 .whole) _ (c .before .loop .inv .0 .rest) (c .loop-test .taken) in
     omega arith
 
@@ -41,22 +41,28 @@ part-is-mapped-start c = omega arith
 part-is-mapped-end : tie.Need-part-is-mapped-end Inv-loop μ-loop
 part-is-mapped-end c =
     let turn = c .before in
-    let start = turn .before .before .before .before .before in
+    let start = turn .before .before .before .before .before .before in
     let room = rest-room _ _ (start .pre .0 .whole) _ (turn .before .loop .inv .0 .rest) (turn .loop-test .taken) in
     omega arith
 
 is-mapped-requires : tie.Need-is-mapped-requires Inv-loop μ-loop
 is-mapped-requires c κs =
     let turn = c .before .before in
-    let pre = turn .before .before .before .before .before .pre in
+    let pre = turn .before .before .before .before .before .before .pre in
     let inv = turn .before .loop .inv in
-    ((pre .0 .mapping, row-tagged _ _ (pre .0 .whole) _ (inv .0 .rest) (turn .loop-test .taken)), inv .1)
+    ((pre .0 .mapping, row-tagged _ _ (pre .0 .whole) _ (inv .0 .rest) (turn .loop-test .taken)), inv .1 .0)
+
+same-length : tie.Need-same-length Inv-loop μ-loop
+same-length c =
+    let asked = c .before .before .before .before in
+    let turn = asked .before .before .before in
+    asked .is-mapped .kept .1 .1 .1 .0 ∙ turn .before .loop .inv .1 .1
 
 returns : tie.Need-returns Inv-loop μ-loop
 returns c =
-    let asked = c .before .before in
+    let asked = c .before .before .before .before in
     let turn = asked .before .before .before in
-    let start = turn .before .before .before .before .before in
+    let start = turn .before .before .before .before .before .before in
     let passed = sym (asked .is-mapped .ensures .0) ∙ c .before .if1 .taken in
     seek-found _ _ _ (start .pre .0 .whole) _ _ _ (turn .before .loop .inv .0) (turn .loop-test .taken) (both _ _ passed (eq-eqb _ _ (c .if2 .taken)))
 
@@ -65,15 +71,15 @@ sub-left c = omega (arith, c .if2 .left)
 
 loop-less : tie.Need-loop-less Inv-loop μ-loop
 loop-less c =
-    let turn = c .before .before .before .before .before in
-    let low = turn .before .before .before .before .before .pre .0 .whole .wide in
+    let turn = c .before .before .before .before .before .before .before in
+    let low = turn .before .before .before .before .before .before .pre .0 .whole .wide in
     omega (arith, turn .loop-test .taken)
 
 loop-again : tie.Need-loop-again Inv-loop μ-loop
 loop-again c =
-    let asked = c .before .before in
+    let asked = c .before .before .before .before in
     let turn = asked .before .before .before in
-    let start = turn .before .before .before .before .before in
+    let start = turn .before .before .before .before .before .before in
     let a = start .args in
     let at = turn .before .loop .at in
     let left = turn .before .loop .left in
@@ -82,19 +88,19 @@ loop-again c =
     let passed = sym (asked .is-mapped .ensures .0) ∙ c .before .if1 .taken in
     let more : (test row && eqb left 0) ≡ false = rw (passed, ne-eqb left 0 (c .if2 .left)) in
     let next : left - 1 ≡ cond (test row) (left - 1) left = rw passed in
-    (seek-turn test _ _ (start .pre .0 .whole) _ _ _ _ (turn .before .loop .inv .0) (turn .loop-test .taken) more next, asked .is-mapped .ensures .1)
+    (seek-turn test _ _ (start .pre .0 .whole) _ _ _ _ (turn .before .loop .inv .0) (turn .loop-test .taken) more next, (asked .is-mapped .ensures .1, asked .is-mapped .kept .1 .1 .1 .0 ∙ turn .before .loop .inv .1 .1))
 
 loop-less-2 : tie.Need-loop-less-2 Inv-loop μ-loop
 loop-less-2 c =
-    let turn = c .before .before .before .before in
-    let low = turn .before .before .before .before .before .pre .0 .whole .wide in
+    let turn = c .before .before .before .before .before .before in
+    let low = turn .before .before .before .before .before .before .pre .0 .whole .wide in
     omega (arith, turn .loop-test .taken)
 
 loop-again-2 : tie.Need-loop-again-2 Inv-loop μ-loop
 loop-again-2 c =
-    let asked = c .before in
+    let asked = c .before .before .before in
     let turn = asked .before .before .before in
-    let start = turn .before .before .before .before .before in
+    let start = turn .before .before .before .before .before .before in
     let a = start .args in
     let at = turn .before .loop .at in
     let left = turn .before .loop .left in
@@ -103,11 +109,14 @@ loop-again-2 c =
     let failed = sym (asked .is-mapped .ensures .0) ∙ c .if1 .left in
     let more : (test row && eqb left 0) ≡ false = rw failed in
     let next : left ≡ cond (test row) (left - 1) left = rw failed in
-    (seek-turn test _ _ (start .pre .0 .whole) _ _ _ _ (turn .before .loop .inv .0) (turn .loop-test .taken) more next, asked .is-mapped .ensures .1)
+    (seek-turn test _ _ (start .pre .0 .whole) _ _ _ _ (turn .before .loop .inv .0) (turn .loop-test .taken) more next, (asked .is-mapped .ensures .1, asked .is-mapped .kept .1 .1 .1 .0 ∙ turn .before .loop .inv .1 .1))
+
+same-length-2 : tie.Need-same-length-2 Inv-loop μ-loop
+same-length-2 c = c .before .loop .inv .1 .1
 
 returns-2 : tie.Need-returns-2 Inv-loop μ-loop
 returns-2 c =
-    let start = c .before .before .before .before .before in
+    let start = c .before .before .before .before .before .before in
     seek-end _ _ _ (start .pre .0 .whole) _ _ _ (c .before .loop .inv .0) (c .loop-test .left)
 
 pub nth-mapped-spec : {M : Type 1} → statement M
@@ -122,10 +131,12 @@ nth-mapped-spec =
     part-is-mapped-start
     part-is-mapped-end
     is-mapped-requires
+    same-length
     returns
     sub-left
     loop-less
     loop-again
     loop-less-2
     loop-again-2
+    same-length-2
     returns-2)

@@ -12,13 +12,16 @@ entry-of-requires c κs = search needs
 mul-slots : tie.Need-mul-slots
 mul-slots c = search needs
 
-element-write-slots : tie.Need-element-write-slots
-element-write-slots c = search needs
+slice-write-slots : tie.Need-slice-write-slots
+slice-write-slots c = search needs
+
+same-length : tie.Need-same-length
+same-length c = search needs
 
 returns : tie.Need-returns
 returns c =
     let asked = c .before .before in
-    let pre = asked .before .before .before .pre in
+    let pre = asked .before .before .before .before .pre in
     let answer = asked .tag-mapped .ensures in
     (answer, remembered-set _ _ _ _ (pre .1) _ _ (pre .0 .1) (told-made _ _ _ _ _ _ (c .entry-of .ensures) answer))
 
@@ -32,6 +35,7 @@ ask-spec =
     tag-mapped-requires
     entry-of-requires
     mul-slots
-    element-write-slots
+    slice-write-slots
+    same-length
     returns
     returns-2)
