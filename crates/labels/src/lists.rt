@@ -22,6 +22,9 @@ pub enum ListRead {
     Refused(Reason),
 }
 
+// The words of the set of places, while names are read.
+type Words = [u64; 4];
+
 // The same while its names are read: the offset is that of the leftmost name that is unknown or came before.
 pub enum Names {
     Read,
@@ -63,10 +66,11 @@ fn read_names(
     text: &[u8],
     at: usize,
     hints: &Hints,
-    words: &mut [u64],
+    words: &mut Words,
 ) -> Names
     requires { ⌜ IsAccepted (now image) × (((1 ≤ class) × (class ≤ 3)) × ((at ≤ length (now text)) × (length (now words) ≡ 4))) ⌝ }
     ensures { λ r. ⌜ namesOf r (joined (now (words .exit))) ≡ readNames (now (image .entry)) class at (joined (now (words .entry))) (split comma (drop at (now (text .entry)))) ⌝ }
+    ensures { λ r. ⌜ length (now (words .exit)) ≡ 4 ⌝ }
 {
     let end = mark_from(text, at, 44);
     let found = find_by(image, class, hints, &text[at..end]);
@@ -88,10 +92,11 @@ fn after_name(
     text: &[u8],
     at: usize,
     hints: &Hints,
-    words: &mut [u64],
+    words: &mut Words,
 ) -> Names
     requires { ⌜ IsAccepted (now image) × (((1 ≤ class) × (class ≤ 3)) × ((at ≤ length (now text)) × (length (now words) ≡ 4))) ⌝ }
     ensures { λ r. ⌜ namesOf r (joined (now (words .exit))) ≡ readNames (now (image .entry)) class (at + 1) (joined (now (words .entry))) (afterMark comma (now (text .entry)) at) ⌝ }
+    ensures { λ r. ⌜ length (now (words .exit)) ≡ 4 ⌝ }
 {
     if at < text.len() {
         return read_names(image, class, text, at + 1, hints, words);

@@ -37,7 +37,7 @@ pub fn past_parts(text: &[u8], at: usize, mark: u8) -> usize
     i
 }
 
-// Is it a byte that a name in label text may have? The same as `text_byte`, without a branch.
+// Is it a byte that a name in label text may have? The same as `text_byte`, without a branch; byte by byte that one is quicker, as it leaves early.
 fn in_text(x: u8) -> bool
     ensures { λ r. ⌜ r ≡ textByte x ⌝ }
 {

@@ -2,7 +2,7 @@
 -- block's lowest record that breaks a rule. Assumes nothing.
 use Prim.Native.Nat.{ℕ, zero, suc, _+_, _-_, _*_, _/_, _≤_, _<_, min}
 use mathlib.Core.Path.{_≡_, refl, sym, ap, _∙_}
-use mathlib.Core.Bool.{Bool, true}
+use mathlib.Core.Bool.{Bool}
 use mathlib.Core.List.{List}
 use mathlib.Core.Logic.{⊎-elim}
 use native.Mathlib.Nat.{add-zero, mul-zero, mul-suc, mul-le-mul-left, mul-div-right, mul-mod-right, add-sub-cancel-left}
@@ -10,11 +10,9 @@ use native.Mathlib.Omega.{arith}
 use borrow.Author.Tests.{eq-eqb}
 use lib.ListN.{length, take, drop}
 use Rattle.fields.specs.Bytes.{part}
-use Rattle.fields.specs.Names.{nameRule}
 use Rattle.fields.specs.Scan.{firstBad}
 use Rattle.fields.proofs.Both.{parts, below-or}
 use Rattle.fields.proofs.Laws.{part-length, part-part}
-use Rattle.fields.proofs.Meaning.{name-holds}
 use Rattle.fields.proofs.Scan.{bad-shift, bad-same-on, bad-both, good-before}
 use Rattle.header.specs.declared.edition.Edition.{Edition}
 use Rattle.header.specs.declared.edition.Edition.the-variants.{One}
@@ -25,20 +23,23 @@ use Rattle.header.specs.declared.counts.Counts.{Counts}
 use Rattle.header.specs.Layout.{editionOf, countsOf, recordSize, capacityOf, countOf, firstBlock, blocksNeeded, Fitted, shapeOf, Roomy, Shaped, recordSlot, recordOffset, recordAt, recordsOf, OneBlock, held, contentsOf}
 use Rattle.header.proofs.Editions.{size-least}
 use Rattle.header.proofs.Inside.{shape-roomy, room-for, from-among, block-inside, blocks-among, blocks-after, kind-of, one-block, record-of}
-use Rattle.records.specs.Fields.{componentNameField}
-use Rattle.records.specs.Rules.{recordIn, runRecord, componentShape, classStart, afterRule, runRule, firstBadOfRun, freshRule, ruleOf, recordRule}
+use Rattle.records.specs.Rules.{recordIn, runRecord, classStart, afterRule, runRule, firstBadOfRun, freshRule, ruleOf, recordRule}
 use Rattle.records.specs.Fresh.{NamesKept, HoldsFrom}
 use Rattle.records.specs.Kinds.{OfKind, RunOf}
-use Rattle.records.proofs.MeaningComponents.{class-begun, component-shape-means}
+use Rattle.records.proofs.MeaningComponents.{class-begun}
+use Rattle.records.proofs.Marks.{shape-named}
 
 pub size-some : (edition : Edition) (kind : Kind) → 1 ≤ recordSize edition kind
 size-some edition Component = omega arith
 size-some edition Label = omega (arith, size-least edition Label)
 size-some edition User = omega (arith, size-least edition User)
 
--- what is asked of the record at place i of an image and the one right before it
+-- what is asked of the record at place i of a list and the one right before it; of an image's records
+abbrev pub afterIn : Kind → Counts → List (List ℕ) → ℕ → Bool
+afterIn kind n records i = afterRule kind n i (recordIn records (i - 1)) (recordIn records i)
+
 abbrev pub afterAt : List ℕ → Kind → ℕ → Bool
-afterAt im kind i = afterRule kind (countsOf im) i (recordIn (recordsOf im kind) (i - 1)) (recordIn (recordsOf im kind) i)
+afterAt im kind = afterIn kind (countsOf im) (recordsOf im kind)
 
 -- of the first of all, the one before it isn't asked
 first-after : (kind : Kind) (n : Counts) (p q rec : List ℕ) → afterRule kind n 0 p rec ≡ afterRule kind n 0 q rec
@@ -56,54 +57,51 @@ holds-components im kind from to upto run r h e =
     let c : RunOf im Component from to run = rw e at r in
     record { long = omega (arith, c .long); same = λ q l. c .same q (omega arith) }
 
-module _ (im : List ℕ) (kind : Kind) (from to : ℕ) (run : List ℕ) (r : RunOf im kind from to run)
-    (previous : List ℕ) (before : 1 ≤ from → previous ≡ recordIn (recordsOf im kind) (from - 1)) where
-  abbrev size : ℕ
-  size = recordSize (editionOf im) kind
-
-  rule-at : (q : ℕ) → q < to - from → runRule kind (countsOf im) from previous run q ≡ afterAt im kind (from + q)
+-- records of any list: those of an image, or of a run that no image holds
+module _ (kind : Kind) (n : Counts) (records : List (List ℕ)) (from to : ℕ) (run : List ℕ)
+    (long : length run ≡ recordSize (n .edition) kind * (to - from))
+    (same : (q : ℕ) → q < to - from → runRecord (recordSize (n .edition) kind) run q ≡ recordIn records (from + q))
+    (previous : List ℕ) (before : 1 ≤ from → previous ≡ recordIn records (from - 1)) where
+  rule-at : (q : ℕ) → q < to - from → runRule kind n from previous run q ≡ afterIn kind n records (from + q)
   unfolding runRule
-  rule-at zero h = rw (r .same 0 h) (⊎-elim first later (below-or from 1))
+  rule-at zero h = rw (same 0 h) (⊎-elim first later (below-or from 1))
     where
       asked : List ℕ → Bool
-      asked p = afterRule kind (countsOf im) (from + 0) p (recordIn (recordsOf im kind) (from + 0))
+      asked p = afterRule kind n (from + 0) p (recordIn records (from + 0))
 
-      first : from < 1 → asked previous ≡ asked (recordIn (recordsOf im kind) (from + 0 - 1))
-      first l = let z : from + 0 ≡ 0 = omega arith in rw z (first-after kind (countsOf im) _ _ _)
+      first : from < 1 → asked previous ≡ asked (recordIn records (from + 0 - 1))
+      first l = let z : from + 0 ≡ 0 = omega arith in rw z (first-after kind n _ _ _)
 
-      later : 1 ≤ from → asked previous ≡ asked (recordIn (recordsOf im kind) (from + 0 - 1))
+      later : 1 ≤ from → asked previous ≡ asked (recordIn records (from + 0 - 1))
       later l = rw (add-zero, before l)
   rule-at (suc q) h =
       let back : from + suc q - 1 ≡ from + q = omega arith in
-      rw (r .same (suc q) h, r .same q (omega arith), back)
+      rw (same (suc q) h, same q (omega arith), back)
 
-  -- the search of the run, as places of the image
-  pub run-after : from + firstBadOfRun kind (countsOf im) from previous run ≡ firstBad (afterAt im kind) (to - from) from
+  -- the search of the run, as places of the list
+  pub run-after : from + firstBadOfRun kind n from previous run ≡ firstBad (afterIn kind n records) (to - from) from
   run-after =
-      let count : length run / size ≡ to - from = ap (λ (k : ℕ). k / size) (r .long) ∙ mul-div-right (to - from) (size-some (editionOf im) kind) in
-      let alike = bad-same-on (runRule kind (countsOf im) from previous run) (λ q. afterAt im kind (from + q)) (to - from) 0
+      let size = recordSize (n .edition) kind in
+      let count : length run / size ≡ to - from = ap (λ (k : ℕ). k / size) long ∙ mul-div-right (to - from) (size-some (n .edition) kind) in
+      let alike = bad-same-on (runRule kind n from previous run) (λ q. afterIn kind n records (from + q)) (to - from) 0
       (λ q low high. rule-at q (omega arith)) in
-      ap (λ (k : ℕ). from + firstBad (runRule kind (countsOf im) from previous run) k 0) count ∙ ap (λ (k : ℕ). from + k) alike
-      ∙ sym (bad-shift (afterAt im kind) from (to - from) 0) ∙ ap (firstBad (afterAt im kind) (to - from)) (add-zero from)
+      ap (λ (k : ℕ). from + firstBad (runRule kind n from previous run) k 0) count ∙ ap (λ (k : ℕ). from + k) alike
+      ∙ sym (bad-shift (afterIn kind n records) from (to - from) 0) ∙ ap (firstBad (afterIn kind n records) (to - from)) (add-zero from)
 
 -- both rules: where the first fails first, and before that the second
-pub record-both : (im : List ℕ) (kind : Kind) (n k : ℕ)
-    → firstBad (recordRule im kind) n k ≡ firstBad (freshRule kind (countsOf im) (recordsOf im kind)) (firstBad (afterAt im kind) n k - k) k
+pub record-both : (kind : Kind) (n : Counts) (records : List (List ℕ)) (count k : ℕ)
+    → firstBad (ruleOf kind n records) count k ≡ firstBad (freshRule kind n records) (firstBad (afterIn kind n records) count k - k) k
 unfolding ruleOf
-record-both im kind n k = bad-both (afterAt im kind) (freshRule kind (countsOf im) (recordsOf im kind)) n k
+record-both kind n records count k = bad-both (afterIn kind n records) (freshRule kind n records) count k
 
--- ---- a component that keeps its rule has a name that keeps the rule of its field
-shape-named : (edition : Edition) (class count : ℕ) (rec : List ℕ) → componentShape edition class count rec ≡ true
-    → nameRule (componentNameField rec) ≡ true
-shape-named edition class count rec e = name-holds _ (component-shape-means edition class count rec e .named)
-
-pub names-kept : (im : List ℕ) (kind : Kind) (from n : ℕ) → (kind ≡ Component → NamesKept (recordsOf im Component) from)
-    → kind ≡ Component → NamesKept (recordsOf im Component) (firstBad (afterAt im kind) n from)
-names-kept im kind from n names e =
-    rw e (record {
-      each = λ j h. ⊎-elim (λ l. names e .each j l)
-          (λ l. let q = parts _ _ (good-before (afterAt im Component) n from j l h) in shape-named _ _ _ _ (q .0)) (below-or j from);
-    })
+-- up to the first component that breaks that rule every name keeps the rule of its field
+pub names-kept : (n : Counts) (records : List (List ℕ)) (from count : ℕ) → NamesKept records from
+    → NamesKept records (firstBad (afterIn Component n records) count from)
+names-kept n records from count names =
+    record {
+      each = λ j h. ⊎-elim (λ l. names .each j l)
+          (λ l. let q = parts _ _ (good-before (afterIn Component n records) count from j l h) in shape-named _ _ _ _ (q .0)) (below-or j from);
+    }
 
 -- ---- a block of the kind
 block-begins : (shape : Shape) → Roomy shape → (d : ℕ) → recordOffset shape (shape .capacity * d) ≡ 512 * (shape .first + d) + 4

@@ -58,7 +58,7 @@ module _ {im : List ℕ} {given : Counts} {shape : Shape} {b : ℕ} {h : Content
       pub after-is : h .from + j ≡ firstBad (afterAt im (h .kind)) (h .to - h .from) (h .from)
       after-is =
           ap (λ (x : ℕ). h .from + x) (found ∙ ap (λ (c : Counts). firstBadOfRun (h .kind) c (h .from) previous run) (k .counts))
-          ∙ run-after im (h .kind) (h .from) (h .to) run r previous (rw from-is before)
+          ∙ run-after (h .kind) (countsOf im) (recordsOf im (h .kind)) (h .from) (h .to) run (r .long) (r .same) previous (rw from-is before)
 
       pub after-upto : h .from + j ≤ h .to
       after-upto =
@@ -66,7 +66,7 @@ module _ {im : List ℕ} {given : Counts} {shape : Shape} {b : ℕ} {h : Content
 
       pub after-names : (h .kind ≡ Component → NamesKept (recordsOf im Component) (h .from))
           → h .kind ≡ Component → NamesKept (recordsOf im Component) (h .from + j)
-      after-names names e = rw after-is (names-kept im (h .kind) (h .from) (h .to - h .from) names e)
+      after-names names e = rw after-is (rw e (names-kept (countsOf im) (recordsOf im Component) (h .from) (h .to - h .from) (names e)))
 
       -- and i where the search for names up to there ends
       module _ (i : ℕ)
@@ -77,7 +77,7 @@ module _ {im : List ℕ} {given : Counts} {shape : Shape} {b : ℕ} {h : Content
             known
             ∙ ap (λ (c : Counts). firstBad (freshRule (h .kind) c (recordsOf im (h .kind))) (h .from + j - h .from) (h .from)) (k .counts)
             ∙ ap (λ (x : ℕ). firstBad (freshRule (h .kind) (countsOf im) (recordsOf im (h .kind))) (x - h .from) (h .from)) after-is
-            ∙ sym (record-both im (h .kind) (h .to - h .from) (h .from))
+            ∙ sym (record-both (h .kind) (countsOf im) (recordsOf im (h .kind)) (h .to - h .from) (h .from))
             ∙ ap (λ (c : Contents). firstBad (recordRule im (c .kind)) (c .to - c .from) (c .from)) (k .is)
 
         pub bad-end : i ≡ h .to → (i ≡ h .from + j) × (h .from + j ≡ h .to)

@@ -17,6 +17,7 @@ use Rattle.header.proofs.Inside.{held-is, block-among, from-among}
 use Rattle.records.specs.Rules.{recordRule, layoutRule, firstBadRecord, contentRule}
 use Rattle.records.specs.Kinds.{OfKind, KeptUpto, LayoutBad, RecordBad, Passed}
 use Rattle.records.proofs.BlockRuns.{of-needed, holds-it}
+use Rattle.records.proofs.Marks.{marked-first}
 
 -- it stands at block b, whose first record is at place `from`
 pub record Walk (im : List ℕ) (kind : Kind) (shape : Shape) (b from : ℕ) (filter : List ℕ) : Type 0 where
@@ -37,7 +38,7 @@ module _ {im : List ℕ} {kind : Kind} {shape : Shape} (s : Shaped im kind shape
         before = λ c low high. absurd (omega (arith, first-is));
         passed = λ more. record {
           names = λ e. record { each = λ j h. absurd (omega arith) };
-          marks = λ e. record { each = λ j low h. absurd (omega arith) };
+          marks = λ e. marked-first _ _ _;
         };
       }
 

@@ -1,10 +1,10 @@
 -- The filter of names: what marking a key does, that equal names have one key, and what a name that is not marked tells. Assumes nothing.
-use Prim.Native.Nat.{ℕ, _+_, _-_, _≤_, _<_}
+use Prim.Native.Nat.{ℕ, _+_, _-_, _/_, _≤_, _<_}
 use mathlib.Core.Path.{_≡_, refl, sym, ap, _∙_}
 use mathlib.Core.Bool.{Bool, true, false, true≢false}
 use mathlib.Core.List.{List}
 use mathlib.Core.Logic.{⊎-elim}
-use native.Mathlib.Nat.{eq-or-lt-of-le}
+use native.Mathlib.Nat.{zero-add, eq-or-lt-of-le}
 use native.Mathlib.Omega.{arith}
 use borrow.Author.Tests.{eqb-true, eqb-false}
 use lib.Dec.{eqb}
@@ -14,15 +14,17 @@ use Rattle.fields.specs.Bytes.{byteAt, part, number2, number4, number8}
 use Rattle.fields.specs.Names.{nameIn, nameRule}
 use Rattle.fields.proofs.Both.{below-or}
 use Rattle.fields.proofs.Laws.{part-byte, part-short}
-use Rattle.fields.proofs.Meaning.{NameKept, name-means}
+use Rattle.fields.proofs.Meaning.{NameKept, name-means, name-holds}
 use Rattle.sets.specs.Sets.{union, within}
 use Rattle.sets.proofs.Within.{within-trans, within-union-left, within-union-right}
+use Rattle.header.specs.declared.edition.Edition.{Edition}
 use Rattle.header.specs.declared.counts.Counts.{Counts}
 use Rattle.header.specs.Layout.{classFirst, classAt}
 use Rattle.records.specs.Fields.{componentNameField, componentName}
-use Rattle.records.specs.Rules.{recordIn, classStart, newNameRule}
-use Rattle.records.specs.Fresh.{nameKey, wordOfKey, bitsOfKey, marked, MarkedToo, NamesKept, Marked}
-use Rattle.records.proofs.MeaningComponents.{class-between, new-name-holds}
+use Rattle.records.specs.Rules.{recordIn, runRecords, classStart, componentShape, newNameRule}
+use Rattle.records.specs.Fresh.{nameKey, wordOfKey, bitsOfKey, marked, MarkedToo, NamesKept, Marked, HoldsFrom}
+use Rattle.records.proofs.MeaningComponents.{class-between, component-shape-means, new-name-holds}
+use Rattle.records.proofs.Parts.{run-record}
 
 -- ---- the bits of a key are set in its word
 module _ (filter : List ℕ) (key : ℕ) (room : wordOfKey key < length filter) where
@@ -91,9 +93,18 @@ module _ (a b : List ℕ) where
       λ k low high. same-word k (λ i l h. same-bytes p q e i (omega arith) (omega arith)) in
       rw (word 2 (omega arith) (omega arith), word 10 (omega arith) (omega arith), word 18 (omega arith) (omega arith), word 24 (omega arith) (omega arith))
 
+-- a component that keeps its rule has a name that keeps the rule of its field
+pub shape-named : (edition : Edition) (class count : ℕ) (rec : List ℕ) → componentShape edition class count rec ≡ true
+    → nameRule (componentNameField rec) ≡ true
+shape-named edition class count rec e = name-holds _ (component-shape-means edition class count rec e .named)
+
 -- ---- the components of a class up to place i are marked
+-- before the first of all there is none
+pub marked-first : (n : Counts) (records : List (List ℕ)) (filter : List ℕ) → Marked n records 0 filter
+marked-first n records filter = record { each = λ j low high. absurd (omega arith) }
+
 module _ (n : Counts) (records : List (List ℕ)) (i : ℕ) (filter : List ℕ) where
-  -- where a class begins there is none
+  -- nor where a class begins
   pub marked-none : i ≡ classStart n i → Marked n records i filter
   marked-none e = record { each = λ j low high. absurd (omega arith) }
 
@@ -115,3 +126,11 @@ module _ (n : Counts) (records : List (List ℕ)) (i : ℕ) (filter : List ℕ) 
       new-name-holds n records i
       (λ j low high named. let key = same-key (recordIn records j) (recordIn records i) (kept .each j (omega arith)) (kept .each i (omega arith)) named in
       true≢false (sym (m .each j low high) ∙ ap (marked filter) key ∙ e))
+
+-- ---- all components of a run that no image holds
+pub run-holds : (run : List ℕ) (to : ℕ) → to ≤ length run / 40 → HoldsFrom (runRecords 40 run) 0 to run
+run-holds run to within =
+    record {
+      long = omega arith;
+      same = λ q l. sym (run-record 40 run q (omega arith)) ∙ ap (recordIn (runRecords 40 run)) (sym (zero-add q));
+    }

@@ -1,10 +1,8 @@
 -- What the rules of records ask of the header, as the value that code works out once.
-use Prim.Native.Nat.{ℕ, _-_, _≤_}
+use Prim.Native.Nat.{_≤_}
 use mathlib.Core.Path.{_≡_}
 use Rattle.sets.specs.Sets.{allBelow}
 use Rattle.sets.specs.Groups.{width, placesOf}
-use Rattle.header.specs.declared.layout.Shape.{Shape}
-use Rattle.header.specs.Layout.{recordOffset}
 use Rattle.records.specs.declared.existing.Existing.{Existing}
 
 -- the compartments and the groups that exist are those that its counts name; a word holds the former, a set of groups the latter
@@ -13,7 +11,3 @@ pub record Exist (e : Existing) : Type 0 where
   pub fewGroups : e .counts .groups ≤ width
   pub compartments : e .compartments ≡ allBelow (e .counts .compartments)
   pub groups : placesOf (e .groups) ≡ allBelow (e .counts .groups)
-
--- `previous` is where the record before that at place i begins; the first has itself there
-abbrev pub Previous : Shape → ℕ → ℕ → Type 0
-Previous shape i previous = previous ≡ recordOffset shape (i - 1)

@@ -1,5 +1,4 @@
 // The records of an image: what they hold, and the rules that each keeps.
-pub mod blocks;
 pub mod component_run;
 pub mod components;
 pub mod existing;

@@ -97,3 +97,6 @@ module _ (edition profile : ℕ) (bytes : Kind → List ℕ) where
 -- the compartments fit a word and the groups a set
 pub limited-sets : (n : Counts) (users labels : ℕ) → Limited n users labels → (n .compartments ≤ 64) × (n .groups ≤ width)
 limited-sets n users labels l = (omega (arith, l .compartmentsLimit), omega (arith, l .groupsLimit, most-groups (n .edition)))
+
+pub limited-levels : (n : Counts) (users labels : ℕ) → Limited n users labels → n .levels ≤ 256
+limited-levels n users labels l = omega (arith, l .levelsLimit)

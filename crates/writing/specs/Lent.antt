@@ -69,11 +69,15 @@ lentLayoutRule edition profile bytes =
     knownEdition edition && knownProfile profile && wholeRule e bytes Component && wholeRule e bytes Label && wholeRule e bytes User
     && countsWithin (lentCounts e (profileNamed profile) (records Component)) (length (records User)) (length (records Label))
 
+-- the bytes of each kind are whole records
+abbrev pub LentParts : Edition → (Kind → List ℕ) → Type 0
+LentParts edition bytes = (kind : Kind) → length (bytes kind) % recordSize edition kind ≡ 0
+
 -- what that rule says
 pub record LentWhole (edition profile : ℕ) (bytes : Kind → List ℕ) : Type 0 where
   pub editionKnown : (edition ≡ 1) ⊎ (edition ≡ 2)
   pub profileKnown : profile ≤ 1
-  pub whole : (kind : Kind) → length (bytes kind) % recordSize (editionNamed edition) kind ≡ 0
+  pub whole : LentParts (editionNamed edition) bytes
   pub limited : Limited
       (lentCounts (editionNamed edition) (profileNamed profile) (lentRecords (editionNamed edition) bytes Component))
       (length (lentRecords (editionNamed edition) bytes User))

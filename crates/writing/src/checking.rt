@@ -6,7 +6,7 @@ ghost use Rattle.header.specs.declared.layout.Kind.the-variants.{Component, Use
 ghost use Rattle.header.specs.Layout.{recordSize};
 ghost use Rattle.records.specs.Existing.{Exist};
 ghost use Rattle.records.specs.Rules.{runRecords};
-ghost use Rattle.writing.specs.Lent.{bytesBy, lentRecords, lentCounts, groupsCheck, recordsCheck, lentCheck};
+ghost use Rattle.writing.specs.Lent.{LentParts, bytesBy, lentRecords, lentCounts, groupsCheck, recordsCheck, lentCheck};
 use crate::answers::LentCheck;
 use crate::answers::LentFault;
 use crate::counting::layout_fits;
@@ -46,6 +46,7 @@ fn groups_check(existing: Existing, components: &[u8], users: &[u8]) -> LentChec
 // The records of each kind, then the groups.
 fn records_check(existing: Existing, components: &[u8], labels: &[u8], users: &[u8]) -> LentCheck
     requires { ⌜ Exist existing × (existing .counts ≡ lentCounts (existing .counts .edition) (existing .counts .profile) (runRecords 40 (now components))) ⌝ }
+    requires { ⌜ (existing .counts .levels ≤ 256) × LentParts (existing .counts .edition) (bytesBy (now components) (now labels) (now users)) ⌝ }
     ensures { λ r. ⌜ r ≡ recordsCheck (existing .counts) (lentRecords (existing .counts .edition) (bytesBy (now (components .entry)) (now (labels .entry)) (now (users .entry)))) ⌝ }
 {
     let counts = existing.counts;

@@ -1,81 +1,50 @@
-// The rules of records that are lent to the writer: the lowest record of a kind that breaks one.
-ghost use Prim.Native.Nat.{_-_, _*_, _/_, _≤_, _<_};
+// The rules of records that are lent to the writer: the lowest record of a kind that breaks one. The records of a kind are one run, which is
+// asked as the run of a block is.
+ghost use Prim.Native.Nat.{_%_, _/_, _≤_};
 ghost use mathlib.Core.Path.{_≡_};
 ghost use lib.ListN.{length};
 ghost use Rattle.fields.specs.Scan.{firstBad};
-ghost use Rattle.header.specs.declared.edition.Edition.the-variants.{One};
+ghost use Rattle.header.specs.declared.layout.Kind.the-variants.{Component};
 ghost use Rattle.header.specs.Layout.{recordSize};
 ghost use Rattle.records.specs.Existing.{Exist};
-ghost use Rattle.records.specs.Rules.{recordIn, runRecords, ruleOf, freshRule};
-use fields::names::Letters;
-use fields::names::name_in;
+ghost use Rattle.records.specs.Fresh.{NamesKept};
+ghost use Rattle.records.specs.Rules.{runRecords, ruleOf, freshRule};
 use header::counts::Counts;
 use header::layout::Kind;
 use header::layout::size;
-use records::blocks::after_ok;
-use records::components::class_start;
-use records::components::first_in_run;
 use records::existing::Existing;
+use records::fresh;
+use records::fresh::Source;
+use records::fresh::first_stale;
+use records::runs::first_bad_after;
 
-// Inside a class the names of components differ.
-fn fresh_ok(counts: Counts, kind: Kind, records: &[u8], i: usize, rec: &[u8]) -> bool
-    requires { ⌜ (i < length (now records) / recordSize (counts .edition) kind) × (recordSize One kind ≤ length (now rec)) ⌝ }
-    requires { ⌜ now rec ≡ recordIn (runRecords (recordSize (counts .edition) kind) (now records)) i ⌝ }
-    ensures { λ r. ⌜ r ≡ freshRule kind counts (runRecords (recordSize (counts .edition) kind) (now (records .entry))) i ⌝ }
+// The first of the first `to` records whose name stands before it in its class; `to` where there is none. That is asked of components alone.
+fn first_known(counts: Counts, kind: Kind, records: &[u8], to: usize) -> usize
+    requires { ⌜ (length (now records) % recordSize (counts .edition) kind ≡ 0) × (to ≤ length (now records) / recordSize (counts .edition) kind) ⌝ }
+    requires { ⌜ (kind ≡ Component → NamesKept (runRecords 40 (now records)) to) ⌝ }
+    ensures { λ r. ⌜ r ≡ firstBad (freshRule kind counts (runRecords (recordSize (counts .edition) kind) (now (records .entry)))) to 0 ⌝ }
 {
     match kind {
         Kind::Component => {
-            let start = class_start(counts, i);
-            let from = 40 * start;
-            let to = 40 * i;
-            let name = name_in(&rec[1..32]);
-            start + first_in_run(&records[from..to], Letters::Exact, name) == i
+            let mut seen = fresh::EMPTY;
+            first_stale(Source::Run, records, counts, &mut seen, 0, to, records)
         }
-        Kind::Label => true,
-        Kind::User => true,
+        Kind::Label => to,
+        Kind::User => to,
     }
 }
 
-// The record at place i begins at `at`, and the one before it at `previous`.
-fn record_ok(
-    existing: Existing,
-    kind: Kind,
-    records: &[u8],
-    i: usize,
-    at: usize,
-    previous: usize,
-) -> bool
-    requires { ⌜ Exist existing × (i < length (now records) / recordSize (existing .counts .edition) kind) ⌝ }
-    requires { ⌜ (at ≡ recordSize (existing .counts .edition) kind * i) × (previous ≡ recordSize (existing .counts .edition) kind * (i - 1)) ⌝ }
-    ensures { λ r. ⌜ r ≡ ruleOf kind (existing .counts) (runRecords (recordSize (existing .counts .edition) kind) (now (records .entry))) i ⌝ }
-{
-    let counts = existing.counts;
-    let edition = counts.edition;
-    let size = size(edition, kind);
-    let rec = &records[at..at + size];
-    let before = &records[previous..previous + size];
-    after_ok(existing, kind, i, before, rec) & fresh_ok(counts, kind, records, i, rec)
-}
-
-// The lowest record of the kind that breaks a rule; their number where none does.
+// The lowest record of the kind that breaks a rule; their number where none does. Of the first, the one before it is not asked.
 pub(crate) fn first_bad(existing: Existing, kind: Kind, records: &[u8]) -> usize
-    requires { ⌜ Exist existing ⌝ }
+    requires { ⌜ Exist existing × (existing .counts .levels ≤ 256) ⌝ }
+    requires { ⌜ length (now records) % recordSize (existing .counts .edition) kind ≡ 0 ⌝ }
     ensures { λ r. ⌜ r ≡ firstBad (ruleOf kind (existing .counts) (runRecords (recordSize (existing .counts .edition) kind) (now (records .entry)))) (length (now (records .entry)) / recordSize (existing .counts .edition) kind) 0 ⌝ }
 {
     let counts = existing.counts;
     let edition = counts.edition;
-    let size = size(edition, kind);
-    let count = records.len() / size;
-    let mut at = 0;
-    let mut previous = 0;
-    let mut i = 0;
-    while i < count {
-        if !record_ok(existing, kind, records, i, at, previous) {
-            return i;
-        }
-        previous = at;
-        at += size;
-        i += 1;
+    if records.len() < size(edition, kind) {
+        return 0;
     }
-    i
+    let to = first_bad_after(existing, kind, 0, records, records);
+    first_known(counts, kind, records, to)
 }

@@ -59,7 +59,8 @@ placed-part-requires c κs =
     let shapes = c .before .before .before in
     let firsts = shapes .before in
     let start = firsts .before .before .before .before in
-    (start .pre .0 .fitted, (shapes .shape-of .ensures, (omega (arith, class-inside (start .args .image .now) (start .args .class)), c .before .loop .inv .1 .0 .begins)))
+    let among = class-inside (start .args .image .now) (start .args .class) in
+    (start .pre .0 .fitted, (shapes .shape-of .ensures, (omega (arith, among), c .before .loop .inv .1 .0 .begins)))
 
 sub-name-in : tie.Need-sub-name-in Inv-loop μ-loop
 sub-name-in c = search needs

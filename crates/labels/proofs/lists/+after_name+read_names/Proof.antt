@@ -70,22 +70,19 @@ after-name-add-read-names t c = omega arith
 
 after-name-read-names-requires : (t : ℕ) → after-name-lts.Need-read-names-requires (after-name-calls t) (after-name-at t) after-name.Post
 after-name-read-names-requires t c κs =
-    let start = c .before .before .before .before .before in
+    let start = c .before .before .before .before in
     let p = start .pre .1 in
     (omega arith, (p .0, (p .1 .0, (omega arith, p .1 .1 .1))))
 
-after-name-same-length : (t : ℕ) → after-name-lts.Need-same-length (after-name-calls t) (after-name-at t) after-name.Post
-after-name-same-length t c = search needs
-
 after-name-returns : (t : ℕ) → after-name-lts.Need-returns (after-name-calls t) (after-name-at t) after-name.Post
 after-name-returns t c =
-    let start = c .before .before .before .before .before .before .before .before in
+    let start = c .before .before .before .before .before in
     let h : start .args .at < length (start .args .text .now) = omega arith in
-    rw (lt-ltb _ _ h) (c .before .before .read-names .ensures)
+    (rw (lt-ltb _ _ h) (c .read-names .ensures .0), c .read-names .ensures .1)
 
 after-name-returns-2 : (t : ℕ) → after-name-lts.Need-returns-2 (after-name-calls t) (after-name-at t) after-name.Post
 unfolding readNames
-after-name-returns-2 t c = rw (le-ltb _ _ (c .if1 .left))
+after-name-returns-2 t c = (rw (le-ltb _ _ (c .if1 .left)), c .before .before .before .pre .1 .1 .1 .1)
 
 read-names-mark-from-requires : (t : ℕ) → read-names-lts.Need-mark-from-requires (read-names-calls t) (read-names-at t) read-names.Post
 read-names-mark-from-requires t c κs = omega arith
@@ -100,7 +97,7 @@ read-names-part-find-by-end : (t : ℕ) → read-names-lts.Need-part-find-by-end
 read-names-part-find-by-end t c = omega arith
 
 read-names-find-by-requires : (t : ℕ) → read-names-lts.Need-find-by-requires (read-names-calls t) (read-names-at t) read-names.Post
-read-names-find-by-requires t c κs = let p = c .before .before .before .before .before .pre .1 in (p .0, p .1 .0)
+read-names-find-by-requires t c κs = let p = c .before .before .before .before .pre .1 in (p .0, p .1 .0)
 
 read-names-enum-known-found : (t : ℕ) → read-names-lts.Need-enum-known-found (read-names-calls t) (read-names-at t) read-names.Post
 read-names-enum-known-found t c = search needs
@@ -112,22 +109,28 @@ read-names-returns : (t : ℕ) → read-names-lts.Need-returns (read-names-calls
 read-names-returns t c =
     let look = c .before .before in
     let ends = look .before .before in
-    let start = ends .before .before .before .before in
-    list-unknown _ _ _ _ _ _ (start .pre .1 .1 .1 .0) (ends .mark-from .ensures .0) (ends .mark-from .ensures .1 .1)
-    (sym (look .find-by .ensures) ∙ c .enum-told .given .1)
+    let start = ends .before .before .before in (
+      list-unknown _ _ _ _ _ _ (start .pre .1 .1 .1 .0) (ends .mark-from .ensures .0) (ends .mark-from .ensures .1 .1)
+          (sym (look .find-by .ensures) ∙ c .enum-told .given .1),
+      start .pre .1 .1 .1 .1,
+    )
 
 read-names-mul-w : (t : ℕ) → read-names-lts.Need-mul-w (read-names-calls t) (read-names-at t) read-names.Post
 read-names-mul-w t c = omega arith
 
-read-names-slice-read-w : (t : ℕ) → read-names-lts.Need-slice-read-w (read-names-calls t) (read-names-at t) read-names.Post
-read-names-slice-read-w t c =
-    let place = c .before .before in
+read-names-element-copy-out-w : (t : ℕ) → read-names-lts.Need-element-copy-out-w (read-names-calls t) (read-names-at t) read-names.Post
+read-names-element-copy-out-w t c =
+    let place = c .before in
     let look = place .before .before in
     let ends = look .before .before in
-    let start = ends .before .before .before .before in
+    let start = ends .before .before .before in
     let p = start .pre .1 in
-    words-room _ _ _ _ _ (start .args .words .now) (p .1 .1 .0) (ends .mark-from .ensures .0) (ends .mark-from .ensures .1 .1) _
-    (sym (look .find-by .ensures) ∙ place .found .given .1) (accepted-counted _ (p .0)) (p .1 .1 .1)
+    omega (
+      arith,
+      p .1 .1 .1,
+      words-room _ _ _ _ _ (start .args .words .now) (p .1 .1 .0) (ends .mark-from .ensures .0) (ends .mark-from .ensures .1 .1) _
+          (sym (look .find-by .ensures) ∙ place .found .given .1) (accepted-counted _ (p .0)) (p .1 .1 .1),
+    )
 
 read-names-has-requires : (t : ℕ) → read-names-lts.Need-has-requires (read-names-calls t) (read-names-at t) read-names.Post
 read-names-has-requires t c κs = search needs
@@ -138,9 +141,11 @@ read-names-returns-2 t c =
     let place = asked .before .before .before in
     let look = place .before .before in
     let ends = look .before .before in
-    let start = ends .before .before .before .before in
-    words-repeated _ _ _ _ _ _ (start .pre .1 .1 .1 .0) (ends .mark-from .ensures .0) (ends .mark-from .ensures .1 .1) _
-    (sym (look .find-by .ensures) ∙ place .found .given .1) (sym (asked .has .ensures) ∙ c .if1 .taken)
+    let start = ends .before .before .before in (
+      words-repeated _ _ _ _ _ _ (start .pre .1 .1 .1 .0) (ends .mark-from .ensures .0) (ends .mark-from .ensures .1 .1) _
+          (sym (look .find-by .ensures) ∙ place .found .given .1) (sym (asked .has .ensures) ∙ c .if1 .taken),
+      start .pre .1 .1 .1 .1,
+    )
 
 read-names-with-requires : (t : ℕ) → read-names-lts.Need-with-requires (read-names-calls t) (read-names-at t) read-names.Post
 read-names-with-requires t c κs = omega arith
@@ -148,45 +153,43 @@ read-names-with-requires t c κs = omega arith
 read-names-mul-words : (t : ℕ) → read-names-lts.Need-mul-words (read-names-calls t) (read-names-at t) read-names.Post
 read-names-mul-words t c = omega arith
 
-read-names-slice-write-words : (t : ℕ) → read-names-lts.Need-slice-write-words (read-names-calls t) (read-names-at t) read-names.Post
-read-names-slice-write-words t c =
+read-names-element-write-words : (t : ℕ) → read-names-lts.Need-element-write-words (read-names-calls t) (read-names-at t) read-names.Post
+read-names-element-write-words t c =
     let place = c .before .before .before .before .before in
     let look = place .before .before in
     let ends = look .before .before in
-    let start = ends .before .before .before .before in
+    let start = ends .before .before .before in
     let p = start .pre .1 in
-    words-room _ _ _ _ _ (start .args .words .now) (p .1 .1 .0) (ends .mark-from .ensures .0) (ends .mark-from .ensures .1 .1) _
-    (sym (look .find-by .ensures) ∙ place .found .given .1) (accepted-counted _ (p .0)) (p .1 .1 .1)
+    omega (
+      arith,
+      p .1 .1 .1,
+      words-room _ _ _ _ _ (start .args .words .now) (p .1 .1 .0) (ends .mark-from .ensures .0) (ends .mark-from .ensures .1 .1) _
+          (sym (look .find-by .ensures) ∙ place .found .given .1) (accepted-counted _ (p .0)) (p .1 .1 .1),
+    )
 
 read-names-after-name-requires : (t : ℕ) → read-names-lts.Need-after-name-requires (read-names-calls t) (read-names-at t) read-names.Post
 read-names-after-name-requires t c κs =
     let place = c .before .before .before .before .before .before in
     let ends = place .before .before .before .before in
-    let start = ends .before .before .before .before in
+    let start = ends .before .before .before in
     let p = start .pre .1 in
     (omega arith, (p .0, (p .1 .0, (ends .mark-from .ensures .1 .1, length-set (start .args .words .now) _ (c .before .with .result) ∙ p .1 .1 .1))))
 
-read-names-same-length : (t : ℕ) → read-names-lts.Need-same-length (read-names-calls t) (read-names-at t) read-names.Post
-read-names-same-length t c =
-    let stored = c .before .before .before .before in
-    let place = stored .before .before .before .before .before in
-    let start = place .before .before .before .before .before .before .before .before in
-    omega (arith, length-set (start .args .words .now) (place .found .given .0 .0 / 64) (stored .with .result))
-
 read-names-returns-3 : (t : ℕ) → read-names-lts.Need-returns-3 (read-names-calls t) (read-names-at t) read-names.Post
 read-names-returns-3 t c =
-    let handed = c .before .before in
-    let stored = handed .before .before in
+    let stored = c .before .before in
     let left = stored .before in
     let asked = left .before in
     let place = asked .before .before .before in
     let look = place .before .before in
     let ends = look .before .before in
-    let start = ends .before .before .before .before in
-    let p = start .pre .1 in
-    handed .after-name .ensures
-    ∙ words-next _ _ _ _ _ (start .args .words .now) (p .1 .1 .0) (ends .mark-from .ensures .0) (ends .mark-from .ensures .1 .1) _
-    (sym (look .find-by .ensures) ∙ place .found .given .1) (accepted-counted _ (p .0)) (p .1 .1 .1) (sym (asked .has .ensures) ∙ left .if1 .left) _ (stored .with .ensures)
+    let start = ends .before .before .before in
+    let p = start .pre .1 in (
+      c .after-name .ensures .0
+          ∙ words-next _ _ _ _ _ (start .args .words .now) (p .1 .1 .0) (ends .mark-from .ensures .0) (ends .mark-from .ensures .1 .1) _
+          (sym (look .find-by .ensures) ∙ place .found .given .1) (accepted-counted _ (p .0)) (p .1 .1 .1) (sym (asked .has .ensures) ∙ left .if1 .left) _ (stored .with .ensures),
+      c .after-name .ensures .1,
+    )
 
 pub +after-name+read-names-spec : {M : Type 1} → statement M
 +after-name+read-names-spec = close μ-after-name μ-read-names (λ t. after-name-lts.spec (after-name-calls t)
@@ -194,7 +197,6 @@ pub +after-name+read-names-spec : {M : Type 1} → statement M
     after-name.Post
     (after-name-add-read-names t)
     (after-name-read-names-requires t)
-    (after-name-same-length t)
     (after-name-returns t)
     (after-name-returns-2 t))
     λ t. read-names-lts.spec (read-names-calls t)
@@ -209,12 +211,11 @@ pub +after-name+read-names-spec : {M : Type 1} → statement M
     (read-names-enum-told t)
     (read-names-returns t)
     (read-names-mul-w t)
-    (read-names-slice-read-w t)
+    (read-names-element-copy-out-w t)
     (read-names-has-requires t)
     (read-names-returns-2 t)
     (read-names-with-requires t)
     (read-names-mul-words t)
-    (read-names-slice-write-words t)
+    (read-names-element-write-words t)
     (read-names-after-name-requires t)
-    (read-names-same-length t)
     (read-names-returns-3 t)

@@ -12,9 +12,6 @@ sub-fill c = search needs
 fill-requires : tie.Need-fill-requires
 fill-requires c κs = accepted-counted _ (c .before .before .before .before .pre .0)
 
-slice-aggregate-read-names : tie.Need-slice-aggregate-read-names
-slice-aggregate-read-names c = search needs
-
 read-names-requires : tie.Need-read-names-requires
 read-names-requires c κs = search needs
 
@@ -27,9 +24,9 @@ list-read-requires c κs = search needs
 returns : tie.Need-returns
 unfolding joined
 returns c =
-    let names = c .before .before .before in
+    let names = c .before .before in
     let begun = names .before .before .before .before .before in
-    c .list-read .ensures ∙ names .read-names .ensures ∙ list-begun _ _ _ _ (begun .if1 .taken)
+    c .list-read .ensures ∙ names .read-names .ensures .0 ∙ list-begun _ _ _ _ (begun .if1 .taken)
 
 none-requires : tie.Need-none-requires
 none-requires c κs = search needs
@@ -43,7 +40,6 @@ read-list-spec =
     (tie.spec
     sub-fill
     fill-requires
-    slice-aggregate-read-names
     read-names-requires
     slice-aggregate-list-read
     list-read-requires

@@ -52,7 +52,8 @@ returns-2 c =
     let start = stop .before .before .before .before in
     c .read-groups .ensures
     ∙ rw (c .before .word .ensures)
-    (sets-read _ _ _ _ _ (stop .before .if1 .left) (ends .0) (ends .1 .1) (accepted-counted _ (start .pre .0)) _ _ (read .names .given .1) (list .read-list .ensures))
+    (sets-read _ _ _ _ _ (stop .before .if1 .left) (ends .0) (ends .1 .1) (accepted-counted _ (start .pre .0)) _ _
+    (read .names .given .1) (list .read-list .ensures))
 
 returns-3 : tie.Need-returns-3
 returns-3 c =

@@ -14,8 +14,8 @@ use Rattle.header.specs.Layout.{editionNamed, profileNamed}
 use Rattle.records.specs.Rules.{runRecords}
 use Rattle.writing.specs.declared.answers.LentCheck.the-variants.{Fault}
 use Rattle.writing.specs.declared.answers.LentFault.the-variants.{Layout}
-use Rattle.writing.specs.Lent.{bytesBy, lentRecords, lentCounts, lentLayoutRule, recordsCheck, lentCheck}
-use Rattle.writing.proofs.LentLayout.{layout-means, limited-sets}
+use Rattle.writing.specs.Lent.{LentParts, bytesBy, lentRecords, lentCounts, lentLayoutRule, recordsCheck, lentCheck}
+use Rattle.writing.proofs.LentLayout.{layout-means, limited-sets, limited-levels}
 use Rattle.writing.proofs.checking.lent_check.Statement.{statement}
 use Rattle.writing.proofs.checking.lent_check.Tie as tie
 
@@ -71,8 +71,18 @@ existing-by-requires c κs =
 records-check-requires : tie.Need-records-check-requires
 records-check-requires c κs =
     let counted = c .before in
+    let named = counted .before .before in
+    let passed = named .before in
+    let fit = passed .before in
+    let a = fit .before .before .before .before .args in
+    let bytes = bytesBy (a .components .now) (a .labels .now) (a .users .now) in
+    let held = layout-means (a .edition) (a .profile) bytes (sym (fit .layout-fits .ensures) ∙ not-false _ (passed .if1 .left)) in
     let is = c .existing-by .ensures .1 ∙ counted .lent-counts .ensures in
-    (c .existing-by .ensures .0, own-counts _ _ _ _ is)
+    let named-is = is
+    ∙ ap₂ (λ (e : Edition) (p : Profile). lentCounts e p (runRecords 40 (a .components .now))) (named .edition-named .ensures) (counted .before .profile-named .ensures) in (
+      (c .existing-by .ensures .0, own-counts _ _ _ _ is),
+      subst (λ (m : Counts). (m .levels ≤ 256) × LentParts (m .edition) bytes) (sym named-is) (limited-levels _ _ _ (held .limited), held .whole),
+    )
 
 returns-2 : tie.Need-returns-2
 returns-2 c =

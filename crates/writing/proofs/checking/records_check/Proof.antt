@@ -40,7 +40,9 @@ module _ (n : Counts) (kind : Kind) (bytes : List ℕ) (size r : ℕ) (told : si
   none-told h = told-after (Record kind) after r (length bytes / size) count place h
 
 first-bad-requires : tie.Need-first-bad-requires
-first-bad-requires c κs = search needs
+first-bad-requires c κs =
+    let start = c .before .before .before .before in
+    ((start .pre .0 .0, start .pre .1 .0), start .pre .1 .1 Component)
 
 returns : tie.Need-returns
 unfolding recordsCheck
@@ -50,7 +52,9 @@ returns c =
     sym (bad-told (a .existing .counts) Component (a .components .now) 40 _ refl (found .first-bad .ensures) _ (c .if1 .taken))
 
 first-bad-requires-2 : tie.Need-first-bad-requires-2
-first-bad-requires-2 c κs = search needs
+first-bad-requires-2 c κs =
+    let start = c .before .before .before .before .before .before in
+    ((start .pre .0 .0, start .pre .1 .0), start .pre .1 .1 Label)
 
 size-requires : tie.Need-size-requires
 size-requires c κs = search needs
@@ -74,7 +78,9 @@ returns-2 c =
     ∙ bad-told n Label (a .labels .now) _ _ (sized .size .ensures) (found .first-bad2 .ensures) _ (c .if2 .taken))
 
 first-bad-requires-3 : tie.Need-first-bad-requires-3
-first-bad-requires-3 c κs = search needs
+first-bad-requires-3 c κs =
+    let start = c .before .before .before .before .before .before .before .before .before in
+    ((start .pre .0 .0, start .pre .1 .0), start .pre .1 .1 User)
 
 size-requires-2 : tie.Need-size-requires-2
 size-requires-2 c κs = search needs
