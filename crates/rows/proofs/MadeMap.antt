@@ -1,7 +1,7 @@
 -- The map of a session, made into a buffer that has room for any: by it the same rows count as by verdicts. Assumes nothing.
 use Prim.Native.Nat.{ℕ, zero, suc, _+_, _-_, _≤_}
 use mathlib.Core.Path.{_≡_, refl, ap₂, _∙_}
-use mathlib.Core.Bool.{Bool}
+use mathlib.Core.Bool.{Bool, true}
 use mathlib.Core.List.{List, [], _∷_}
 use native.Mathlib.Nat.{sub-zero}
 use native.Mathlib.Omega.{arith}
@@ -12,7 +12,7 @@ use Rattle.image.specs.Check.{IsAccepted}
 use Rattle.image.proofs.Accepted.{accepted-counted}
 use Rattle.access.specs.Rights.{Rights}
 use Rattle.access.specs.Verdicts.{unknownRead}
-use Rattle.maps.specs.Map.{mapOf}
+use Rattle.maps.specs.Map.{mapOf, mapRule}
 use Rattle.maps.proofs.Bits.{map-long, map-at-most, rule-holds, rule-enough}
 use Rattle.rows.specs.Run.{offsetOf}
 use Rattle.rows.specs.Table.{rowTag, rowReadable}
@@ -30,6 +30,9 @@ module _ (im : List ℕ) (rights : Rights) (acc : IsAccepted im) where
 
     made-is : take (end - 0) (drop 0 after) ≡ mapOf im rights
     made-is = rw sub-zero (written-taken fits written)
+
+    pub made-right : mapRule im rights (take (end - 0) (drop 0 after)) ≡ true
+    made-right = rw made-is (rule-holds im rights)
 
     pub made-mapping : Mapping im (take (end - 0) (drop 0 after))
     made-mapping = record { accepted = acc; enough = rw made-is (rule-enough im rights (mapOf im rights) (rule-holds im rights)) }

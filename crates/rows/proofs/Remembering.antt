@@ -1,5 +1,5 @@
 -- Slots that hold right answers. Assumes nothing.
-use Prim.Native.Nat.{ℕ, _/_, _%_, _<_}
+use Prim.Native.Nat.{ℕ, _/_, _%_, _≤_, _<_}
 use mathlib.Core.Path.{_≡_, refl, sym, ap, _∙_}
 use mathlib.Core.Bool.{Bool, true, false}
 use mathlib.Core.List.{List}
@@ -13,7 +13,7 @@ use Rattle.header.specs.Layout.{labels, labelRecord}
 use Rattle.records.specs.Fields.{tagOf}
 use Rattle.image.specs.Check.{IsAccepted}
 use Rattle.image.specs.Lookup.{labelOfTag}
-use Rattle.image.proofs.Policy.{label-found, tag-outside}
+use Rattle.image.proofs.Policy.{label-kept, label-found, label-carries, tag-outside}
 use Rattle.access.specs.Verdicts.{knownTag}
 use Rattle.maps.specs.Map.{bitOf}
 use Rattle.rows.specs.Mapped.{tagMapped}
@@ -37,22 +37,18 @@ module _ (im bits : List ℕ) (unknown : Bool) where
 
   -- ---- slots
   -- one more right entry
-  pub remembered-set : (slots : List ℕ) → Remembered im bits unknown slots → (slot entry : ℕ) → slot < length slots → Told im bits unknown entry
+  pub remembered-set : (slots : List ℕ) → Remembered im bits unknown slots → (slot entry : ℕ) → slot < 3120 → Told im bits unknown entry
       → Remembered im bits unknown (set slots slot entry)
   remembered-set slots r slot entry inside told =
-      record { told = λ k h. at k (rw (length-set slots slot entry) at h) (eqb slot k) refl }
+      record { long = length-set slots slot entry ∙ r .long; told = λ k h. at k h (eqb slot k) refl }
     where
-      at : (k : ℕ) → k < length slots → (t : Bool) → eqb slot k ≡ t → Told im bits unknown (getD (set slots slot entry) k 0)
+      at : (k : ℕ) → k < 3120 → (t : Bool) → eqb slot k ≡ t → Told im bits unknown (getD (set slots slot entry) k 0)
       at k h true e =
           let here : getD (set slots slot entry) k 0 ≡ entry =
           ap (λ (i : ℕ). getD (set slots slot entry) i 0) (sym (eqb-true slot k e))
-          ∙ getD-set-same slots slot entry 0 inside in
+          ∙ getD-set-same slots slot entry 0 (omega (arith, r .long)) in
           rw here told
       at k h false e = rw (getD-set-other slots slot k entry 0 (λ q. eqb-false slot k e (sym q))) (r .told k h)
-
-  -- no slots at all
-  pub remembered-none : (slots : List ℕ) → length slots ≡ 0 → Remembered im bits unknown slots
-  remembered-none slots none = record { told = λ k h. absurd (omega (arith, none)) }
 
   module _ (acc : IsAccepted im) where
     -- a tag that no label carries has the answer for unknown tags; 0 is one
@@ -61,17 +57,30 @@ module _ (im bits : List ℕ) (unknown : Bool) where
     zero-told = rw (le-ltb _ _ (tag-outside im acc 0 (λ h. absurd (omega arith))))
 
     -- so free slots are right
-    pub remembered-free : (n : ℕ) → Remembered im bits unknown (replicate n (boolByte unknown))
-    remembered-free n =
+    pub remembered-free : Remembered im bits unknown (replicate 3120 (boolByte unknown))
+    remembered-free =
         record {
-          told =
-              λ k h.
-              rw
-              (getD-replicate n k (boolByte unknown) 0 (rw (length-replicate n (boolByte unknown)) at h))
-              (told-made (boolByte unknown) 0 unknown (free unknown) (sym zero-told));
+          long = length-replicate 3120 (boolByte unknown);
+          told = λ k h. rw (getD-replicate 3120 k (boolByte unknown) 0 h) (told-made (boolByte unknown) 0 unknown (free unknown) (sym zero-told));
         }
 
     -- the answer on the tag of a label record is its bit
     pub record-told : (p : ℕ) → p < labels im → bitOf bits p ≡ tagMapped im bits unknown (tagOf (labelRecord im p))
     unfolding tagMapped knownTag
     record-told p h = rw (label-found im acc p h, lt-ltb p (labels im) h)
+
+  -- ---- what the look-up of a tag tells
+  module _ (tag p : ℕ) (is : p ≡ labelOfTag im tag) where
+    pub known-told : p < labels im → bitOf bits p ≡ tagMapped im bits unknown tag
+    unfolding tagMapped knownTag
+    known-told h = rw (← is, lt-ltb p (labels im) h)
+
+    pub unknown-told : labels im ≤ p → unknown ≡ tagMapped im bits unknown tag
+    unfolding tagMapped knownTag
+    unknown-told h = rw (← is, le-ltb p (labels im) h)
+
+    -- the tag of a label leaves room for the answer
+    pub known-small : IsAccepted im → p < labels im → tag < 2147483648
+    known-small acc h =
+        let inside : labelOfTag im tag < labels im = rw (← is) h in
+        omega (arith, label-kept im acc (labelOfTag im tag) inside .tagLimit, label-carries im tag inside)

@@ -13,4 +13,5 @@ Told im bits unknownSeen entry = tagMapped im bits unknownSeen (entry / 2) ≡ e
 
 -- every entry tells what holds of its tag; a free one is below 2, and so tells what holds of tag 0
 pub record Remembered (im bits : List ℕ) (unknownSeen : Bool) (slots : List ℕ) : Type 0 where
-  pub told : (k : ℕ) → k < length slots → Told im bits unknownSeen (getD slots k 0)
+  pub long : length slots ≡ 3120
+  pub told : (k : ℕ) → k < 3120 → Told im bits unknownSeen (getD slots k 0)

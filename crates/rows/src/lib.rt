@@ -1,5 +1,6 @@
 // A table's rows under a session: reads, reads by a map, updates and masked reads. Every call checks the image, the session and the table's shape.
 pub mod answers;
+mod few;
 mod mapped;
 mod masking;
 mod offsets;
@@ -18,7 +19,6 @@ ghost use Rattle.rows.specs.Mapped.{readMappedOf};
 ghost use Rattle.rows.specs.Updating.{updateRowOf};
 ghost use Rattle.rows.specs.Masked.{maskedVerdictOf, maskedPart};
 ghost use Rattle.rows.specs.Scan.{TableGives};
-use access::verdicts::unknown_read;
 use answers::RowsRead;
 use hierarchy::table;
 use maps::given::is_map;
@@ -94,8 +94,7 @@ pub fn read_mapped(
             if !is_map(image, view, bits) {
                 return RowsRead::Refused(Refusal::WrongMap);
             }
-            let unknown = unknown_read(image, view);
-            mapped::read_by_map(image, bits, unknown, run_of(table, width), width, buffer)
+            reading::read_judged(image, view, bits, run_of(table, width), width, buffer)
         }
         Lent::Refused(refusal) => RowsRead::Refused(refusal),
     }

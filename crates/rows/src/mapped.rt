@@ -11,9 +11,13 @@ ghost use Rattle.rows.specs.Reading.{handedOut};
 ghost use Rattle.rows.specs.Scan.{keptBytes, MappedRun};
 ghost use Rattle.rows.specs.Slots.{Remembered};
 use crate::answers::RowsRead;
+use crate::few::few_by_map;
 use crate::remembered::fill_for;
 use crate::remembered::is_mapped;
+use crate::slots::Slots;
+use crate::slots::seek;
 use buffers::given::put;
+use fields::numbers::number4;
 use refusals::Refusal;
 
 // How many bytes the rows have that are handed out.
@@ -21,7 +25,7 @@ fn mapped_length(
     image: &[u8],
     bits: &[u8],
     unknown: bool,
-    slots: &mut [u32],
+    slots: &mut Slots,
     run: &[u8],
     width: usize,
 ) -> usize
@@ -33,7 +37,9 @@ fn mapped_length(
     let mut at = 0;
     while at < run.len() {
         let end = at + width;
-        if is_mapped(image, bits, unknown, slots, &run[at..end]) {
+        let tag = number4(&run[at..end], 0);
+        let slot = seek(slots, tag);
+        if is_mapped(image, bits, unknown, slots, slot, tag) {
             n += width;
         }
         at = end;
@@ -46,7 +52,7 @@ fn mapped_fits(
     image: &[u8],
     bits: &[u8],
     unknown: bool,
-    slots: &mut [u32],
+    slots: &mut Slots,
     run: &[u8],
     width: usize,
     room: usize,
@@ -66,7 +72,7 @@ fn copy_mapped(
     image: &[u8],
     bits: &[u8],
     unknown: bool,
-    slots: &mut [u32],
+    slots: &mut Slots,
     run: &[u8],
     width: usize,
     buffer: &mut [u8],
@@ -81,7 +87,9 @@ fn copy_mapped(
     while at < run.len() {
         let end = at + width;
         let row = &run[at..end];
-        if is_mapped(image, bits, unknown, slots, row) {
+        let tag = number4(row, 0);
+        let slot = seek(slots, tag);
+        if is_mapped(image, bits, unknown, slots, slot, tag) {
             to = put(row, buffer, to);
         }
         at = end;
@@ -89,28 +97,28 @@ fn copy_mapped(
     to
 }
 
-// 13 where they are longer than the buffer: then no byte is written.
-fn read_remembering(
+// One array serves the counting and the copying.
+fn many_by_map(
     image: &[u8],
     bits: &[u8],
     unknown: bool,
-    slots: &mut [u32],
     run: &[u8],
     width: usize,
     buffer: &mut [u8],
 ) -> RowsRead
     requires { ⌜ MappedRun (now image) (now bits) (now run) width ⌝ }
-    requires { ⌜ Remembered (now image) (now bits) unknown (now slots) ⌝ }
     ensures { λ r. ⌜ (r, now (buffer .exit)) ≡ handedOut (kept (rowMapped (now (image .entry)) (now (bits .entry)) unknown) (runRows (now (run .entry)) width)) (now (buffer .entry)) ⌝ }
 {
-    if !mapped_fits(image, bits, unknown, slots, run, width, buffer.len()) {
+    let mut slots = [unknown as u32; 3120];
+    fill_for(image, bits, unknown, &mut slots, run.len() / width);
+    if !mapped_fits(image, bits, unknown, &mut slots, run, width, buffer.len()) {
         return RowsRead::Refused(Refusal::Room);
     }
-    let end = copy_mapped(image, bits, unknown, slots, run, width, buffer);
+    let end = copy_mapped(image, bits, unknown, &mut slots, run, width, buffer);
     RowsRead::Done(end / width)
 }
 
-// The same with nothing remembered before. Over few rows no slots are lent, and each row is asked: clearing the slots would cost more than they save.
+// 13 where they are longer than the buffer: then no byte is written.
 pub fn read_by_map(
     image: &[u8],
     bits: &[u8],
@@ -122,14 +130,10 @@ pub fn read_by_map(
     requires { ⌜ MappedRun (now image) (now bits) (now run) width ⌝ }
     ensures { λ r. ⌜ (r, now (buffer .exit)) ≡ handedOut (kept (rowMapped (now (image .entry)) (now (bits .entry)) unknown) (runRows (now (run .entry)) width)) (now (buffer .entry)) ⌝ }
 {
-    let rows = run.len() / width;
-    if rows < 64 {
-        let mut none = [0u32; 1];
-        return read_remembering(image, bits, unknown, &mut none[0..0], run, width, buffer);
+    if run.len() / width < 64 {
+        return few_by_map(image, bits, unknown, run, width, buffer);
     }
-    let mut slots = [unknown as u32; 3120];
-    fill_for(image, bits, unknown, &mut slots, rows);
-    read_remembering(image, bits, unknown, &mut slots, run, width, buffer)
+    many_by_map(image, bits, unknown, run, width, buffer)
 }
 
 // The offset of the n-th row that is handed out; the run's length where there is none.
@@ -137,7 +141,7 @@ fn nth_mapped(
     image: &[u8],
     bits: &[u8],
     unknown: bool,
-    slots: &mut [u32],
+    slots: &mut Slots,
     run: &[u8],
     width: usize,
     n: usize,
@@ -150,7 +154,9 @@ fn nth_mapped(
     let mut at = 0;
     while at < run.len() {
         let end = at + width;
-        if is_mapped(image, bits, unknown, slots, &run[at..end]) {
+        let tag = number4(&run[at..end], 0);
+        let slot = seek(slots, tag);
+        if is_mapped(image, bits, unknown, slots, slot, tag) {
             if left == 0 {
                 return at;
             }

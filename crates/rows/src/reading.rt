@@ -3,6 +3,8 @@ ghost use mathlib.Core.Path.{_≡_};
 ghost use lib.Dec.{leb};
 ghost use lib.ListN.{length};
 ghost use Rattle.access.specs.Rights.{rightsOf};
+ghost use mathlib.Core.Bool.{true};
+ghost use Rattle.maps.specs.Map.{mapRule};
 ghost use Rattle.rows.specs.Run.{IsRun, kept, runRows};
 ghost use Rattle.rows.specs.Table.{rowReadable};
 ghost use Rattle.rows.specs.Reading.{handedOut};
@@ -52,6 +54,24 @@ fn read_whole(run: &[u8], width: usize, buffer: &mut [u8]) -> RowsRead
     RowsRead::Done(end / width)
 }
 
+// By bytes that are judged to be the map. Whoever sees rows of unknown tags sees every row.
+pub fn read_judged(
+    image: &[u8],
+    view: View,
+    bits: &[u8],
+    run: &[u8],
+    width: usize,
+    buffer: &mut [u8],
+) -> RowsRead
+    requires { ⌜ Usable (now image) (now run) width × (mapRule (now image) (rightsOf view) (now bits) ≡ true) ⌝ }
+    ensures { λ r. ⌜ (r, now (buffer .exit)) ≡ handedOut (kept (rowReadable (now (image .entry)) (rightsOf view)) (runRows (now (run .entry)) width)) (now (buffer .entry)) ⌝ }
+{
+    if unknown_read(image, view) {
+        return read_whole(run, width, buffer);
+    }
+    read_by_map(image, bits, false, run, width, buffer)
+}
+
 // A verdict is asked of each label once, as a map of the session. By it, the read is the same.
 fn read_many(image: &[u8], view: View, run: &[u8], width: usize, buffer: &mut [u8]) -> RowsRead
     requires { ⌜ Usable (now image) (now run) width ⌝ }
@@ -59,12 +79,10 @@ fn read_many(image: &[u8], view: View, run: &[u8], width: usize, buffer: &mut [u
 {
     let mut made = [0u8; 210];
     let end = put_map(image, view, &mut made);
-    let unknown = unknown_read(image, view);
-    read_by_map(image, &made[0..end], unknown, run, width, buffer)
+    read_judged(image, view, &made[0..end], run, width, buffer)
 }
 
-// 13 where the readable rows are longer than the buffer: then no byte is written. Whoever sees rows of unknown tags sees every row; a map pays
-// from some dozens of rows on.
+// 13 where the readable rows are longer than the buffer: then no byte is written. A map pays from some hundreds of rows on.
 pub fn read_accepted(
     image: &[u8],
     view: View,
@@ -78,7 +96,7 @@ pub fn read_accepted(
     if unknown_read(image, view) {
         return read_whole(run, width, buffer);
     }
-    if run.len() / width < 64 {
+    if run.len() / width < 256 {
         return read_few(image, view, run, width, buffer);
     }
     read_many(image, view, run, width, buffer)

@@ -1,27 +1,26 @@
 // Answers by tag that a call remembers while it goes over a table. Each entry that stands here is right, and nothing more is claimed: a tag that is
 // not found is asked of the image. So which tags are kept, and where, is a matter of speed alone.
-//
-// An entry is twice a tag, and 1 more where rows of the tag are handed out. One below 2 is free: it tells of tag 0, which no label carries. There are
-// 3,120 slots, or none where nothing is remembered.
-ghost use Prim.Native.Nat.{_/_, _%_, _<_, _≤_};
+ghost use Prim.Native.Nat.{_/_, _%_, _<_};
 ghost use mathlib.Core.Path.{_≡_};
 ghost use lib.Dec.{eqb};
 ghost use lib.ListN.{length};
 
-// The tag's own slot. Those from 3,072 on are nobody's own: with them a search for a tag needs no turn back to the first slot.
+// An entry is twice a tag, and 1 more where rows of the tag are handed out. One below 2 is free: it tells of tag 0, which no label carries.
+pub type Slots = [u32; 3120];
+
+// The tag's own slot. The last 48 are nobody's own: with them a search for a tag needs no turn back to the first slot.
 fn slot_of(tag: u32) -> usize
     ensures { λ r. ⌜ r < 3072 ⌝ }
 {
     ((tag as u64) * 2654435769 % 4294967296 * 3072 / 4294967296) as usize
 }
 
-// From the tag's own slot on the first that holds the tag or is free; its own where 24 hold others.
-pub fn seek(slots: &[u32], tag: u32) -> usize
-    requires { ⌜ 3120 ≤ length (now slots) ⌝ }
+// From the tag's own slot on the first that holds the tag or is free; its own where 48 hold others.
+pub fn seek(slots: &Slots, tag: u32) -> usize
     ensures { λ r. ⌜ r < 3120 ⌝ }
 {
     let own = slot_of(tag);
-    let end = own + 24;
+    let end = own + 48;
     let mut slot = own;
     while slot < end {
         let entry = slots[slot];
@@ -34,6 +33,13 @@ pub fn seek(slots: &[u32], tag: u32) -> usize
         slot += 1;
     }
     own
+}
+
+// One of the last 48, for a tag that no label carries. There such tags stand in the way of no label's: a table may be full of them.
+pub fn spare_of(tag: u32) -> usize
+    ensures { λ r. ⌜ r < 3120 ⌝ }
+{
+    3072 + (tag % 48) as usize
 }
 
 // The entry for a tag that leaves room for the answer.

@@ -1,12 +1,12 @@
 use mathlib.Core.Path.{sym, _∙_}
 use borrow.Author.Tests.{not-true, not-false}
 use borrow.Author.Needs.{needs}
-use Rattle.header.proofs.Inside.{header-inside}
 use Rattle.image.proofs.Accepted.{accepted-counted}
-use Rattle.maps.proofs.Bits.{rule-enough}
-use Rattle.rows.specs.Table.{rowsOf}
-use Rattle.rows.specs.Mapped.{mappedRows, readMappedOf}
+use Rattle.sessions.specs.Session.{sessionOf}
+use Rattle.rows.specs.Table.{rowsOf, readableRows}
+use Rattle.rows.specs.Mapped.{readMappedOf}
 use Rattle.rows.proofs.Held.{held-means}
+use Rattle.rows.proofs.ByMap.{mapped-plain}
 use Rattle.rows.proofs.Giving.{table-at, call-refused}
 use Rattle.rows.proofs.read_mapped.Statement.{statement}
 use Rattle.rows.proofs.read_mapped.Tie as tie
@@ -30,26 +30,17 @@ returns c =
     let g = table-at _ _ _ _ _ _ (found .found .given .1) (found .before .before .table-rights .ensures) in
     rw (g .0, ← g .1 .1, sym (c .before .is-map .ensures) ∙ not-true _ (c .if1 .taken))
 
-unknown-read-requires : tie.Need-unknown-read-requires
-unknown-read-requires c κs =
-    let found = c .before .before .before in
-    let usable = table-at _ _ _ _ _ _ (found .found .given .1) (found .before .before .table-rights .ensures) .1 .0 in
-    header-inside _ (accepted-counted _ (usable .accepted) .fitted)
-
 run-of-requires : tie.Need-run-of-requires
 run-of-requires c κs = search needs
 
-read-by-map-requires : tie.Need-read-by-map-requires
-read-by-map-requires c κs =
+read-judged-requires : tie.Need-read-judged-requires
+read-judged-requires c κs =
     let run = c .before in
-    let judged = run .before .before in
+    let judged = run .before in
     let found = judged .before .before .before in
     let usable = table-at _ _ _ _ _ _ (found .found .given .1) (found .before .before .table-rights .ensures) .1 .0 in
     let is = sym (judged .before .is-map .ensures) ∙ not-false _ (judged .if1 .left) in
-    record {
-      mapping = record { accepted = usable .accepted; enough = rule-enough _ _ _ is };
-      whole = held-means _ _ (usable .rule) _ (run .run-of .ensures);
-    }
+    (record { accepted = usable .accepted; whole = held-means _ _ (usable .rule) _ (run .run-of .ensures) }, is)
 
 enum-known-found-2 : tie.Need-enum-known-found-2
 enum-known-found-2 c = search needs
@@ -58,15 +49,18 @@ same-length : tie.Need-same-length
 same-length c = search needs
 
 returns-2 : tie.Need-returns-2
-unfolding readMappedOf mappedRows rowsOf
+unfolding readableRows rowsOf
 returns-2 c =
     let read = c .before .before in
     let run = read .before .before in
-    let judged = run .before .before in
+    let judged = run .before in
     let found = judged .before .before .before in
-    let g = table-at _ _ _ _ _ _ (found .found .given .1) (found .before .before .table-rights .ensures) in
+    let rights = found .before .before in
+    let a = rights .before .before .before .before .before .args in
+    let g = table-at _ _ _ _ _ _ (found .found .given .1) (rights .table-rights .ensures) in
     let is = sym (judged .before .is-map .ensures) ∙ not-false _ (judged .if1 .left) in
-    rw (g .0, ← g .1 .1, is, ← run .before .unknown-read .ensures, ← run .run-of .ensures) (read .read-by-map .ensures)
+    let plain = mapped-plain (a .image .now) (sessionOf (a .session)) (a .table .now) (a .width) (a .bits .now) (a .buffer .now) in
+    rw (plain, g .0, ← g .1 .1, is, ← run .run-of .ensures) (read .read-judged .ensures)
 
 returns-3 : tie.Need-returns-3
 unfolding readMappedOf
@@ -80,9 +74,8 @@ read-mapped-spec =
     enum-known-found
     is-map-requires
     returns
-    unknown-read-requires
     run-of-requires
-    read-by-map-requires
+    read-judged-requires
     enum-known-found-2
     same-length
     returns-2

@@ -10,7 +10,7 @@ use Rattle.rows.proofs.mapped.mapped_fits.Tie as tie
 
 returns : tie.Need-returns
 returns c =
-    let start = c .before .before .before .before .before in
+    let start = c .before .before .before .before in
     let a = start .args in
     let short = kept-bytes-short (rowMapped (a .image .now) (a .bits .now) (a .unknown)) _ _ (start .pre .0 .whole) in
     (sym (le-leb _ _ (le-trans short (omega arith))), start .pre .1)
@@ -18,11 +18,8 @@ returns c =
 mapped-length-requires : tie.Need-mapped-length-requires
 mapped-length-requires c κs = search needs
 
-same-length : tie.Need-same-length
-same-length c = search needs
-
 returns-2 : tie.Need-returns-2
-returns-2 c = (rw (c .before .before .mapped-length .ensures .0), c .before .before .mapped-length .ensures .1)
+returns-2 c = (rw (c .mapped-length .ensures .0), c .mapped-length .ensures .1)
 
 pub mapped-fits-spec : {M : Type 1} → statement M
-mapped-fits-spec = tie.close (tie.spec returns mapped-length-requires same-length returns-2)
+mapped-fits-spec = tie.close (tie.spec returns mapped-length-requires returns-2)

@@ -1,4 +1,3 @@
-use native.Mathlib.Omega.{arith}
 use borrow.Author.Needs.{needs}
 use Rattle.rows.proofs.Remembering.{remembered-free}
 use Rattle.rows.proofs.mapped.nth_by_map.Statement.{statement}
@@ -7,16 +6,10 @@ use Rattle.rows.proofs.mapped.nth_by_map.Tie as tie
 cast-slots : tie.Need-cast-slots
 cast-slots c = search needs
 
-slice-aggregate-fill-for : tie.Need-slice-aggregate-fill-for
-slice-aggregate-fill-for c = search needs
-
 fill-for-requires : tie.Need-fill-for-requires
 fill-for-requires c κs =
     let pre = c .before .before .before .before .pre in
-    ((pre .mapping, omega arith), remembered-free _ _ _ (pre .mapping .accepted) 3120)
-
-slice-aggregate-nth-mapped : tie.Need-slice-aggregate-nth-mapped
-slice-aggregate-nth-mapped c = search needs
+    (pre .mapping, remembered-free _ _ _ (pre .mapping .accepted))
 
 nth-mapped-requires : tie.Need-nth-mapped-requires
 nth-mapped-requires c κs = search needs
@@ -25,12 +18,4 @@ returns : tie.Need-returns
 returns c = search needs
 
 pub nth-by-map-spec : {M : Type 1} → statement M
-nth-by-map-spec =
-    tie.close
-    (tie.spec
-    cast-slots
-    slice-aggregate-fill-for
-    fill-for-requires
-    slice-aggregate-nth-mapped
-    nth-mapped-requires
-    returns)
+nth-by-map-spec = tie.close (tie.spec cast-slots fill-for-requires nth-mapped-requires returns)

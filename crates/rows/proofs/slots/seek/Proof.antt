@@ -22,8 +22,8 @@ loop-holds c = omega arith
 mul-entry : tie.Need-mul-entry Inv-loop μ-loop
 mul-entry c = omega arith
 
-shared-slice-read-entry : tie.Need-shared-slice-read-entry Inv-loop μ-loop
-shared-slice-read-entry c = omega arith
+element-copy-out-entry : tie.Need-element-copy-out-entry Inv-loop μ-loop
+element-copy-out-entry c = search needs
 
 returns : tie.Need-returns Inv-loop μ-loop
 returns c = omega arith
@@ -53,7 +53,7 @@ seek-spec =
     add-end
     loop-holds
     mul-entry
-    shared-slice-read-entry
+    element-copy-out-entry
     returns
     returns-2
     add-slot
