@@ -67,7 +67,8 @@ module _ (count : ℕ) (table : List ℕ) (all : OrderedBy count table) (s i g p
           ap (λ (x : ℕ). ltb q count && has x b) other ∙ sym (or-false (ltb q count && has (getD rows q 0) b))
           ∙ sym (ap (λ (v : Bool). ltb q count && has (getD rows q 0) b || (v && t)) k)
 
-  parent-row : (t : Bool) → ltb p count ≡ t → (p < count → has (column count rows b) p ≡ has (rowAbove count rows p) b) × (has (rowAbove count rows p) b ≡ true → p < count)
+  parent-row : (t : Bool) → ltb p count ≡ t → (p < count → has (column count rows b) p ≡ has (rowAbove count rows p) b)
+      × (has (rowAbove count rows p) b ≡ true → p < count)
   unfolding rowAbove
   parent-row true e = (
     λ h. column-group count rows b p h ∙ sym (ap (λ (t : Bool). has (cond t (getD rows p 0) 0) b) e),

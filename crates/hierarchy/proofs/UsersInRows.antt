@@ -203,7 +203,8 @@ module _ (im table : List ℕ) (count : ℕ) (is : count ≡ groups im) (tree : 
       → belowSets (forestBy count table) (userSet im readGroups u) (userSet im writeGroups u) (userSet im defaultGroups u) (userSet im rowGroups u)
       ≡ groupSetsRule im u
   by-user u l =
-      rw (user-there im u readGroups l, user-there im u writeGroups l, user-there im u defaultGroups l, user-there im u rowGroups l) (in-image (userRecord im u))
+      rw (user-there im u readGroups l, user-there im u writeGroups l, user-there im u defaultGroups l, user-there im u rowGroups l) (in-image
+      (userRecord im u))
       ∙ ap (groupSetsIn (countsOf im) (recordsOf im Component)) (sym (user-record im u l))
 
   -- users whose sets lie within one another as they stand are good
@@ -268,7 +269,8 @@ module _ (im table : List ℕ) (count : ℕ) (is : count ≡ groups im) (tree : 
     rows-bad h =
         let there = inside (ltb (from + i) (users im)) refl in
         sym (first-bad-users im
-        ∙ bad-is (groupSetsRule im) (users im) 0 (from + i) (omega arith) (omega (arith, there)) (λ u low k. good-until u k (omega arith) (omega (arith, there)))
+        ∙ bad-is (groupSetsRule im) (users im) 0 (from + i) (omega arith) (omega (arith, there))
+        (λ u low k. good-until u k (omega arith) (omega (arith, there)))
         (sym (user-rule i h there) ∙ bad))
       where
         bad : rowsRule f first second i ≡ false
@@ -284,5 +286,6 @@ module _ (im table : List ℕ) (count : ℕ) (is : count ≡ groups im) (tree : 
 pub rows-end : (im : List ℕ) (from n : ℕ) → n ≡ users im → n ≤ from → ((u : ℕ) → u < from → u < users im → groupSetsRule im u ≡ true)
     → n ≡ firstBadBelow im
 rows-end im from n is h good =
-    let all : firstBad (groupSetsRule im) (users im) 0 ≡ 0 + users im = all-good (groupSetsRule im) (users im) 0 (λ u low l. good u (omega (arith, is)) (omega arith)) in
+    let all : firstBad (groupSetsRule im) (users im) 0 ≡ 0 + users im =
+    all-good (groupSetsRule im) (users im) 0 (λ u low l. good u (omega (arith, is)) (omega arith)) in
     omega (arith, is, first-bad-users im, all)

@@ -9,7 +9,7 @@ use native.Mathlib.Numerals.{add-one}
 use native.Mathlib.Omega.{arith}
 use borrow.Author.Tests.{ltb-true, ltb-false, eqb-true, eqb-false, lt-ltb, le-ltb}
 use lib.Arith.{bin-ind, digits-div, digits-mod, dbl-pred, lt-of-le-ne}
-use lib.Bits.{bitAnd, bitOr, and-step, or-step, and-le-l, or-shifted-r}
+use lib.Bits.{bitAnd, bitOr, bitXor, differ, and-step, or-step, xor-step, and-le-l, or-shifted-r}
 use lib.Dec.{eqb, ltb, eqb·zero-suc, eqb·suc-zero, eqb·suc-suc, leb·suc-suc, leb·suc-zero}
 use lib.Pow.{pow-pos}
 use Rattle.sets.specs.Sets.{has, none, one, allBelow, union, intersection, difference, collect}
@@ -147,6 +147,15 @@ intersection-has a b p = digits-has bitAnd min (λ s t. s && t) and-step small p
     small : (x y : ℕ) → x < 2 → y < 2 → (min x y < 2) × (eqb (min x y) 1 ≡ (eqb x 1 && eqb y 1))
     small =
         pairs (λ (x y : ℕ). (min x y < 2) × (eqb (min x y) 1 ≡ (eqb x 1 && eqb y 1)))
+        (omega arith, refl) (omega arith, refl) (omega arith, refl) (omega arith, refl)
+
+-- the places of one of two sets alone
+pub apart-has : (a b p : ℕ) → has (bitXor a b) p ≡ cond (has a p) (not (has b p)) (has b p)
+apart-has a b p = digits-has bitXor differ (λ s t. cond s (not t) t) xor-step small p a b
+  where
+    small : (x y : ℕ) → x < 2 → y < 2 → (differ x y < 2) × (eqb (differ x y) 1 ≡ cond (eqb x 1) (not (eqb y 1)) (eqb y 1))
+    small =
+        pairs (λ (x y : ℕ). (differ x y < 2) × (eqb (differ x y) 1 ≡ cond (eqb x 1) (not (eqb y 1)) (eqb y 1)))
         (omega arith, refl) (omega arith, refl) (omega arith, refl) (omega arith, refl)
 
 pub intersection-both : (a b p : ℕ) → has (intersection a b) p ≡ true → (has a p ≡ true) × (has b p ≡ true)

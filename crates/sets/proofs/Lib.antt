@@ -7,7 +7,9 @@
 --     Words     a set and its words of 64 places: its places and bounds; each gives the other
 --     EachWord  operations, tests and the lowest place word by word, for any number of words
 --     Places    the places of a `Groups` value are below `width`
---     Squares   64 rows of 64 places, transposed in six stages
+--     FourRows  the loop of a stage of a transposition
+--     Masks     the masks of its steps
+--     Squares   64 rows of 64 places, transposed in six steps
 pub mod Has
 pub mod Within
 pub mod Meets
@@ -16,4 +18,6 @@ pub mod Lowest
 pub mod Words
 pub mod EachWord
 pub mod Places
+pub mod FourRows
+pub mod Masks
 pub mod Squares

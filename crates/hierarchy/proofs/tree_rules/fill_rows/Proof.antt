@@ -66,8 +66,11 @@ loop-again c =
     let turn = fit .before .before in
     let start = turn .before .before .before .before .before .before .before in
     let h : turn .before .loop .i < 32 = omega arith in
-    let good = sym (fit .sets-fit .ensures) ∙ not-false _ (put .before .before .before .if1 .left) in
-    (omega arith, fill-next _ _ _ _ _ _ _ _ _ h (turn .before .loop .inv .1) (fit .before .sets-or-none .ensures) (put .put-user .ensures) (start .pre .0 .1 .1) good)
+    let good = sym (fit .sets-fit .ensures) ∙ not-false _ (put .before .before .before .if1 .left) in (
+      omega arith,
+      fill-next _ _ _ _ _ _ _ _ _ h (turn .before .loop .inv .1) (fit .before .sets-or-none .ensures)
+          (put .put-user .ensures) (start .pre .0 .1 .1) good,
+    )
 
 same-length-3 : tie.Need-same-length-3 Inv-loop μ-loop
 same-length-3 c = search needs

@@ -110,7 +110,8 @@ returns-2 c =
     let start = counted .before .before .before .before in
     let loop = turn .before .loop in
     let so = filled .fill-rows .ensures (not-false _ (other .if1 .left)) in
-    rows-bad _ (start .args .table .now) _ (counted .groups .ensures .0) (start .pre .0 .1 .1) (start .pre .0 .1 .0 .0) _ _ _ so (loop .inv .1 .1) _ (ran .lowest-bad-user .ensures)
+    rows-bad _ (start .args .table .now) _ (counted .groups .ensures .0) (start .pre .0 .1 .1) (start .pre .0 .1 .0 .0) _ _ _ so
+    (loop .inv .1 .1) _ (ran .lowest-bad-user .ensures)
     (c .if2 .taken)
 
 add-first-not-plain : tie.Need-add-first-not-plain Inv-loop μ-loop
