@@ -28,10 +28,7 @@ fn below_ok(count: usize, table: &Table, all: Groups, sets: GroupSets) -> bool
     let write = sets.write;
     let default = sets.default;
     let row = sets.row;
-    if !table::lies_below(count, table, all, write, read) {
-        return false;
-    }
-    if !table::lies_below(count, table, all, default, read) {
+    if !table::lies_below(count, table, all, write.union(default), read) {
         return false;
     }
     if !table::lies_below(count, table, all, row, default) {
