@@ -15,6 +15,9 @@ files=$(git ls-files 2>/dev/null || find . \( -name target -o -name .git \) -pru
 pages=$(grep '\.md$' <<<"$files")
 # A page is named with each line at fault.
 if LC_ALL=C.UTF-8 grep -nE '^[^|].{159}' $pages | cut -c 1-120 | grep .; then fail "these lines have 160 characters or more"; fi
+# On the pages of readings and decisions rows of tables too: what does not fit is a list.
+read=$(grep -E '^docs/(READING|DECISIONS)' <<<"$pages")
+if LC_ALL=C.UTF-8 grep -nE '^.{160}' $read | cut -c 1-120 | grep .; then fail "these rows have 160 characters or more"; fi
 
 # Targets of links, [name](target) and [name]: target, without those outside, anchors and code between backquotes.
 targets() {

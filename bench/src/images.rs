@@ -26,7 +26,9 @@ pub enum Of {
     /// The largest of edition 1 that can be moved up: as many labels and users as edition 2 may have, and
     /// nobody holds COMPACCESS.
     Movable,
-    /// The one of edition 1 whose check costs much.
+    /// One of edition 1 whose names begin alike and collide in the filter.
+    BeginAlike,
+    /// The one of edition 1 whose check costs much: its names end alike too.
     Worst,
     /// The one of edition 2.
     Worst2,
@@ -36,13 +38,14 @@ pub enum Of {
 
 impl Of {
     /// The images that a call can be asked on by name.
-    pub const NAMED: [(&'static str, Of); 8] = [
+    pub const NAMED: [(&'static str, Of); 9] = [
         ("full", Of::Full),
         ("parent-higher", Of::ParentHigher),
         ("parent-lower", Of::ParentLower),
         ("wide", Of::Wide),
         ("release", Of::Release),
         ("movable", Of::Movable),
+        ("begin-alike", Of::BeginAlike),
         ("worst", Of::Worst),
         ("worst-2", Of::Worst2),
     ];
@@ -63,7 +66,8 @@ impl Of {
             Of::Wide => largest(Tree::Wide),
             Of::Release => random(Sizes::full(Edition::Two.release()), &mut Rng::new(SEED)),
             Of::Movable => movable(),
-            Of::Worst | Of::Worst2 => worst::policy(self.edition()),
+            Of::BeginAlike => worst::policy(Edition::One, worst::begin_alike),
+            Of::Worst | Of::Worst2 => worst::policy(self.edition(), worst::alike),
             Of::Part(part) => part.policy(),
         }
     }
@@ -72,7 +76,7 @@ impl Of {
         match self {
             Of::ParentHigher | Of::ParentLower | Of::Wide | Of::Release => Edition::Two,
             Of::Worst2 => Edition::Two,
-            Of::Full | Of::Lean | Of::Sample | Of::Movable | Of::Worst => Edition::One,
+            Of::Full | Of::Lean | Of::Sample | Of::Movable | Of::BeginAlike | Of::Worst => Edition::One,
             Of::Part(part) => part.edition(),
         }
     }

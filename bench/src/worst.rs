@@ -1,4 +1,4 @@
-//! The images whose check costs much: all names have 30 bytes and begin and end alike, and the groups that a user may
+//! The images whose check costs much: all names have 30 bytes, begin alike and, but for one image, end alike, and the groups that a user may
 //! write or open with lie far below those that the user may read. And the calls that are measured on them.
 
 use crate::held::{lines, Held, Line};
@@ -8,7 +8,7 @@ use brawnesk_tests::rng::Rng;
 const SEED: u64 = 4;
 
 /// As many of all as an edition may have, and the groups in one chain in which each parent has the next place.
-pub fn policy(edition: Edition) -> Policy {
+pub fn policy(edition: Edition, name: fn(usize) -> String) -> Policy {
     let mut policy = random_with(
         Tree::ParentHigher,
         Sizes::full(edition),
@@ -22,7 +22,7 @@ pub fn policy(edition: Edition) -> Policy {
     ];
     for class in classes {
         for (place, component) in class.iter_mut().enumerate() {
-            component.name = alike(place);
+            component.name = name(place);
         }
     }
     for (place, user) in policy.users.iter_mut().enumerate() {
@@ -35,11 +35,21 @@ pub fn policy(edition: Edition) -> Policy {
 /// A name for a place below 343. The first 11 bytes and the last 8 are the same for all. With a, b, c and d as the
 /// numbers in its bytes from 0, 8, 16 and 22 on, a + 3 b + 4 (c + 2 d) is the same for all too, so that no filter by
 /// this sum tells them apart.
-fn alike(place: usize) -> String {
+pub fn alike(place: usize) -> String {
     let mut name = [b'A'; 30];
     for (at, digit) in [(11, place % 7), (12, place / 7 % 7), (13, place / 49)] {
         name[at] += 4 * digit as u8;
         name[at + 8] = b'S' - 3 * digit as u8;
+    }
+    name.map(char::from).iter().collect()
+}
+
+/// The same sum, and the first 18 bytes are the same for all; the last 8 differ.
+pub fn begin_alike(place: usize) -> String {
+    let mut name = [b'A'; 30];
+    for (at, digit) in [(18, place % 7), (19, place / 7 % 7), (20, place / 49)] {
+        name[at] += 2 * digit as u8;
+        name[at + 6] = b'S' - digit as u8;
     }
     name.map(char::from).iter().collect()
 }
@@ -66,7 +76,7 @@ const HELD: [Held; 6] = [
 ];
 
 pub fn all() -> Vec<Line> {
-    let images = ["worst", "worst-2"].into_iter();
+    let images = ["begin-alike", "worst", "worst-2"].into_iter();
     images.flat_map(|on| lines(&HELD, on)).collect()
 }
 
@@ -84,11 +94,13 @@ mod tests {
 
     #[test]
     fn names_are_as_told() {
-        let names: BTreeSet<String> = (0..343).map(alike).collect();
-        let sums: BTreeSet<u64> = names.iter().map(|name| sum(name)).collect();
-        assert_eq!((names.len(), sums.len()), (343, 1));
-        assert!(names.iter().all(|name| name.len() == 30));
-        assert!(names.iter().all(|name| name.starts_with(&"A".repeat(11))));
+        for (name, alike) in [(alike as fn(usize) -> String, 11), (begin_alike, 18)] {
+            let names: BTreeSet<String> = (0..343).map(name).collect();
+            let sums: BTreeSet<u64> = names.iter().map(|name| sum(name)).collect();
+            assert_eq!((names.len(), sums.len()), (343, 1));
+            assert!(names.iter().all(|name| name.len() == 30));
+            assert!(names.iter().all(|name| name.starts_with(&"A".repeat(alike))));
+        }
     }
 
     #[test]
