@@ -31,6 +31,10 @@ fn below_ok(count: usize, table: &Table, all: Groups, sets: GroupSets) -> bool
     if !table::lies_below(count, table, all, write.union(default), read) {
         return false;
     }
+    // What lies below the default groups then lies below the write groups too.
+    if default.within(write) {
+        return table::lies_below(count, table, all, row, default);
+    }
     if !table::lies_below(count, table, all, row, default) {
         return false;
     }

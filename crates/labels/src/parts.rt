@@ -14,7 +14,7 @@ use crate::lists::ListRead;
 use crate::lists::mark_from;
 use crate::lists::read_list;
 use crate::names::Found;
-use crate::names::find;
+use crate::names::find_by;
 use sets::groups::Groups;
 
 // The groups, where the compartments end at `end`.
@@ -63,13 +63,14 @@ fn read_sets(image: &[u8], text: &[u8], level: u8, end: usize) -> TextRead
     }
 }
 
-// The level counts as a name, at offset 0.
+// The level counts as a name, at offset 0. It is looked up as the names of lists are; for one name no hints are written down.
 pub fn read_parts(image: &[u8], text: &[u8]) -> TextRead
     requires { ⌜ IsAccepted (now image) ⌝ }
     ensures { λ r. ⌜ readOf r ≡ readParts (now (image .entry)) (split colon (now (text .entry))) ⌝ }
 {
+    let hints = [0u8; 1024];
     let end = mark_from(text, 0, 58);
-    let found = find(image, 1, &text[0..end]);
+    let found = find_by(image, 1, &hints, &text[0..end]);
     let Found::At(level) = found else {
         return TextRead::Refused(Reason::Unknown(0));
     };
