@@ -105,6 +105,7 @@ function draw_legend(x, y,    version, call, row) {
             text(x + 70, row + 4, "start", (v == 1 ? "ours" : "plain Rust") ": " calls[call])
         }
     }
-    text(x, y + 22 * legend + 10, "start", "A read is of 1,000 rows of 10 bytes, but in the")
-    text(x, y + 22 * legend + 26, "start", "first panel. All else is as in the largest image.")
+    text(x, y + 22 * legend + 10, "start", "A read is of 1,000 rows of 10 bytes,")
+    text(x, y + 22 * legend + 26, "start", "but in the first panel. All else is")
+    text(x, y + 22 * legend + 42, "start", "as in the largest image.")
 }
