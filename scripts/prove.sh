@@ -31,6 +31,6 @@ if [ "${1:-}" = library ]; then
     echo "Building the C library: the crate abi is proved for it, after those that it uses and that are not proved yet. Log: $log."
     rt staticlib abi 2>&1 | tee -a "$log" | crates | sed -u -n '/unchanged/!s/^[0-9]* of [0-9]* *//p' || fail "rt staticlib abi"
 else
-    echo "Proving $total crates takes some minutes, about 5 on two fast cores and up to 14 on a slow machine. The whole log goes to $log."
+    echo "Proving $total crates takes some minutes, about 8 on two fast cores and up to 20 on a slow machine. The whole log goes to $log."
     rt check 2>&1 | tee "$log" | crates || fail "rt check"
 fi
