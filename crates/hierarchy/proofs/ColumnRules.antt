@@ -1,24 +1,24 @@
 -- What the bits that the pass collects say of the users, and the lowest user whose groups break the rule. Assumes nothing.
-use Prim.Native.Nat.{ℕ, _+_, _-_, _/_, _^_, _≤_, _<_}
+use Prim.Native.Nat.{ℕ, _+_, _-_, _/_, _%_, _^_, _≤_, _<_}
 use mathlib.Core.Path.{_≡_, refl, sym, ap, ap₂, _∙_}
 use mathlib.Core.Bool.{Bool, true, false, not, _&&_, _||_, true≢false, or-true, or-false, and-false, and-eq-true-iff}
 use mathlib.Core.List.{List}
 use mathlib.Core.Logic.{_⊎_, inl, inr, ⊎-elim}
 use native.Mathlib.Nat.{lt-of-not-le}
 use native.Mathlib.Omega.{arith}
-use borrow.Author.Tests.{ltb-true, ltb-false, not-true}
-use lib.Dec.{ltb}
+use borrow.Author.Tests.{lt-ltb, ltb-true, ltb-false, eq-eqb, ne-eqb, not-true}
+use lib.Dec.{eqb, ltb}
 use lib.ListN.{getD}
 use Rattle.fields.specs.Scan.{firstBad}
 use Rattle.fields.proofs.Scan.{bad-is, all-good}
 use Rattle.sets.specs.Sets.{has, union, within, Lowest}
-use Rattle.sets.proofs.Has.{has-some, none-has, union-has}
+use Rattle.sets.proofs.Has.{has-some, none-has, union-has, collect-has}
 use Rattle.sets.proofs.Within.{has-within, lacks-within}
-use Rattle.sets.proofs.Bounds.{below-lacks, below-has}
+use Rattle.sets.proofs.Bounds.{below-lacks}
 use Rattle.sets.proofs.Words.{moved-has}
 use Rattle.hierarchy.specs.Forest.{Forest, belowIn}
 use Rattle.hierarchy.specs.Below.{belowSets}
-use Rattle.hierarchy.specs.Columns.{column, columnsRule, lacks, Lacked}
+use Rattle.hierarchy.specs.Columns.{column, columnsRule, asked, lacks, Lacked}
 use Rattle.hierarchy.proofs.ColumnTurns.{column-has, column-group}
 
 -- ---- truth values
@@ -65,136 +65,184 @@ module _ (f : Forest) (read write default row : ℕ) where
   unfolding belowSets
   row-out-of-write e = ap (λ (t : Bool). wr && dr && rd && t) e ∙ and-false (wr && dr && rd)
 
-module _ (f : Forest) (first second : List ℕ) (r : ℕ) (so : Lacked f first second r) (small-first : (g : ℕ) → getD first g 0 < 2 ^ 64)
-    (small-second : (g : ℕ) → getD second g 0 < 2 ^ 64) where
-  abbrev in-first : ℕ → ℕ
-  in-first b = column (f .count) first b
+-- ---- the bits whose set sixteen bits above is asked
+asked-is : (b : ℕ) → has asked b ≡ (ltb b 64 && eqb (b / 16 % 2) 0)
+unfolding asked
+asked-is b = collect-has (λ b. eqb (b / 16 % 2) 0) 64 b
 
-  abbrev in-second : ℕ → ℕ
-  in-second b = column (f .count) second b
+asked-even : (b : ℕ) → b < 64 → b / 16 % 2 ≡ 0 → has asked b ≡ true
+asked-even b h e = asked-is b ∙ ap₂ (λ (s t : Bool). s && t) (lt-ltb b 64 h) (eq-eqb (b / 16 % 2) 0 e)
+
+asked-odd : (b : ℕ) → (b / 16 % 2 ≡ 0 → ⊥) → has asked b ≡ false
+asked-odd b n = asked-is b ∙ ap (λ (t : Bool). ltb b 64 && t) (ne-eqb (b / 16 % 2) 0 n) ∙ and-false (ltb b 64)
+
+module _ (f : Forest) (rows : List ℕ) (r : ℕ) (so : Lacked f rows r) (small : (g : ℕ) → getD rows g 0 < 2 ^ 64) where
+  abbrev set : ℕ → ℕ
+  set b = column (f .count) rows b
 
   -- a group of a column
-  of-column : (rows : List ℕ) (b g : ℕ) → has (column (f .count) rows b) g ≡ true → (g < f .count) × (has (getD rows g 0) b ≡ true)
-  of-column rows b g h =
+  of-column : (b g : ℕ) → has (set b) g ≡ true → (g < f .count) × (has (getD rows g 0) b ≡ true)
+  of-column b g h =
       let q = and-eq-true-iff (ltb g (f .count)) (has (getD rows g 0) b) .0 (sym (column-has (f .count) rows b g) ∙ h) in
       (ltb-true g (f .count) (q .0), q .1)
 
-  -- no group lacks bit b
+  -- ---- no group lacks bit b
   module _ (b : ℕ) (e : has r b ≡ false) where
-    parts : (g : ℕ) → g < f .count
-        → (((has (getD first g 0) (32 + b) || has (getD second g 0) b) && not (has (belowIn f (in-first b)) g)) ≡ false)
-        × ((has (getD second g 0) (32 + b) && not (has (belowIn f (in-second b)) g)) ≡ false)
+    clear : (g : ℕ) → g < f .count
+        → ((has (getD rows g 0) (16 + b) && has asked b || has (getD rows g 0) (32 + b)) && not (has (belowIn f (set b)) g)) ≡ false
     unfolding lacks
-    parts g h =
-        neither ((has (getD first g 0) (32 + b) || has (getD second g 0) b) && not (has (belowIn f (in-first b)) g))
-        (has (getD second g 0) (32 + b) && not (has (belowIn f (in-second b)) g)) (so .clear b g e h)
+    clear g h = so .clear b g e h
 
-    first-below : within (in-first (32 + b)) (belowIn f (in-first b)) ≡ true
-    first-below =
-        has-within (in-first (32 + b)) (belowIn f (in-first b))
-        (λ g h. let q = of-column first (32 + b) g h in
-        lies (has (getD first g 0) (32 + b) || has (getD second g 0) b) (has (belowIn f (in-first b)) g) (parts g (q .0) .0)
-        (ap (λ (t : Bool). t || has (getD second g 0) b) (q .1)))
+    next-below : has asked b ≡ true → within (set (16 + b)) (belowIn f (set b)) ≡ true
+    next-below k =
+        has-within (set (16 + b)) (belowIn f (set b))
+        (λ g h. let q = of-column (16 + b) g h in
+        lies (has (getD rows g 0) (16 + b) && has asked b || has (getD rows g 0) (32 + b)) (has (belowIn f (set b)) g) (clear g (q .0))
+        (ap₂ (λ (s t : Bool). s && t || has (getD rows g 0) (32 + b)) (q .1) k))
 
-    second-below : within (in-second b) (belowIn f (in-first b)) ≡ true
-    second-below =
-        has-within (in-second b) (belowIn f (in-first b))
-        (λ g h. let q = of-column second b g h in
-        lies (has (getD first g 0) (32 + b) || has (getD second g 0) b) (has (belowIn f (in-first b)) g) (parts g (q .0) .0)
-        (ap (λ (t : Bool). has (getD first g 0) (32 + b) || t) (q .1) ∙ or-true (has (getD first g 0) (32 + b))))
+    after-below : within (set (32 + b)) (belowIn f (set b)) ≡ true
+    after-below =
+        has-within (set (32 + b)) (belowIn f (set b))
+        (λ g h. let q = of-column (32 + b) g h in
+        lies (has (getD rows g 0) (16 + b) && has asked b || has (getD rows g 0) (32 + b)) (has (belowIn f (set b)) g) (clear g (q .0))
+        (ap (λ (t : Bool). has (getD rows g 0) (16 + b) && has asked b || t) (q .1) ∙ or-true (has (getD rows g 0) (16 + b) && has asked b)))
 
-    last-below : within (in-second (32 + b)) (belowIn f (in-second b)) ≡ true
-    last-below =
-        has-within (in-second (32 + b)) (belowIn f (in-second b))
-        (λ g h. let q = of-column second (32 + b) g h in
-        lies (has (getD second g 0) (32 + b)) (has (belowIn f (in-second b)) g) (parts g (q .0) .1) (q .1))
+  -- every bit of user i is clear
+  abbrev Clear : ℕ → Type 0
+  Clear i = (has r i ≡ false) × ((has r (16 + i) ≡ false) × (has r (32 + i) ≡ false))
 
-  pub rule-holds : (i : ℕ) → has r i ≡ false → has r (32 + i) ≡ false → columnsRule f first second i ≡ true
+  pub rule-holds : (i : ℕ) → i < 16 → Clear i → columnsRule f rows i ≡ true
   unfolding belowSets
-  rule-holds i low high = rw (first-below i low, second-below i low, last-below i low, second-below (32 + i) high)
+  rule-holds i h none =
+      rw (next-below i (none .0) (asked-even i (omega arith) (omega arith)), after-below i (none .0), row-default, row-write)
+    where
+      row-default : within (set (48 + i)) (belowIn f (set (32 + i))) ≡ true
+      row-default =
+          let is : 48 + i ≡ 16 + (32 + i) = omega arith in
+          ap (λ (b : ℕ). within (set b) (belowIn f (set (32 + i)))) is
+          ∙ next-below (32 + i) (none .1 .1) (asked-even (32 + i) (omega arith) (omega arith))
 
-  -- some group lacks bit b
-  pub broken : (b : ℕ) → has r b ≡ true
-      → (within (in-first (32 + b)) (belowIn f (in-first b)) ≡ false)
-      ⊎ ((within (in-second b) (belowIn f (in-first b)) ≡ false) ⊎ (within (in-second (32 + b)) (belowIn f (in-second b)) ≡ false))
+      row-write : within (set (48 + i)) (belowIn f (set (16 + i))) ≡ true
+      row-write =
+          let is : 48 + i ≡ 32 + (16 + i) = omega arith in
+          ap (λ (b : ℕ). within (set b) (belowIn f (set (16 + i)))) is ∙ after-below (16 + i) (none .1 .0)
+
+  -- ---- some group lacks bit b
+  broken : (b : ℕ) → has r b ≡ true
+      → ((has asked b ≡ true) × (within (set (16 + b)) (belowIn f (set b)) ≡ false)) ⊎ (within (set (32 + b)) (belowIn f (set b)) ≡ false)
   unfolding lacks
   broken b e =
       let q = so .found b e in
       let g = q .0 in
       let h = q .1 .0 in
+      let both =
+      and-eq-true-iff (has (getD rows g 0) (16 + b) && has asked b || has (getD rows g 0) (32 + b)) (not (has (belowIn f (set b)) g)) .0 (q .1 .1) in
+      let lost = not-true (has (belowIn f (set b)) g) (both .1) in
       ⊎-elim
-      (λ k.
-      let both = and-eq-true-iff (has (getD first g 0) (32 + b) || has (getD second g 0) b) (not (has (belowIn f (in-first b)) g)) .0 k in
-      let lost = not-true (has (belowIn f (in-first b)) g) (both .1) in
-      ⊎-elim (λ a. inl (lacks-within (in-first (32 + b)) (belowIn f (in-first b)) g (column-group (f .count) first (32 + b) g h ∙ a) lost))
-      (λ a. inr (inl (lacks-within (in-second b) (belowIn f (in-first b)) g (column-group (f .count) second b g h ∙ a) lost)))
-      (either (has (getD first g 0) (32 + b)) (has (getD second g 0) b) (both .0)))
-      (λ k.
-      let both = and-eq-true-iff (has (getD second g 0) (32 + b)) (not (has (belowIn f (in-second b)) g)) .0 k in
-      let lost = not-true (has (belowIn f (in-second b)) g) (both .1) in
-      inr (inr (lacks-within (in-second (32 + b)) (belowIn f (in-second b)) g (column-group (f .count) second (32 + b) g h ∙ both .0) lost)))
-      (either ((has (getD first g 0) (32 + b) || has (getD second g 0) b) && not (has (belowIn f (in-first b)) g))
-      (has (getD second g 0) (32 + b) && not (has (belowIn f (in-second b)) g)) (q .1 .1))
+      (λ k. let two = and-eq-true-iff (has (getD rows g 0) (16 + b)) (has asked b) .0 k in
+      inl (two .1, lacks-within (set (16 + b)) (belowIn f (set b)) g (column-group (f .count) rows (16 + b) g h ∙ two .0) lost))
+      (λ k. inr (lacks-within (set (32 + b)) (belowIn f (set b)) g (column-group (f .count) rows (32 + b) g h ∙ k) lost))
+      (either (has (getD rows g 0) (16 + b) && has asked b) (has (getD rows g 0) (32 + b)) (both .0))
 
   -- a column past bit 63 is empty, so that it lies below everything
-  past : (rows : List ℕ) → ((g : ℕ) → getD rows g 0 < 2 ^ 64) → (b t : ℕ) → 64 ≤ b → within (column (f .count) rows b) (belowIn f t) ≡ true
-  past rows small b t h =
-      has-within (column (f .count) rows b) (belowIn f t)
-      (λ g k. absurd (true≢false (sym (of-column rows b g k .1) ∙ below-lacks (getD rows g 0) 64 (small g) b h)))
+  past : (b t : ℕ) → 64 ≤ b → within (set b) (belowIn f t) ≡ true
+  past b t h =
+      has-within (set b) (belowIn f t)
+      (λ g k. absurd (true≢false (sym (of-column b g k .1) ∙ below-lacks (getD rows g 0) 64 (small g) b h)))
 
-  pub rule-broken-low : (i : ℕ) → has r i ≡ true → columnsRule f first second i ≡ false
-  rule-broken-low i e =
-      let read = in-first i in
-      let write = in-first (32 + i) in
-      let default = in-second i in
-      let row = in-second (32 + i) in
-      ⊎-elim (write-out f read write default row) (⊎-elim (default-out f read write default row) (row-out f read write default row)) (broken i e)
+  -- the three bits of user i
+  module _ (i : ℕ) (low : i < 16) where
+    abbrev bad : Type 0
+    bad = columnsRule f rows i ≡ false
 
-  pub rule-broken-high : (i : ℕ) → has r (32 + i) ≡ true → columnsRule f first second i ≡ false
-  rule-broken-high i e =
-      let up : 64 ≤ 32 + (32 + i) = omega arith in
-      ⊎-elim (λ a. absurd (true≢false (sym (past first small-first (32 + (32 + i)) (in-first (32 + i)) up) ∙ a)))
-      (⊎-elim (row-out-of-write f (in-first i) (in-first (32 + i)) (in-second i) (in-second (32 + i)))
-      (λ a. absurd (true≢false (sym (past second small-second (32 + (32 + i)) (in-second (32 + i)) up) ∙ a))))
-      (broken (32 + i) e)
+    read-bit : has r i ≡ true → bad
+    read-bit e =
+        ⊎-elim (λ k. write-out f (set i) (set (16 + i)) (set (32 + i)) (set (48 + i)) (k .1))
+        (default-out f (set i) (set (16 + i)) (set (32 + i)) (set (48 + i))) (broken i e)
+
+    write-bit : has r (16 + i) ≡ true → bad
+    write-bit e =
+        ⊎-elim (λ k. absurd (true≢false (sym (k .0) ∙ asked-odd (16 + i) (omega arith))))
+        (λ k.
+        let is : 48 + i ≡ 32 + (16 + i) = omega arith in
+        row-out-of-write f (set i) (set (16 + i)) (set (32 + i)) (set (48 + i))
+        (ap (λ (b : ℕ). within (set b) (belowIn f (set (16 + i)))) is ∙ k))
+        (broken (16 + i) e)
+
+    default-bit : has r (32 + i) ≡ true → bad
+    default-bit e =
+        ⊎-elim
+        (λ k.
+        let is : 48 + i ≡ 16 + (32 + i) = omega arith in
+        row-out f (set i) (set (16 + i)) (set (32 + i)) (set (48 + i)) (ap (λ (b : ℕ). within (set b) (belowIn f (set (32 + i)))) is ∙ k .1))
+        (λ k. absurd (true≢false (sym (past (32 + (32 + i)) (set (32 + i)) (omega arith)) ∙ k))) (broken (32 + i) e)
+
+  -- no bit from 48 on is set
+  no-more : (b : ℕ) → 48 ≤ b → has r b ≡ false
+  no-more b h = at (has r b) refl
+    where
+      at : (t : Bool) → has r b ≡ t → t ≡ false
+      at true e =
+          absurd
+          (⊎-elim (λ k. true≢false (sym (past (16 + b) (set b) (omega arith)) ∙ k .1)) (λ k. true≢false (sym (past (32 + b) (set b) (omega arith)) ∙ k))
+          (broken b e))
+      at false e = refl
 
   -- ---- the lowest user
-  pub lowest-none : r ≡ 0 → 32 ≡ firstBad (columnsRule f first second) 32 0
-  lowest-none e = sym (all-good (columnsRule f first second) 32 0 (λ i low high. rule-holds i (lacks-all i) (lacks-all (32 + i))))
+  pub lowest-none : r ≡ 0 → 16 ≡ firstBad (columnsRule f rows) 16 0
+  lowest-none e = sym (all-good (columnsRule f rows) 16 0 (λ i low high. rule-holds i (omega arith) (lacks-all i, (lacks-all (16 + i), lacks-all (32 + i)))))
     where
       lacks-all : (b : ℕ) → has r b ≡ false
       lacks-all b = ap (λ (x : ℕ). has x b) e ∙ none-has b
 
-  module _ (p : ℕ) (lowest : Lowest 64 (union r (r / 2 ^ 32)) p) (some : r ≡ 0 → ⊥) (word : r < 2 ^ 64) where
-    folded : (b : ℕ) → has (union r (r / 2 ^ 32)) b ≡ (has r b || has r (32 + b))
-    folded b = union-has r (r / 2 ^ 32) b ∙ ap (λ (t : Bool). has r b || t) (moved-has r 32 b)
+  module _ (p : ℕ) (lowest : Lowest 64 (union (union r (r / 2 ^ 16)) (r / 2 ^ 32)) p) (some : r ≡ 0 → ⊥) where
+    abbrev all : ℕ
+    all = union (union r (r / 2 ^ 16)) (r / 2 ^ 32)
 
-    -- a user
-    user : (q : ℕ) → has r q ≡ true → (t : Bool) → ltb q 32 ≡ t → p < 32
-    user q h true e =
-        lt-of-not-le
-        (λ l. true≢false (sym (folded q ∙ ap (λ (t : Bool). t || has r (32 + q)) h) ∙ lowest .lower q (omega (arith, ltb-true q 32 e))))
-    user q h false e =
-        let high = ltb-false q 32 e in
-        let is : 32 + (q - 32) ≡ q = omega arith in
-        let l = below-has r 64 word q h in
-        lt-of-not-le
-        (λ k. true≢false
-        (sym (folded (q - 32) ∙ ap (λ (x : ℕ). has r (q - 32) || has r x) is ∙ ap (λ (t : Bool). has r (q - 32) || t) h ∙ or-true (has r (q - 32)))
-        ∙ lowest .lower (q - 32) (omega arith)))
+    folded : (b : ℕ) → has all b ≡ (has r b || has r (16 + b) || has r (32 + b))
+    folded b =
+        union-has (union r (r / 2 ^ 16)) (r / 2 ^ 32) b
+        ∙ ap₂ (λ (s t : Bool). s || t) (union-has r (r / 2 ^ 16) b ∙ ap (λ (t : Bool). has r b || t) (moved-has r 16 b)) (moved-has r 32 b)
 
-    pub lowest-is : p ≡ firstBad (columnsRule f first second) 32 0
-    lowest-is = sym (bad-is (columnsRule f first second) 32 0 p (omega arith) inside before at)
+    -- a bit of r is one of a user's, so the lowest is a user
+    first-user : (q i : ℕ) → i < 16 → (q ≡ i) ⊎ ((q ≡ 16 + i) ⊎ (q ≡ 32 + i)) → has r q ≡ true → p < 16
+    first-user q i h is e = lt-of-not-le (λ l. true≢false (sym (folded i ∙ at is) ∙ lowest .lower i (omega arith)))
       where
-        inside : p < 32
-        inside = let q = has-some r some in user (q .0) (q .1) (ltb (q .0) 32) refl
+        at : (q ≡ i) ⊎ ((q ≡ 16 + i) ⊎ (q ≡ 32 + i)) → (has r i || has r (16 + i) || has r (32 + i)) ≡ true
+        at =
+            ⊎-elim (λ k. ap (λ (t : Bool). t || has r (16 + i) || has r (32 + i)) (ap (has r) (sym k) ∙ e))
+            (⊎-elim
+            (λ k. ap (λ (t : Bool). has r i || t || has r (32 + i)) (ap (has r) (sym k) ∙ e) ∙ ap (λ (t : Bool). t || has r (32 + i)) (or-true (has r i)))
+            (λ k. ap (λ (t : Bool). has r i || has r (16 + i) || t) (ap (has r) (sym k) ∙ e) ∙ or-true (has r i || has r (16 + i))))
 
-        before : (j : ℕ) → 0 ≤ j → j < p → columnsRule f first second j ≡ true
+    inside : p < 16
+    inside =
+        let q = has-some r some in
+        let small : q .0 < 48 = lt-of-not-le (λ l. true≢false (sym (q .1) ∙ no-more (q .0) l)) in
+        at (q .0) (q .1) small (ltb (q .0) 16) refl (ltb (q .0) 32) refl
+      where
+        at : (q : ℕ) → has r q ≡ true → q < 48 → (s : Bool) → ltb q 16 ≡ s → (t : Bool) → ltb q 32 ≡ t → p < 16
+        at q h l true a t b = first-user q q (ltb-true q 16 a) (inl refl) h
+        at q h l false a true b =
+            let low = ltb-false q 16 a in
+            let high = ltb-true q 32 b in
+            first-user q (q - 16) (omega arith) (inr (inl (omega arith))) h
+        at q h l false a false b =
+            let low = ltb-false q 32 b in
+            first-user q (q - 32) (omega arith) (inr (inr (omega arith))) h
+
+    pub lowest-is : p ≡ firstBad (columnsRule f rows) 16 0
+    lowest-is = sym (bad-is (columnsRule f rows) 16 0 p (omega arith) inside before at)
+      where
+        before : (j : ℕ) → 0 ≤ j → j < p → columnsRule f rows j ≡ true
         before j low h =
-            let none = neither (has r j) (has r (32 + j)) (sym (folded j) ∙ lowest .lower j h) in
-            rule-holds j (none .0) (none .1)
+            let l = inside in
+            let two = neither (has r j || has r (16 + j)) (has r (32 + j)) (sym (folded j) ∙ lowest .lower j h) in
+            let one = neither (has r j) (has r (16 + j)) (two .0) in
+            rule-holds j (omega arith) (one .0, (one .1, two .1))
 
-        at : columnsRule f first second p ≡ false
+        at : columnsRule f rows p ≡ false
         at =
             let l = inside in
-            ⊎-elim (rule-broken-low p) (rule-broken-high p) (either (has r p) (has r (32 + p)) (sym (folded p) ∙ lowest .here (omega arith)))
+            ⊎-elim (λ k. ⊎-elim (read-bit p l) (write-bit p l) (either (has r p) (has r (16 + p)) k)) (default-bit p l)
+            (either (has r p || has r (16 + p)) (has r (32 + p)) (sym (folded p) ∙ lowest .here (omega arith)))

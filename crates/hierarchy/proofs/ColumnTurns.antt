@@ -11,11 +11,11 @@ use borrow.Author.Tests.{eqb-true, eqb-false, lt-ltb, le-ltb, ltb-true}
 use lib.Dec.{eqb, ltb}
 use lib.ListN.{length, getD, set, length-set}
 use lib.Seq.{getD-set-same, getD-set-other}
-use Rattle.sets.specs.Sets.{has, one, union, difference}
-use Rattle.sets.proofs.Has.{has-ext, none-has, one-has, union-has, difference-has, collect-has}
+use Rattle.sets.specs.Sets.{has, one, union, intersection, difference, collect}
+use Rattle.sets.proofs.Has.{has-ext, none-has, one-has, union-has, intersection-has, difference-has, collect-has}
 use Rattle.sets.proofs.Words.{moved-has}
 use Rattle.hierarchy.specs.Forest.{Forest, belowIn, tableRoom, forestBy, orderAt, OrderedBy}
-use Rattle.hierarchy.specs.Columns.{column, lacking, rowAbove, lacks, Lacked}
+use Rattle.hierarchy.specs.Columns.{column, asked, lacking, rowAbove, lacks, Lacked}
 use Rattle.hierarchy.proofs.InOrder.{Descending, descend-put, descend-pass}
 
 -- ---- columns
@@ -26,17 +26,21 @@ column-has count rows b g = collect-has (λ g. has (getD rows g 0) b) count g
 pub column-group : (count : ℕ) (rows : List ℕ) (b g : ℕ) → g < count → has (column count rows b) g ≡ has (getD rows g 0) b
 column-group count rows b g h = column-has count rows b g ∙ ap (λ (t : Bool). t && has (getD rows g 0) b) (lt-ltb g count h)
 
--- the bits that a group lacks
-pub lacking-has : (x y u v b : ℕ) → has (lacking x y u v) b ≡ ((has x (32 + b) || has y b) && not (has u b) || has y (32 + b) && not (has v b))
-unfolding lacking
-lacking-has x y u v b =
-    union-has (difference (union (x / 2 ^ 32) y) u) (difference (y / 2 ^ 32) v) b
-    ∙ ap₂ (λ (s t : Bool). s || t)
-    (difference-has (union (x / 2 ^ 32) y) u b
-    ∙ ap (λ (t : Bool). t && not (has u b)) (union-has (x / 2 ^ 32) y b ∙ ap (λ (t : Bool). t || has y b) (moved-has x 32 b)))
-    (difference-has (y / 2 ^ 32) v b ∙ ap (λ (t : Bool). t && not (has v b)) (moved-has y 32 b))
+-- the number that code has for the bits which are asked
+pub asked-number : 281470681808895 ≡ asked
+unfolding asked collect
+asked-number = refl
 
--- ---- one turn, for one list of rows and one bit
+-- the bits that a group lacks
+pub lacking-has : (x u b : ℕ) → has (lacking x u) b ≡ ((has x (16 + b) && has asked b || has x (32 + b)) && not (has u b))
+unfolding lacking
+lacking-has x u b =
+    difference-has (union (intersection (x / 2 ^ 16) asked) (x / 2 ^ 32)) u b
+    ∙ ap (λ (t : Bool). t && not (has u b))
+    (union-has (intersection (x / 2 ^ 16) asked) (x / 2 ^ 32) b
+    ∙ ap₂ (λ (s t : Bool). s || t) (intersection-has (x / 2 ^ 16) asked b ∙ ap (λ (t : Bool). t && has asked b) (moved-has x 16 b)) (moved-has x 32 b))
+
+-- ---- one turn, for one bit
 module _ (count : ℕ) (table : List ℕ) (all : OrderedBy count table) (s i g p b : ℕ) (rows : List ℕ) (size : length rows ≡ tableRoom)
     (so : Descending count table s (column count rows b) i) (left : i < count) (is : g ≡ orderAt table i) (up : p ≡ getD table g 0) (new : ℕ)
     (joins : new ≡ union (getD rows g 0) (rowAbove count rows p)) where
@@ -114,39 +118,31 @@ module _ (count : ℕ) (table : List ℕ) (all : OrderedBy count table) (s i g p
 
 -- ---- the whole pass
 -- the first i groups of the order have been asked; r has what some of them lack
-pub record Passing (count : ℕ) (table first₀ second₀ first second : List ℕ) (r i : ℕ) : Type 0 where
+pub record Passing (count : ℕ) (table rows₀ rows : List ℕ) (r i : ℕ) : Type 0 where
   pub upto : i ≤ count
-  pub size-first : length first ≡ tableRoom
-  pub size-second : length second ≡ tableRoom
-  pub in-first : (b : ℕ) → Descending count table (column count first₀ b) (column count first b) i
-  pub in-second : (b : ℕ) → Descending count table (column count second₀ b) (column count second b) i
-  pub clear : (b : ℕ) → has r b ≡ false → (j : ℕ) → j < i → lacks (forestBy count table) first₀ second₀ b (orderAt table j) ≡ false
-  pub found : (b : ℕ) → has r b ≡ true → (j : ℕ) × ((j < i) × (lacks (forestBy count table) first₀ second₀ b (orderAt table j) ≡ true))
+  pub size : length rows ≡ tableRoom
+  pub each : (b : ℕ) → Descending count table (column count rows₀ b) (column count rows b) i
+  pub clear : (b : ℕ) → has r b ≡ false → (j : ℕ) → j < i → lacks (forestBy count table) rows₀ b (orderAt table j) ≡ false
+  pub found : (b : ℕ) → has r b ≡ true → (j : ℕ) × ((j < i) × (lacks (forestBy count table) rows₀ b (orderAt table j) ≡ true))
 
-pub pass-start : (count : ℕ) (table first second : List ℕ) → length first ≡ tableRoom → length second ≡ tableRoom
-    → Passing count table first second first second 0 0
-pass-start count table first second one two =
+pub pass-start : (count : ℕ) (table rows : List ℕ) → length rows ≡ tableRoom → Passing count table rows rows 0 0
+pass-start count table rows size =
     record {
       upto = omega arith;
-      size-first = one;
-      size-second = two;
-      in-first = none-asked first;
-      in-second = none-asked second;
+      size = size;
+      each =
+          λ b.
+          record {
+            done = λ j h. absurd (omega arith);
+            rest = λ j low high. refl;
+            groups = λ p h. column-has count rows b p ∙ ap (λ (t : Bool). t && has (getD rows p 0) b) (le-ltb p count h);
+          };
       clear = λ b e j h. absurd (omega arith);
       found = λ b e. absurd (true≢false (sym e ∙ none-has b));
     }
-  where
-    none-asked : (rows : List ℕ) (b : ℕ) → Descending count table (column count rows b) (column count rows b) 0
-    none-asked rows b =
-        record {
-          done = λ j h. absurd (omega arith);
-          rest = λ j low high. refl;
-          groups = λ p h. column-has count rows b p ∙ ap (λ (t : Bool). t && has (getD rows p 0) b) (le-ltb p count h);
-        }
 
-module _ (count : ℕ) (table first₀ second₀ first second : List ℕ) (r i g p : ℕ) (all : OrderedBy count table)
-    (so : Passing count table first₀ second₀ first second r i) (left : i < count) (is : g ≡ orderAt table i) (up : p ≡ getD table g 0) (bx by : ℕ)
-    (joins-first : bx ≡ union (getD first g 0) (rowAbove count first p)) (joins-second : by ≡ union (getD second g 0) (rowAbove count second p)) where
+module _ (count : ℕ) (table rows₀ rows : List ℕ) (r i g p : ℕ) (all : OrderedBy count table) (so : Passing count table rows₀ rows r i) (left : i < count)
+    (is : g ≡ orderAt table i) (up : p ≡ getD table g 0) (below : ℕ) (joins : below ≡ union (getD rows g 0) (rowAbove count rows p)) where
   abbrev f : Forest
   f = forestBy count table
 
@@ -154,69 +150,55 @@ module _ (count : ℕ) (table first₀ second₀ first second : List ℕ) (r i g
   inside : g < count
   inside = rw is (all .2 .group i left)
 
-  was-first : (b : ℕ) → has (getD first g 0) b ≡ has (getD first₀ g 0) b
-  was-first b =
-      row-before count table all (column count first₀ b) i g p b first (so .size-first) (so .in-first b) left is up bx joins-first
-      ∙ column-group count first₀ b g inside
+  was : (b : ℕ) → has (getD rows g 0) b ≡ has (getD rows₀ g 0) b
+  was b =
+      row-before count table all (column count rows₀ b) i g p b rows (so .size) (so .each b) left is up below joins
+      ∙ column-group count rows₀ b g inside
 
-  was-second : (b : ℕ) → has (getD second g 0) b ≡ has (getD second₀ g 0) b
-  was-second b =
-      row-before count table all (column count second₀ b) i g p b second (so .size-second) (so .in-second b) left is up by joins-second
-      ∙ column-group count second₀ b g inside
-
-  asked : (b : ℕ) → has (lacking (getD first g 0) (getD second g 0) bx by) b ≡ lacks f first₀ second₀ b (orderAt table i)
+  told : (b : ℕ) → has (lacking (getD rows g 0) below) b ≡ lacks f rows₀ b (orderAt table i)
   unfolding lacks
-  asked b =
-      let below-first = row-after count table all (column count first₀ b) i g p b first (so .size-first) (so .in-first b) left is up bx joins-first in
-      let below-second = row-after count table all (column count second₀ b) i g p b second (so .size-second) (so .in-second b) left is up by joins-second in
-      lacking-has (getD first g 0) (getD second g 0) bx by b
-      ∙ ap₂ (λ (s t : Bool). s || t)
-      (ap₂ (λ (s t : Bool). s && not t) (ap₂ (λ (s t : Bool). s || t) (was-first (32 + b)) (was-second b)) below-first)
-      (ap₂ (λ (s t : Bool). s && not t) (was-second (32 + b)) below-second)
-      ∙ ap (λ (x : ℕ). (has (getD first₀ x 0) (32 + b) || has (getD second₀ x 0) b) && not (has (belowIn f (column count first₀ b)) x)
-      || has (getD second₀ x 0) (32 + b) && not (has (belowIn f (column count second₀ b)) x)) is
+  told b =
+      lacking-has (getD rows g 0) below b
+      ∙ ap₂ (λ (s t : Bool). s && not t)
+      (ap₂ (λ (s t : Bool). s && has asked b || t) (was (16 + b)) (was (32 + b)))
+      (row-after count table all (column count rows₀ b) i g p b rows (so .size) (so .each b) left is up below joins)
+      ∙ ap (λ (x : ℕ). (has (getD rows₀ x 0) (16 + b) && has asked b || has (getD rows₀ x 0) (32 + b)) && not (has (belowIn f (column count rows₀ b)) x)) is
 
-  pub pass-next : (l new : ℕ) → l ≡ lacking (getD first g 0) (getD second g 0) bx by → new ≡ union r l
-      → Passing count table first₀ second₀ (set first g bx) (set second g by) new (i + 1)
+  pub pass-next : (l new : ℕ) → l ≡ lacking (getD rows g 0) below → new ≡ union r l → Passing count table rows₀ (set rows g below) new (i + 1)
   pass-next l new lack adds =
       record {
         upto = omega arith;
-        size-first = length-set first g bx ∙ so .size-first;
-        size-second = length-set second g by ∙ so .size-second;
-        in-first =
-            λ b. column-next count table all (column count first₀ b) i g p b first (so .size-first) (so .in-first b) left is up bx joins-first;
-        in-second =
-            λ b. column-next count table all (column count second₀ b) i g p b second (so .size-second) (so .in-second b) left is up by joins-second;
+        size = length-set rows g below ∙ so .size;
+        each = λ b. column-next count table all (column count rows₀ b) i g p b rows (so .size) (so .each b) left is up below joins;
         clear =
             λ b e.
             let none = neither (has r b) (has l b) (sym (has-new b) ∙ e) in
-            below-more (λ (j : ℕ). lacks f first₀ second₀ b (orderAt table j) ≡ false) i (so .clear b (none .0)) (sym (told b) ∙ none .1);
+            below-more (λ (j : ℕ). lacks f rows₀ b (orderAt table j) ≡ false) i (so .clear b (none .0)) (sym (here b) ∙ none .1);
         found = λ b e. either b (has r b) refl (sym (has-new b) ∙ e);
       }
     where
       has-new : (b : ℕ) → has new b ≡ (has r b || has l b)
       has-new b = ap (λ (x : ℕ). has x b) adds ∙ union-has r l b
 
-      told : (b : ℕ) → has l b ≡ lacks f first₀ second₀ b (orderAt table i)
-      told b = ap (λ (x : ℕ). has x b) lack ∙ asked b
+      here : (b : ℕ) → has l b ≡ lacks f rows₀ b (orderAt table i)
+      here b = ap (λ (x : ℕ). has x b) lack ∙ told b
 
       neither : (s t : Bool) → (s || t) ≡ false → (s ≡ false) × (t ≡ false)
       neither true t e = absurd (true≢false e)
       neither false t e = (refl, e)
 
-      either : (b : ℕ) (s : Bool) → has r b ≡ s → (s || has l b) ≡ true
-          → (j : ℕ) × ((j < i + 1) × (lacks f first₀ second₀ b (orderAt table j) ≡ true))
+      either : (b : ℕ) (s : Bool) → has r b ≡ s → (s || has l b) ≡ true → (j : ℕ) × ((j < i + 1) × (lacks f rows₀ b (orderAt table j) ≡ true))
       either b true h e = let q = so .found b h in (q .0, (omega (arith, q .1 .0), q .1 .1))
-      either b false h e = (i, (omega arith, sym (told b) ∙ e))
+      either b false h e = (i, (omega arith, sym (here b) ∙ e))
 
-pub pass-end : (count : ℕ) (table first₀ second₀ first second : List ℕ) (r i : ℕ) → OrderedBy count table
-    → Passing count table first₀ second₀ first second r i → count ≤ i → Lacked (forestBy count table) first₀ second₀ r
-pass-end count table first₀ second₀ first second r i all so end =
+pub pass-end : (count : ℕ) (table rows₀ rows : List ℕ) (r i : ℕ) → OrderedBy count table → Passing count table rows₀ rows r i → count ≤ i
+    → Lacked (forestBy count table) rows₀ r
+pass-end count table rows₀ rows r i all so end =
     record {
       clear =
           λ b g e h.
           let q = all .2 .every g h in
-          ap (lacks (forestBy count table) first₀ second₀ b) (sym (q .1 .1)) ∙ so .clear b e (q .0) (omega (arith, q .1 .0));
+          ap (lacks (forestBy count table) rows₀ b) (sym (q .1 .1)) ∙ so .clear b e (q .0) (omega (arith, q .1 .0));
       found =
           λ b e.
           let q = so .found b e in

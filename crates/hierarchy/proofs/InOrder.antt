@@ -2,12 +2,12 @@
 -- it, and the parent stands at a lower place. Assumes nothing.
 use Prim.Native.Nat.{ℕ, _+_, _/_, _%_, _^_, _≤_, _<_}
 use mathlib.Core.Path.{_≡_, refl, sym, ap, _∙_}
-use mathlib.Core.Bool.{Bool, true, false, _&&_, _||_, or-true, or-false}
+use mathlib.Core.Bool.{Bool, true, false, _&&_, _||_, or-true, or-false, and-true, and-false}
 use mathlib.Core.List.{List, [], _∷_}
 use native.Mathlib.Nat.{le-refl}
 use native.Mathlib.Omega.{arith}
 use borrow.Author.Count.{below-more}
-use borrow.Author.Tests.{eq-eqb, ne-eqb, ltb-true, ltb-false, le-ltb}
+use borrow.Author.Tests.{eq-eqb, ne-eqb, lt-ltb, ltb-true, ltb-false, le-ltb}
 use lib.Dec.{eqb, ltb}
 use lib.ListN.{length, getD, set, length-set}
 use Rattle.sets.specs.Sets.{has, one, allBelow, union, intersection, within}
@@ -15,7 +15,7 @@ use Rattle.sets.specs.Words.{wordOf, joined}
 use Rattle.sets.proofs.Has.{has-ext, one-has, allBelow-has, union-has, intersection-has}
 use Rattle.sets.proofs.Within.{within-trans, intersection-within-right}
 use Rattle.sets.proofs.Bounds.{within-below}
-use Rattle.sets.proofs.Words.{joined-has, joined-whole}
+use Rattle.sets.proofs.Words.{low-has, wordOf-zero, joined-has, joined-whole}
 use Rattle.sets.proofs.EachWord.{each-wordOf, joined-with}
 use Rattle.hierarchy.specs.Forest.{Forest, belowIn, forestBy, orderAt, OrderedBy}
 use Rattle.hierarchy.proofs.Under.{below-place, below-outside, below-parent, below-self, below-groups}
@@ -109,6 +109,26 @@ descend-end count table all s r i so h = has-ext r (belowIn (forestBy count tabl
         let q = all .2 .every p (ltb-true p count e) in
         ap (has r) (sym (q .1 .1)) ∙ so .done (q .0) (omega (arith, q .1 .0)) ∙ ap (has (belowIn (forestBy count table) s)) (q .1 .1)
     at p false e = let l = ltb-false p count e in so .groups p l ∙ sym (below-outside (forestBy count table) s p l)
+
+-- ---- where one word holds every group, the others tell nothing
+pub below-word : (f : Forest) (s : ℕ) → f .count ≤ 64 → belowIn f (wordOf s 0) ≡ belowIn f s
+below-word f s h =
+    sym (below-groups f (wordOf s 0)) ∙ ap (belowIn f) (has-ext (intersection (wordOf s 0) all) (intersection s all) same) ∙ below-groups f s
+  where
+    all : ℕ
+    all = allBelow (f .count)
+
+    at : (p : ℕ) (t : Bool) → ltb p (f .count) ≡ t → (has (wordOf s 0) p && t) ≡ (has s p && t)
+    at p true e =
+        ap (λ (b : Bool). b && true)
+        (ap (λ (x : ℕ). has x p) (wordOf-zero s) ∙ low-has s 64 p
+        ∙ ap (λ (b : Bool). has s p && b) (lt-ltb p 64 (let l = ltb-true p (f .count) e in omega arith)) ∙ and-true (has s p))
+    at p false e = and-false (has (wordOf s 0) p) ∙ sym (and-false (has s p))
+
+    same : (p : ℕ) → has (intersection (wordOf s 0) all) p ≡ has (intersection s all) p
+    same p =
+        intersection-has (wordOf s 0) all p ∙ ap (λ (b : Bool). has (wordOf s 0) p && b) (allBelow-has (f .count) p) ∙ at p (ltb p (f .count)) refl
+        ∙ ap (λ (b : Bool). has s p && b) (sym (allBelow-has (f .count) p)) ∙ sym (intersection-has s all p)
 
 -- ---- groups of t itself lie below it
 pub roots-lie : (f : Forest) (s t all : ℕ) → all ≡ allBelow (f .count) → within s (intersection t all) ≡ true → within s (belowIn f t) ≡ true

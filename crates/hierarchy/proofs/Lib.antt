@@ -13,7 +13,9 @@
 --     ColumnTurns the pass over the groups for many users at once
 --     ColumnRules what that pass tells of the users
 --     PutSets   sets in rows, and the rows turned over
---     UsersInRows the users of an image in rows, thirty-two at once
+--     UsersHeld users' records where they stand, and the rule over them
+--     UsersInRows users in rows, sixteen at once
+--     RowsTell  what these tell of all users
 pub mod Lineage
 pub mod Room
 pub mod Walks
@@ -28,4 +30,6 @@ pub mod OfImage
 pub mod ColumnTurns
 pub mod ColumnRules
 pub mod PutSets
+pub mod UsersHeld
 pub mod UsersInRows
+pub mod RowsTell

@@ -181,19 +181,18 @@ turn-end n count before after h room so =
     }
 
 -- ---- a user's four sets
-pub user-put : (i : ℕ) (sets : GroupSets) (first one second two first' second' : List ℕ) → i < 32 → SetPut i (placesOf (sets .read)) first one
-    → SetPut (32 + i) (placesOf (sets .write)) one first' → SetPut i (placesOf (sets .default)) second two
-    → SetPut (32 + i) (placesOf (sets .row)) two second' → UserPut i sets first second first' second'
-user-put i sets first one second two first' second' h read write default row =
+pub user-put : (i : ℕ) (sets : GroupSets) (before one two three after : List ℕ) → i < 16 → SetPut i (placesOf (sets .read)) before one
+    → SetPut (16 + i) (placesOf (sets .write)) one two → SetPut (32 + i) (placesOf (sets .default)) two three
+    → SetPut (48 + i) (placesOf (sets .row)) three after → UserPut i sets before after
+user-put i sets before one two three after h read write default row =
     record {
-      sizeFirst = write .size;
-      sizeSecond = row .size;
-      read = write .other i (omega arith) (omega arith) ∙ read .here;
-      write = write .here;
-      default = row .other i (omega arith) (omega arith) ∙ default .here;
+      size = row .size;
+      read =
+          row .other i (omega arith) (omega arith) ∙ default .other i (omega arith) (omega arith) ∙ write .other i (omega arith) (omega arith) ∙ read .here;
+      write = row .other (16 + i) (omega arith) (omega arith) ∙ default .other (16 + i) (omega arith) (omega arith) ∙ write .here;
+      default = row .other (32 + i) (omega arith) (omega arith) ∙ default .here;
       row = row .here;
-      otherFirst = λ b l n m. write .other b l m ∙ read .other b l n;
-      otherSecond = λ b l n m. row .other b l m ∙ default .other b l n;
+      other = λ b l m n o p. row .other b l p ∙ default .other b l o ∙ write .other b l n ∙ read .other b l m;
     }
 
 -- ---- the columns of the rows that are turned over are the sets
@@ -206,20 +205,14 @@ module _ (count b : ℕ) (before after : List ℕ) (turned : Turned count before
       at g true e = turned .bits b g low (ltb-true g count e)
       at g false e = sym (below-lacks (setAt before b) count (within-below (setAt before b) count fits) g (ltb-false g count e))
 
-pub columns-are : (f : Forest) (first second first' second' : List ℕ) → Turned (f .count) first first' → Turned (f .count) second second'
-    → RowsFit (f .count) first → RowsFit (f .count) second → (i : ℕ) → i < 32 → columnsRule f first' second' i ≡ rowsRule f first second i
-columns-are f first second first' second' one two fits-one fits-two i h =
-    let low : i < 64 = omega arith in
-    let high : 32 + i < 64 = omega arith in
-    rw (
-      column-set (f .count) i first first' one low (fits-one i low),
-      column-set (f .count) (32 + i) first first' one high (fits-one (32 + i) high),
-      column-set (f .count) i second second' two low (fits-two i low),
-      column-set (f .count) (32 + i) second second' two high (fits-two (32 + i) high),
-    )
+pub columns-are : (f : Forest) (rows rows' : List ℕ) → Turned (f .count) rows rows' → RowsFit (f .count) rows → (i : ℕ) → i < 16
+    → columnsRule f rows' i ≡ rowsRule f rows i
+columns-are f rows rows' turned fits i h = rw (at i (omega arith), at (16 + i) (omega arith), at (32 + i) (omega arith), at (48 + i) (omega arith))
+  where
+    at : (b : ℕ) → b < 64 → column (f .count) rows' b ≡ setAt rows b
+    at b l = column-set (f .count) b rows rows' turned l (fits b l)
 
-pub lowest-turned : (f : Forest) (first second first' second' : List ℕ) → Turned (f .count) first first' → Turned (f .count) second second'
-    → RowsFit (f .count) first → RowsFit (f .count) second → firstBad (columnsRule f first' second') 32 0 ≡ firstBad (rowsRule f first second) 32 0
-lowest-turned f first second first' second' one two fits-one fits-two =
-    bad-same-on (columnsRule f first' second') (rowsRule f first second) 32 0
-    (λ i low high. columns-are f first second first' second' one two fits-one fits-two i high)
+pub lowest-turned : (f : Forest) (rows rows' : List ℕ) → Turned (f .count) rows rows' → RowsFit (f .count) rows
+    → firstBad (columnsRule f rows') 16 0 ≡ firstBad (rowsRule f rows) 16 0
+lowest-turned f rows rows' turned fits =
+    bad-same-on (columnsRule f rows') (rowsRule f rows) 16 0 (λ i low high. columns-are f rows rows' turned fits i high)

@@ -3,5 +3,6 @@ pub mod Forest
 pub mod Below
 pub mod Columns
 pub mod SetRows
+pub mod Users
 pub mod UserRows
 pub mod Paths

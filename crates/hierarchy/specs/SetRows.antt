@@ -22,26 +22,25 @@ pub record SetPut (b s : ℕ) (before after : List ℕ) : Type 0 where
   pub here : setAt after b ≡ s
   pub other : (c : ℕ) → c < 64 → (c ≡ b → ⊥) → setAt after c ≡ setAt before c
 
--- ---- the sets of thirty-two users, in two lists of rows: user i has the read groups at place i and the write groups at place 32 + i of the
--- first, and the default groups at place i and the row groups at place 32 + i of the second
+-- ---- the sets of sixteen users: user i has the read groups at place i, the write groups at place 16 + i, the default groups at place 32 + i and the
+-- row groups at place 48 + i
 -- the sets of user i among each other
-abbrev pub rowsRule : Forest → (first second : List ℕ) → ℕ → Bool
-rowsRule f first second i = belowSets f (setAt first i) (setAt first (32 + i)) (setAt second i) (setAt second (32 + i))
+abbrev pub rowsRule : Forest → List ℕ → ℕ → Bool
+rowsRule f rows i = belowSets f (setAt rows i) (setAt rows (16 + i)) (setAt rows (32 + i)) (setAt rows (48 + i))
 
 -- every set has groups below `count` only
 abbrev pub RowsFit : ℕ → List ℕ → Type 0
 RowsFit count rows = (b : ℕ) → b < 64 → within (setAt rows b) (allBelow count) ≡ true
 
 -- the sets of user i are put, and those of the others stay
-pub record UserPut (i : ℕ) (sets : GroupSets) (first second first' second' : List ℕ) : Type 0 where
-  pub sizeFirst : length first' ≡ tableRoom
-  pub sizeSecond : length second' ≡ tableRoom
-  pub read : setAt first' i ≡ placesOf (sets .read)
-  pub write : setAt first' (32 + i) ≡ placesOf (sets .write)
-  pub default : setAt second' i ≡ placesOf (sets .default)
-  pub row : setAt second' (32 + i) ≡ placesOf (sets .row)
-  pub otherFirst : (b : ℕ) → b < 64 → (b ≡ i → ⊥) → (b ≡ 32 + i → ⊥) → setAt first' b ≡ setAt first b
-  pub otherSecond : (b : ℕ) → b < 64 → (b ≡ i → ⊥) → (b ≡ 32 + i → ⊥) → setAt second' b ≡ setAt second b
+pub record UserPut (i : ℕ) (sets : GroupSets) (before after : List ℕ) : Type 0 where
+  pub size : length after ≡ tableRoom
+  pub read : setAt after i ≡ placesOf (sets .read)
+  pub write : setAt after (16 + i) ≡ placesOf (sets .write)
+  pub default : setAt after (32 + i) ≡ placesOf (sets .default)
+  pub row : setAt after (48 + i) ≡ placesOf (sets .row)
+  pub other :
+      (b : ℕ) → b < 64 → (b ≡ i → ⊥) → (b ≡ 16 + i → ⊥) → (b ≡ 32 + i → ⊥) → (b ≡ 48 + i → ⊥) → setAt after b ≡ setAt before b
 
 -- ---- turned over
 -- the first n rows are those of groups

@@ -1,22 +1,25 @@
 // What groups reach, and the rules of a user's sets of groups among each other, by the profile: by a table of parents,
 // and of an image.
-ghost use Prim.Native.Nat.{_<_};
 ghost use mathlib.Core.Path.{_≡_};
 ghost use Rattle.sets.specs.Groups.{placesOf};
 ghost use Rattle.sets.specs.Sets.{within, allBelow};
 ghost use Rattle.header.specs.Layout.{groups};
 ghost use Rattle.header.specs.Limits.{Counted};
-ghost use Rattle.hierarchy.specs.Forest.{forestBy, OrderedBy};
+ghost use lib.ListN.{length};
+ghost use Rattle.hierarchy.specs.Forest.{tableRoom, forestBy, OrderedBy};
 ghost use Rattle.hierarchy.specs.Below as groupwise;
 ghost use Rattle.hierarchy.specs.Below.{belowSets, releaseSets, setsRule, ofSets, firstBadBelow, Tabled};
+ghost use Rattle.hierarchy.specs.Users.{Among, firstBadUser};
 use crate::table;
 use crate::table::Table;
 use crate::tree_rules::first_bad_in_tree;
+use crate::users::Users;
+use crate::users::in_image;
+use crate::users::sets_or_none;
 use header::layout;
 use header::profile::Profile;
 use header::profile::profile_of;
 use records::users::GroupSets;
-use records::users::group_sets;
 use sets::groups::Groups;
 
 // Do the write and default groups lie below the read ones, and the row groups below the default and the write ones? `all` are all groups.
@@ -83,17 +86,20 @@ pub fn lies_below(image: &[u8], table: &Table, all: Groups, set: Groups, other: 
 }
 
 // The lowest user whose groups break their rule, one after the other; the number of users where there is none.
-pub(crate) fn first_bad_singly(image: &[u8], table: &Table) -> usize
-    requires { ⌜ Counted (now image) × Tabled (now image) (now table) ⌝ }
-    ensures { λ r. ⌜ r ≡ firstBadBelow (now (image .entry)) ⌝ }
+pub(crate) fn first_bad_singly(
+    profile: Profile,
+    count: usize,
+    table: &Table,
+    users: Users,
+    bytes: &[u8],
+) -> usize
+    requires { ⌜ OrderedBy count (now table) × Among users (now bytes) ⌝ }
+    ensures { λ r. ⌜ r ≡ firstBadUser profile (forestBy count (now (table .entry))) users (now (bytes .entry)) ⌝ }
 {
-    let profile = profile_of(image);
-    let count = layout::groups(image);
     let all = Groups::all_below(count);
-    let users = layout::users(image);
     let mut u = 0;
-    while u < users {
-        if !sets_ok(profile, count, table, all, group_sets(image, u)) {
+    while u < users.count {
+        if !sets_ok(profile, count, table, all, sets_or_none(users, bytes, u)) {
             return u;
         }
         u += 1;
@@ -101,13 +107,30 @@ pub(crate) fn first_bad_singly(image: &[u8], table: &Table) -> usize
     u
 }
 
-// The lowest user whose groups break their rule; the number of users where there is none.
-pub fn first_bad_below(image: &[u8], table: &Table) -> usize
-    requires { ⌜ Counted (now image) × Tabled (now image) (now table) ⌝ }
+// The lowest user whose groups break their rule; the number of users where there is none. The rows are room to work in.
+pub fn first_bad_sets(
+    profile: Profile,
+    count: usize,
+    table: &Table,
+    users: Users,
+    bytes: &[u8],
+    rows: &mut [u64],
+) -> usize
+    requires { ⌜ OrderedBy count (now table) × (Among users (now bytes) × (length (now rows) ≡ tableRoom)) ⌝ }
+    ensures { λ r. ⌜ r ≡ firstBadUser profile (forestBy count (now (table .entry))) users (now (bytes .entry)) ⌝ }
+{
+    match profile {
+        Profile::Tree => first_bad_in_tree(count, table, users, bytes, rows),
+        Profile::Release => first_bad_singly(profile, count, table, users, bytes),
+    }
+}
+
+// The same of an image.
+pub fn first_bad_below(image: &[u8], table: &Table, rows: &mut [u64]) -> usize
+    requires { ⌜ Counted (now image) × (Tabled (now image) (now table) × (length (now rows) ≡ tableRoom)) ⌝ }
     ensures { λ r. ⌜ r ≡ firstBadBelow (now (image .entry)) ⌝ }
 {
-    match profile_of(image) {
-        Profile::Tree => first_bad_in_tree(image, table),
-        Profile::Release => first_bad_singly(image, table),
-    }
+    let profile = profile_of(image);
+    let count = layout::groups(image);
+    first_bad_sets(profile, count, table, in_image(image), image, rows)
 }

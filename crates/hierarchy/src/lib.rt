@@ -5,3 +5,4 @@ pub mod order;
 pub mod set_rows;
 pub mod table;
 mod tree_rules;
+pub mod users;

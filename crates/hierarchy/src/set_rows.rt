@@ -15,6 +15,9 @@ use records::users::GroupSets;
 use sets::groups::Groups;
 use sets::transposed::transpose;
 
+// Rows before they are filled.
+pub const EMPTY: [u64; 256] = [0u64; 256];
+
 // Puts a set at place b.
 fn put_set(rows: &mut [u64], b: usize, s: Groups)
     requires { ⌜ (length (now rows) ≡ tableRoom) × (b < 64) ⌝ }
@@ -39,19 +42,19 @@ fn turn_over(count: usize, rows: &mut [u64])
     }
 }
 
-// Puts the sets of user i of thirty-two.
-pub fn put_user(first: &mut [u64], second: &mut [u64], i: usize, sets: GroupSets)
-    requires { ⌜ (length (now first) ≡ tableRoom) × ((length (now second) ≡ tableRoom) × (i < 32)) ⌝ }
-    ensures { λ r. ⌜ UserPut i sets (now (first .entry)) (now (second .entry)) (now (first .exit)) (now (second .exit)) ⌝ }
+// Puts the sets of user i of sixteen.
+pub fn put_user(rows: &mut [u64], i: usize, sets: GroupSets)
+    requires { ⌜ (length (now rows) ≡ tableRoom) × (i < 16) ⌝ }
+    ensures { λ r. ⌜ UserPut i sets (now (rows .entry)) (now (rows .exit)) ⌝ }
 {
     let read = sets.read;
     let write = sets.write;
     let default = sets.default;
     let row = sets.row;
-    put_set(first, i, read);
-    put_set(first, 32 + i, write);
-    put_set(second, i, default);
-    put_set(second, 32 + i, row);
+    put_set(rows, i, read);
+    put_set(rows, 16 + i, write);
+    put_set(rows, 32 + i, default);
+    put_set(rows, 48 + i, row);
 }
 
 // Are all groups of the four sets in `all`?
@@ -65,13 +68,11 @@ pub fn sets_fit(all: Groups, sets: GroupSets) -> bool
     read.union(write).union(default.union(row)).within(all)
 }
 
-// The lowest of the thirty-two users whose groups break the rule of the tree; 32 where there is none. The rows are written over.
-pub fn lowest_bad_user(count: usize, table: &Table, first: &mut [u64], second: &mut [u64]) -> usize
-    requires { ⌜ OrderedBy count (now table) × ((length (now first) ≡ tableRoom) × (length (now second) ≡ tableRoom)) ⌝ }
-    requires { ⌜ RowsFit count (now first) × RowsFit count (now second) ⌝ }
-    ensures { λ r. ⌜ r ≡ firstBad (rowsRule (forestBy count (now (table .entry))) (now (first .entry)) (now (second .entry))) 32 0 ⌝ }
+// The lowest of the sixteen users whose groups break the rule of the tree; 16 where there is none. The rows are written over.
+pub fn lowest_bad_user(count: usize, table: &Table, rows: &mut [u64]) -> usize
+    requires { ⌜ OrderedBy count (now table) × ((length (now rows) ≡ tableRoom) × RowsFit count (now rows)) ⌝ }
+    ensures { λ r. ⌜ r ≡ firstBad (rowsRule (forestBy count (now (table .entry))) (now (rows .entry))) 16 0 ⌝ }
 {
-    turn_over(count, first);
-    turn_over(count, second);
-    lowest_bad(count, table, first, second)
+    turn_over(count, rows);
+    lowest_bad(count, table, rows)
 }

@@ -1,5 +1,5 @@
 // The table of parents and of the order of the groups, and by it what lies below a set of groups. `count` is the number of groups.
-ghost use Prim.Native.Nat.{_<_};
+ghost use Prim.Native.Nat.{_≤_, _<_};
 ghost use mathlib.Core.Path.{_≡_};
 ghost use lib.ListN.{length, getD};
 ghost use Rattle.sets.specs.Groups.{placesOf};
@@ -91,8 +91,27 @@ pub fn fill(image: &[u8], table: &mut Table)
 }
 
 // s with every group that has an ancestor in s. Each parent stands before its children in the order, so that one pass tells of every group.
-// The set is kept as its words, which is quicker than as one value.
-pub fn below(count: usize, table: &Table, s: Groups) -> Groups
+// First where one word holds every group, then where the set is kept as its words, which is quicker than as one value.
+fn below_in_word(count: usize, table: &Table, s: u64) -> u64
+    requires { ⌜ OrderedBy count (now table) × (count ≤ 64) ⌝ }
+    ensures { λ r. ⌜ r ≡ belowIn (forestBy count (now (table .entry))) s ⌝ }
+{
+    let mut groups = word::intersection(s, word::all_below(count));
+    let mut i = 0;
+    while i < count {
+        let g = ordered(table, i);
+        let p = stored(table, g);
+        if p < count {
+            if word::has(groups, p) {
+                groups = word::with(groups, g);
+            }
+        }
+        i += 1;
+    }
+    groups
+}
+
+fn below_in_words(count: usize, table: &Table, s: Groups) -> Groups
     requires { ⌜ OrderedBy count (now table) ⌝ }
     ensures { λ r. ⌜ placesOf r ≡ belowIn (forestBy count (now (table .entry))) (placesOf s) ⌝ }
 {
@@ -115,6 +134,16 @@ pub fn below(count: usize, table: &Table, s: Groups) -> Groups
         i += 1;
     }
     Groups::of_words(words[0], words[1], words[2], words[3])
+}
+
+pub fn below(count: usize, table: &Table, s: Groups) -> Groups
+    requires { ⌜ OrderedBy count (now table) ⌝ }
+    ensures { λ r. ⌜ placesOf r ≡ belowIn (forestBy count (now (table .entry))) (placesOf s) ⌝ }
+{
+    if count <= 64 {
+        return Groups::of_word(below_in_word(count, table, s.word(0)));
+    }
+    below_in_words(count, table, s)
 }
 
 // Does every group of `set` lie below `other`? Mostly they are in `other` themselves. `all` are all groups.

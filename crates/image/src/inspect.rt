@@ -17,6 +17,7 @@ use header::layout::Kind;
 use header::rules::fit_ok;
 use header::rules::header_ok;
 use hierarchy::group_rules;
+use hierarchy::set_rows;
 use hierarchy::table;
 use hierarchy::table::Table;
 use records::existing::Existing;
@@ -65,7 +66,8 @@ fn group_fault(image: &[u8], table: &mut Table) -> Fault
     if g < layout::groups(image) {
         return Fault::Ring(g);
     }
-    let u = group_rules::first_bad_below(image, table);
+    let mut rows = set_rows::EMPTY;
+    let u = group_rules::first_bad_below(image, table, &mut rows);
     if u < layout::users(image) {
         return below_fault(image, u);
     }

@@ -12,7 +12,7 @@ use crate::answers::LentFault;
 use crate::counting::layout_fits;
 use crate::counting::lent_counts;
 use crate::groups::fill;
-use crate::groups::first_bad_sets;
+use crate::groups::first_bad_user;
 use crate::lent::first_bad;
 use header::edition::edition_named;
 use header::layout::Kind;
@@ -36,7 +36,7 @@ fn groups_check(existing: Existing, components: &[u8], users: &[u8]) -> LentChec
     if g < counts.groups {
         return LentCheck::Fault(LentFault::Ring(g));
     }
-    let u = first_bad_sets(existing, components, &parents, users);
+    let u = first_bad_user(existing, components, &parents, users);
     if u < users.len() / size(edition, Kind::User) {
         return LentCheck::Fault(LentFault::Record(Kind::User, u));
     }

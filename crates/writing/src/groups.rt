@@ -1,24 +1,22 @@
 // The groups among component records that are lent to the writer: their table of parents, and the rule of users' sets.
-ghost use Prim.Native.Nat.{_+_, _*_, _/_, _≤_, _<_};
+ghost use Prim.Native.Nat.{_+_, _/_, _≤_, _<_};
 ghost use mathlib.Core.Path.{_≡_};
 ghost use lib.ListN.{length};
-ghost use Rattle.fields.specs.Scan.{firstBad};
 ghost use Rattle.header.specs.declared.layout.Kind.the-variants.{User};
 ghost use Rattle.header.specs.Layout.{recordSize};
 ghost use Rattle.records.specs.Fields.{parentOf};
 ghost use Rattle.records.specs.Rules.{recordIn, runRecords};
 ghost use Rattle.records.specs.Existing.{Exist};
 ghost use Rattle.hierarchy.specs.Forest.{tableRoom, tableLength, ParentsIn, TabledIn};
-ghost use Rattle.hierarchy.specs.Below.{forestIn, groupSetsIn};
+ghost use Rattle.hierarchy.specs.Below.{forestIn, firstBadSets};
 use header::counts::Counts;
 use header::edition::Edition;
-use header::layout::Kind;
-use header::layout::size;
-use hierarchy::group_rules::sets_ok;
+use hierarchy::group_rules::first_bad_sets;
+use hierarchy::set_rows;
 use hierarchy::table::Table;
+use hierarchy::users::in_run;
 use records::components::parent_in;
 use records::existing::Existing;
-use records::users::sets_in;
 
 // The parent's place that the component record at place i has.
 fn parent_at(edition: Edition, components: &[u8], i: usize) -> usize
@@ -51,29 +49,8 @@ pub(crate) fn fill(counts: Counts, components: &[u8], table: &mut Table)
     fill_places(counts, components, table)
 }
 
-// The sets of groups of the user at place u among each other.
-fn user_ok(existing: Existing, components: &[u8], table: &Table, users: &[u8], u: usize) -> bool
-    requires { ⌜ Exist existing × (u < length (now users) / recordSize (existing .counts .edition) User) ⌝ }
-    requires { ⌜ TabledIn (forestIn (existing .counts) (runRecords 40 (now components))) (now table) ⌝ }
-    ensures { λ r. ⌜ r ≡ groupSetsIn (existing .counts) (runRecords 40 (now (components .entry))) (recordIn (runRecords (recordSize (existing .counts .edition) User) (now (users .entry))) u) ⌝ }
-{
-    let counts = existing.counts;
-    let edition = counts.edition;
-    let profile = counts.profile;
-    let all = existing.groups;
-    let size = size(edition, Kind::User);
-    let at = size * u;
-    sets_ok(
-        profile,
-        counts.groups,
-        table,
-        all,
-        sets_in(edition, &users[at..at + size]),
-    )
-}
-
 // The lowest user whose sets of groups break their rule; the number of users where there is none.
-pub(crate) fn first_bad_sets(
+pub(crate) fn first_bad_user(
     existing: Existing,
     components: &[u8],
     table: &Table,
@@ -81,17 +58,18 @@ pub(crate) fn first_bad_sets(
 ) -> usize
     requires { ⌜ Exist existing ⌝ }
     requires { ⌜ TabledIn (forestIn (existing .counts) (runRecords 40 (now components))) (now table) ⌝ }
-    ensures { λ r. ⌜ r ≡ firstBad (λ u. groupSetsIn (existing .counts) (runRecords 40 (now (components .entry))) (recordIn (runRecords (recordSize (existing .counts .edition) User) (now (users .entry))) u)) (length (now (users .entry)) / recordSize (existing .counts .edition) User) 0 ⌝ }
+    ensures { λ r. ⌜ r ≡ firstBadSets (existing .counts) (runRecords 40 (now (components .entry))) (runRecords (recordSize (existing .counts .edition) User) (now (users .entry))) ⌝ }
 {
     let counts = existing.counts;
     let edition = counts.edition;
-    let count = users.len() / size(edition, Kind::User);
-    let mut u = 0;
-    while u < count {
-        if !user_ok(existing, components, table, users, u) {
-            return u;
-        }
-        u += 1;
-    }
-    u
+    let profile = counts.profile;
+    let mut rows = set_rows::EMPTY;
+    first_bad_sets(
+        profile,
+        counts.groups,
+        table,
+        in_run(edition, users),
+        users,
+        &mut rows,
+    )
 }

@@ -11,26 +11,26 @@ use Rattle.hierarchy.proofs.columns.lacked.Statement.{statement}
 use Rattle.hierarchy.proofs.columns.lacked.Tie as tie
 
 abbrev Inv-loop : tie.InvT-loop
-Inv-loop count table first₀ second₀ all₀ i₀ first second all i = Passing count table first₀ second₀ first second all i
+Inv-loop count table rows₀ all₀ i₀ rows all i = Passing count table rows₀ rows all i
 
 abbrev μ-loop : tie.MeasureT-loop
-μ-loop count table first₀ second₀ all₀ i₀ first second all i = count - i
+μ-loop count table rows₀ all₀ i₀ rows all i = count - i
 
 -- a group of the order is one that there is room for
 group : (count : ℕ) (table : List ℕ) (i g : ℕ) → OrderedBy count table → i < count → g ≡ orderAt table i → g < tableRoom
 group count table i g all h is = let l = all .2 .group i h in let room = all .0 in omega arith
 
 loop-holds : tie.Need-loop-holds Inv-loop μ-loop
-loop-holds c = let start = c .before .before in pass-start _ _ _ _ (start .pre .1 .0) (start .pre .1 .1)
+loop-holds c = let start = c .before in pass-start _ _ _ (start .pre .1)
 
 ordered-requires : tie.Need-ordered-requires Inv-loop μ-loop
-ordered-requires c κs = let start = c .before .before .before .before in omega (arith, start .pre .0 .0)
+ordered-requires c κs = let start = c .before .before .before in omega (arith, start .pre .0 .0)
 
 stored-requires : tie.Need-stored-requires Inv-loop μ-loop
 stored-requires c κs =
     let asked = c in
     let turn = asked .before in
-    let start = turn .before .before .before .before in
+    let start = turn .before .before .before in
     let g = group _ _ _ _ (start .pre .0) (turn .loop-test .taken) (asked .ordered .ensures) in
     g
 
@@ -38,7 +38,7 @@ mul-x : tie.Need-mul-x Inv-loop μ-loop
 mul-x c =
     let asked = c .before in
     let turn = asked .before in
-    let start = turn .before .before .before .before in
+    let start = turn .before .before .before in
     let g = group _ _ _ _ (start .pre .0) (turn .loop-test .taken) (asked .ordered .ensures) in
     omega arith
 
@@ -46,72 +46,34 @@ slice-read-x : tie.Need-slice-read-x Inv-loop μ-loop
 slice-read-x c =
     let asked = c .before .before in
     let turn = asked .before in
-    let start = turn .before .before .before .before in
+    let start = turn .before .before .before in
     let g = group _ _ _ _ (start .pre .0) (turn .loop-test .taken) (asked .ordered .ensures) in
-    omega (arith, turn .before .loop .inv .size-first)
-
-mul-y : tie.Need-mul-y Inv-loop μ-loop
-mul-y c =
-    let asked = c .before .before in
-    let turn = asked .before in
-    let start = turn .before .before .before .before in
-    let g = group _ _ _ _ (start .pre .0) (turn .loop-test .taken) (asked .ordered .ensures) in
-    omega arith
-
-slice-read-y : tie.Need-slice-read-y Inv-loop μ-loop
-slice-read-y c =
-    let asked = c .before .before .before in
-    let turn = asked .before in
-    let start = turn .before .before .before .before in
-    let g = group _ _ _ _ (start .pre .0) (turn .loop-test .taken) (asked .ordered .ensures) in
-    omega (arith, turn .before .loop .inv .size-second)
+    omega (arith, turn .before .loop .inv .size)
 
 row-above-requires : tie.Need-row-above-requires Inv-loop μ-loop
 row-above-requires c κs =
-    let turn = c .before .before .before .before .before in
-    let start = turn .before .before .before .before in
-    (start .pre .0 .0, turn .before .loop .inv .size-first)
-
-row-above-requires-2 : tie.Need-row-above-requires-2 Inv-loop μ-loop
-row-above-requires-2 c κs =
-    let turn = c .before .before .before .before .before .before .before in
-    let start = turn .before .before .before .before in
-    (start .pre .0 .0, turn .before .loop .inv .size-second)
+    let turn = c .before .before .before .before in
+    let start = turn .before .before .before in
+    (start .pre .0 .0, turn .before .loop .inv .size)
 
 lacking-requires : tie.Need-lacking-requires Inv-loop μ-loop
 lacking-requires c κs = search needs
 
-mul-first : tie.Need-mul-first Inv-loop μ-loop
-mul-first c =
-    let asked = c .before .before .before .before .before .before .before .before in
+mul-rows : tie.Need-mul-rows Inv-loop μ-loop
+mul-rows c =
+    let asked = c .before .before .before .before .before in
     let turn = asked .before in
-    let start = turn .before .before .before .before in
+    let start = turn .before .before .before in
     let g = group _ _ _ _ (start .pre .0) (turn .loop-test .taken) (asked .ordered .ensures) in
     omega arith
 
-slice-write-first : tie.Need-slice-write-first Inv-loop μ-loop
-slice-write-first c =
-    let asked = c .before .before .before .before .before .before .before .before in
+slice-write-rows : tie.Need-slice-write-rows Inv-loop μ-loop
+slice-write-rows c =
+    let asked = c .before .before .before .before .before in
     let turn = asked .before in
-    let start = turn .before .before .before .before in
+    let start = turn .before .before .before in
     let g = group _ _ _ _ (start .pre .0) (turn .loop-test .taken) (asked .ordered .ensures) in
-    omega (arith, turn .before .loop .inv .size-first)
-
-mul-second : tie.Need-mul-second Inv-loop μ-loop
-mul-second c =
-    let asked = c .before .before .before .before .before .before .before .before in
-    let turn = asked .before in
-    let start = turn .before .before .before .before in
-    let g = group _ _ _ _ (start .pre .0) (turn .loop-test .taken) (asked .ordered .ensures) in
-    omega arith
-
-slice-write-second : tie.Need-slice-write-second Inv-loop μ-loop
-slice-write-second c =
-    let asked = c .before .before .before .before .before .before .before .before in
-    let turn = asked .before in
-    let start = turn .before .before .before .before in
-    let g = group _ _ _ _ (start .pre .0) (turn .loop-test .taken) (asked .ordered .ensures) in
-    omega (arith, turn .before .loop .inv .size-second)
+    omega (arith, turn .before .loop .inv .size)
 
 add-i : tie.Need-add-i Inv-loop μ-loop
 add-i c = omega arith
@@ -121,26 +83,22 @@ loop-less c = omega arith
 
 loop-again : tie.Need-loop-again Inv-loop μ-loop
 loop-again c =
-    let row = c .before .before .before in
-    let stores = row .before .before .before .before in
+    let row = c .before in
+    let stores = row .before .before .before in
     let asked = stores .before in
     let turn = asked .before in
-    let start = turn .before .before .before .before in
-    let x = getD (turn .before .loop .first) (asked .ordered .result) 0 in
-    let y = getD (turn .before .loop .second) (asked .ordered .result) 0 in
-    pass-next _ _ _ _ _ _ _ _ _ _ (start .pre .0) (turn .before .loop .inv) (turn .loop-test .taken) (asked .ordered .ensures) (stores .stored .ensures) _ _
-    (ap (union x) (row .row-above .ensures)) (ap (union y) (c .before .row-above2 .ensures)) _ _ (c .lacking .ensures) refl
+    let start = turn .before .before .before in
+    let x = getD (turn .before .loop .rows) (asked .ordered .result) 0 in
+    pass-next _ _ _ _ _ _ _ _ (start .pre .0) (turn .before .loop .inv) (turn .loop-test .taken) (asked .ordered .ensures) (stores .stored .ensures) _
+    (ap (union x) (row .row-above .ensures)) _ _ (c .lacking .ensures) refl
 
 same-length : tie.Need-same-length Inv-loop μ-loop
 same-length c = search needs
 
-same-length-2 : tie.Need-same-length-2 Inv-loop μ-loop
-same-length-2 c = search needs
-
 returns : tie.Need-returns Inv-loop μ-loop
 returns c =
-    let start = c .before .before .before .before in
-    pass-end _ _ _ _ _ _ _ _ (start .pre .0) (c .before .loop .inv) (c .loop-test .left)
+    let start = c .before .before .before in
+    pass-end _ _ _ _ _ _ (start .pre .0) (c .before .loop .inv) (c .loop-test .left)
 
 pub lacked-spec : {M : Type 1} → statement M
 lacked-spec =
@@ -153,18 +111,12 @@ lacked-spec =
     stored-requires
     mul-x
     slice-read-x
-    mul-y
-    slice-read-y
     row-above-requires
-    row-above-requires-2
     lacking-requires
-    mul-first
-    slice-write-first
-    mul-second
-    slice-write-second
+    mul-rows
+    slice-write-rows
     add-i
     loop-less
     loop-again
     same-length
-    same-length-2
     returns)

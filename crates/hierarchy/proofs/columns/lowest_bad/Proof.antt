@@ -10,41 +10,21 @@ lacked-requires c κs = search needs
 same-length : tie.Need-same-length
 same-length c = search needs
 
-same-length-2 : tie.Need-same-length-2
-same-length-2 c = search needs
-
 returns : tie.Need-returns
 returns c =
-    let ran = c .before .before .before .before .before in
-    let known = ran .before .before .before in
-    lowest-none _ _ _ _ (ran .lacked .ensures) (λ g. omega (arith, known .before .slice-known .given g)) (λ g. omega (arith, known .slice-known2 .given g))
-    (c .if1 .taken)
+    let ran = c .before .before .before in
+    lowest-none _ _ _ (ran .lacked .ensures) (λ g. omega (arith, ran .before .before .slice-known .given g)) (c .if1 .taken)
 
 first-requires : tie.Need-first-requires
 first-requires c κs = search needs
 
-same-length-3 : tie.Need-same-length-3
-same-length-3 c = search needs
-
-same-length-4 : tie.Need-same-length-4
-same-length-4 c = search needs
+same-length-2 : tie.Need-same-length-2
+same-length-2 c = search needs
 
 returns-2 : tie.Need-returns-2
 returns-2 c =
-    let ran = c .before .before .before .before .before .before in
-    let known = ran .before .before .before in
-    lowest-is _ _ _ _ (ran .lacked .ensures) (λ g. omega (arith, known .before .slice-known .given g)) (λ g. omega (arith, known .slice-known2 .given g))
-    _ (c .first2 .ensures) (c .before .if1 .left) (search needs)
+    let ran = c .before .before .before .before in
+    lowest-is _ _ _ (ran .lacked .ensures) (λ g. omega (arith, ran .before .before .slice-known .given g)) _ (c .first .ensures) (c .before .if1 .left)
 
 pub lowest-bad-spec : {M : Type 1} → statement M
-lowest-bad-spec =
-    tie.close
-    (tie.spec
-    lacked-requires
-    same-length
-    same-length-2
-    returns
-    first-requires
-    same-length-3
-    same-length-4
-    returns-2)
+lowest-bad-spec = tie.close (tie.spec lacked-requires same-length returns first-requires same-length-2 returns-2)

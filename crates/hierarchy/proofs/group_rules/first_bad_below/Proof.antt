@@ -1,40 +1,53 @@
-use mathlib.Core.Path.{sym, _∙_}
+use Prim.Native.Nat.{_≤_}
+use mathlib.Core.Path.{_∙_}
 use borrow.Author.Needs.{needs}
+use Rattle.header.specs.declared.layout.Kind.the-variants.{Component, User}
+use Rattle.header.specs.Layout.{countsOf, recordsOf}
 use Rattle.header.proofs.Inside.{header-inside}
+use Rattle.hierarchy.proofs.OfImage.{tabled-alike, tabled-ordered}
+use Rattle.hierarchy.proofs.UsersHeld.{held-bad}
 use Rattle.hierarchy.proofs.group_rules.first_bad_below.Statement.{statement}
 use Rattle.hierarchy.proofs.group_rules.first_bad_below.Tie as tie
 
 profile-of-requires : tie.Need-profile-of-requires
-profile-of-requires c κs = header-inside _ (c .before .pre .0 .fitted)
+profile-of-requires c κs = header-inside _ (c .before .before .pre .0 .fitted)
 
-enum-told : tie.Need-enum-told
-enum-told c = search needs
+groups-requires : tie.Need-groups-requires
+groups-requires c κs = header-inside _ (c .before .before .before .pre .0 .fitted)
 
-first-bad-in-tree-requires : tie.Need-first-bad-in-tree-requires
-first-bad-in-tree-requires c κs =
-    let start = c .before .before .before .before in
-    (start .pre .0, (start .pre .1, sym (c .before .before .profile-of .ensures) ∙ c .enum-told .given .1))
+in-image-requires : tie.Need-in-image-requires
+in-image-requires c κs = search needs
 
-enum-told-2 : tie.Need-enum-told-2
-enum-told-2 c = search needs
+first-bad-sets-requires : tie.Need-first-bad-sets-requires
+first-bad-sets-requires c κs =
+    let held = c .before in
+    let counted = held .before in
+    let start = counted .before .before .before .before in
+    let table = start .args .table .now in
+    (tabled-ordered _ table _ (counted .groups .ensures .0) (start .pre .0) (start .pre .1 .0), (held .in-image .ensures .among, start .pre .1 .1))
 
-first-bad-singly-requires : tie.Need-first-bad-singly-requires
-first-bad-singly-requires c κs = search needs
+same-length : tie.Need-same-length
+same-length c = search needs
 
 returns : tie.Need-returns
-returns c = search needs
-
-returns-2 : tie.Need-returns-2
-returns-2 c = search needs
+returns c =
+    let told = c .before .before in
+    let held = told .before .before in
+    let counted = held .before in
+    let profiled = counted .before in
+    let start = profiled .before .before .before in
+    let im = start .args .image .now in
+    let alike = tabled-alike im (start .args .table .now) _ (counted .groups .ensures .0) (start .pre .1 .0 .0) in
+    told .first-bad-sets .ensures
+    ∙ held-bad (countsOf im) (recordsOf im Component) (recordsOf im User) im _ _ _ (held .in-image .ensures) alike (profiled .profile-of .ensures)
 
 pub first-bad-below-spec : {M : Type 1} → statement M
 first-bad-below-spec =
     tie.close
     (tie.spec
     profile-of-requires
-    enum-told
-    first-bad-in-tree-requires
-    enum-told-2
-    first-bad-singly-requires
-    returns
-    returns-2)
+    groups-requires
+    in-image-requires
+    first-bad-sets-requires
+    same-length
+    returns)

@@ -3,32 +3,23 @@ use mathlib.Core.Path.{sym, _∙_}
 use native.Mathlib.Omega.{arith}
 use borrow.Author.Needs.{needs}
 use borrow.Author.Tests.{not-false}
-use Rattle.header.proofs.Inside.{header-inside}
+use Rattle.sets.specs.Groups.{placesOf}
 use Rattle.hierarchy.specs.UserRows.{PlainUpto}
 use Rattle.hierarchy.proofs.UsersInRows.{plain-none, plain-next}
 use Rattle.hierarchy.proofs.tree_rules.first_not_plain.Statement.{statement}
 use Rattle.hierarchy.proofs.tree_rules.first_not_plain.Tie as tie
 
 abbrev Inv-loop : tie.InvT-loop
-Inv-loop image from all edition shape u₀ u = PlainUpto image from u
+Inv-loop users bytes from all u₀ u = PlainUpto (placesOf all) users bytes from u
 
 abbrev μ-loop : tie.MeasureT-loop
-μ-loop image from all edition shape u₀ u = shape .count - u
-
-edition-of-requires : tie.Need-edition-of-requires Inv-loop μ-loop
-edition-of-requires c κs = header-inside _ (c .before .pre .0 .fitted)
-
-shape-of-requires : tie.Need-shape-of-requires Inv-loop μ-loop
-shape-of-requires c κs = header-inside _ (c .before .before .pre .0 .fitted)
+μ-loop users bytes from all u₀ u = users .count - u
 
 loop-holds : tie.Need-loop-holds Inv-loop μ-loop
-loop-holds c = plain-none _ _
+loop-holds c = plain-none _ _ _ _
 
 sets-or-none-requires : tie.Need-sets-or-none-requires Inv-loop μ-loop
-sets-or-none-requires c κs =
-    let shaped = c .before .before .before in
-    let start = shaped .before .before .before in
-    (start .pre .0, (shaped .before .edition-of .ensures, shaped .shape-of .ensures))
+sets-or-none-requires c κs = search needs
 
 plain-requires : tie.Need-plain-requires Inv-loop μ-loop
 plain-requires c κs = search needs
@@ -38,8 +29,8 @@ returns c = c .before .before .before .before .before .loop .inv
 
 add-u : tie.Need-add-u Inv-loop μ-loop
 add-u c =
-    let turn = c .before .before .before .before .before in
-    omega (arith, turn .before .shape-of .ensures .few)
+    let start = c .before .before .before .before .before .before .before in
+    omega (arith, start .pre .0 .few)
 
 loop-less : tie.Need-loop-less Inv-loop μ-loop
 loop-less c = omega arith
@@ -48,9 +39,8 @@ loop-again : tie.Need-loop-again Inv-loop μ-loop
 loop-again c =
     let asked = c .before in
     let turn = asked .before .before .before .before in
-    let start = turn .before .before .before .before in
     let good = sym (asked .plain .ensures) ∙ not-false _ (c .if2 .left) in
-    plain-next _ _ _ _ _ (turn .loop .inv) (asked .before .sets-or-none .ensures) (start .pre .1 .1) good
+    plain-next _ _ _ _ _ _ (turn .loop .inv) (asked .before .sets-or-none .ensures) good
 
 returns-2 : tie.Need-returns-2 Inv-loop μ-loop
 returns-2 c = c .before .before .loop .inv
@@ -61,8 +51,6 @@ first-not-plain-spec =
     (tie.spec
     Inv-loop
     μ-loop
-    edition-of-requires
-    shape-of-requires
     loop-holds
     sets-or-none-requires
     plain-requires

@@ -34,15 +34,18 @@ returns c =
     let h : firstRing im < groups im = omega (arith, rung .first-ring .ensures .ring) in
     tells-fault (rw (lt-ltb _ _ h, rung .first-ring .ensures .ring)) refl
 
--- src/inspect.rt:78:9
+-- src/inspect.rt:79:9
+slice-aggregate-first-bad-below : tie.Need-slice-aggregate-first-bad-below
+slice-aggregate-first-bad-below c = search needs
+
 first-bad-below-requires : tie.Need-first-bad-below-requires
 first-bad-below-requires c κs =
-    let rung = c .before .before .before in
-    (rung .before .before .before .pre, rung .first-ring .ensures .filled (omega arith))
+    let rung = c .before .before .before .before in
+    (rung .before .before .before .pre, (rung .first-ring .ensures .filled (omega arith), refl))
 
 -- src/inspect.rt:79:12
 users-requires : tie.Need-users-requires
-users-requires c κs = let rung = c .before .before .before .before in header-inside _ (rung .before .before .before .pre .fitted)
+users-requires c κs = let rung = c .before .before .before .before .before .before in header-inside _ (rung .before .before .before .pre .fitted)
 
 -- src/inspect.rt:80:9
 below-fault-requires : tie.Need-below-fault-requires
@@ -51,8 +54,8 @@ below-fault-requires c κs = search needs
 -- src/inspect.rt:80:9
 returns-2 : tie.Need-returns-2
 returns-2 c =
-    let found = c .before .before .before in
-    let rung = found .before .before .before .before in
+    let found = c .before .before .before .before in
+    let rung = found .before .before .before .before .before in
     let im = rung .before .before .before .args .image .now in
     let g : groups im ≤ firstRing im = omega (arith, rung .first-ring .ensures .ring) in
     let h : firstBadBelow im < users im = omega (arith, found .first-bad-below .ensures) in
@@ -61,8 +64,8 @@ returns-2 c =
 -- src/inspect.rt:70:1
 returns-3 : tie.Need-returns-3
 returns-3 c =
-    let found = c .before .before in
-    let rung = found .before .before .before .before in
+    let found = c .before .before .before in
+    let rung = found .before .before .before .before .before in
     let im = rung .before .before .before .args .image .now in
     let g : groups im ≤ firstRing im = omega (arith, rung .first-ring .ensures .ring) in
     let h : users im ≤ firstBadBelow im = omega (arith, found .first-bad-below .ensures) in
@@ -75,6 +78,7 @@ group-fault-spec =
     first-ring-requires
     groups-requires
     returns
+    slice-aggregate-first-bad-below
     first-bad-below-requires
     users-requires
     below-fault-requires

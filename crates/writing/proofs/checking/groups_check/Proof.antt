@@ -6,33 +6,26 @@ use lib.ListN.{length}
 use Rattle.header.specs.declared.counts.Counts.{Counts}
 use Rattle.header.specs.declared.layout.Kind.the-variants.{User}
 use Rattle.header.specs.Layout.{recordSize}
-use Rattle.records.specs.Rules.{recordIn, runRecords}
-use Rattle.fields.specs.Scan.{firstBad}
-use Rattle.hierarchy.specs.Below.{forestIn, groupSetsIn, firstBadSets}
+use Rattle.records.specs.Rules.{runRecords}
+use Rattle.hierarchy.specs.Below.{forestIn}
 use Rattle.hierarchy.proofs.OrderTurns.{found-ring, found-parents, found-ordered}
 use Rattle.hierarchy.proofs.Rings.{ring-none}
 use Rattle.writing.specs.declared.answers.LentFault.the-variants.{Record, Ring}
 use Rattle.writing.specs.declared.answers.LentCheck.the-variants.{Sound}
 use Rattle.writing.proofs.Runs.{run-count, size-some}
 use Rattle.writing.proofs.Totals.{counts-most}
-use Rattle.writing.proofs.Faults.{told-here, told-after, counted-bad}
+use Rattle.writing.proofs.Faults.{told-here, told-after}
 use borrow.Author.Needs.{needs}
 use Rattle.writing.proofs.checking.groups_check.Statement.{statement}
 use Rattle.writing.proofs.checking.groups_check.Tie as tie
 
--- users' sets, by the number of users as code has it
-module _ (n : Counts) (components : List (List ℕ)) (bytes : List ℕ) (size r : ℕ) (told : size ≡ recordSize (n .edition) User) where
+-- the number of users, as code has it
+module _ (n : Counts) (bytes : List ℕ) (size : ℕ) (told : size ≡ recordSize (n .edition) User) where
   abbrev users : List (List ℕ)
   users = runRecords (recordSize (n .edition) User) bytes
 
   count : length users ≡ length bytes / size
   count = run-count (recordSize (n .edition) User) (size-some (n .edition) User) bytes ∙ ap (λ (s : ℕ). length bytes / s) (sym told)
-
-  place : r ≡ firstBad (λ u. groupSetsIn n components (recordIn users u)) (length bytes / recordSize (n .edition) User) 0
-      → r ≡ firstBadSets n components users
-  unfolding firstBadSets
-  place found =
-      counted-bad (λ u. groupSetsIn n components (recordIn users u)) (run-count (recordSize (n .edition) User) (size-some (n .edition) User) bytes) found
 
 fill-requires : tie.Need-fill-requires
 fill-requires c κs =
@@ -56,8 +49,8 @@ returns c =
     let found = found-ring (forestIn n (runRecords 40 (a .components .now))) (filled .fill .last .1 .1 .0) _ _ _ refl (start .pre .0 .fewGroups) (filled .fill .ensures) (ring .put-order .ensures) in
     sym (told-here Ring _ _ (n .groups) refl found (c .if1 .taken))
 
-first-bad-sets-requires : tie.Need-first-bad-sets-requires
-first-bad-sets-requires c κs =
+first-bad-user-requires : tie.Need-first-bad-user-requires
+first-bad-user-requires c κs =
     let past = c .before in
     let ring = past .before .before in
     let filled = ring .before .before in
@@ -102,7 +95,7 @@ returns-2 c =
     let found = found-ring (forestIn n components) (filled .fill .last .1 .1 .0) _ _ _ refl (start .pre .0 .fewGroups) (filled .fill .ensures) (ring .put-order .ensures) in
     let told = sized .size .ensures in
     sym (told-after Ring _ _ (n .groups) refl found (past .if1 .left)
-    ∙ told-here (Record User) Sound _ _ (count n components users _ (sets .first-bad-sets .result) told) (place n components users _ _ told (sets .first-bad-sets .ensures)) (c .if2 .taken))
+    ∙ told-here (Record User) Sound _ _ (count n users _ told) (sets .first-bad-user .ensures) (c .if2 .taken))
 
 returns-3 : tie.Need-returns-3
 returns-3 c =
@@ -119,7 +112,7 @@ returns-3 c =
     let found = found-ring (forestIn n components) (filled .fill .last .1 .1 .0) _ _ _ refl (start .pre .0 .fewGroups) (filled .fill .ensures) (ring .put-order .ensures) in
     let told = sized .size .ensures in
     sym (told-after Ring _ _ (n .groups) refl found (past .if1 .left)
-    ∙ told-after (Record User) Sound _ _ (count n components users _ (sets .first-bad-sets .result) told) (place n components users _ _ told (sets .first-bad-sets .ensures)) (c .if2 .left))
+    ∙ told-after (Record User) Sound _ _ (count n users _ told) (sets .first-bad-user .ensures) (c .if2 .left))
 
 pub groups-check-spec : {M : Type 1} → statement M
 groups-check-spec =
@@ -128,7 +121,7 @@ groups-check-spec =
     fill-requires
     put-order-requires
     returns
-    first-bad-sets-requires
+    first-bad-user-requires
     size-requires
     div-if2
     returns-2
