@@ -1,10 +1,10 @@
 -- A loop over a run of records, one right after the other: where the record at place j stands, the record before it, and what is left of a
 -- search for the first that breaks a rule. The laws hold at any rule and any size of a record. Assumes nothing.
 use Prim.Native.Nat.{ℕ, zero, suc, _+_, _-_, _*_, _/_, _%_, _≤_, _<_}
-use mathlib.Core.Path.{_≡_, refl, sym, ap, _∙_}
+use mathlib.Core.Path.{_≡_, refl, sym, ap, _∙_, subst}
 use mathlib.Core.Bool.{Bool, true, false, cond}
 use mathlib.Core.List.{List}
-use native.Mathlib.Nat.{sub-zero, mul-zero, mul-suc, mul-le-mul-left, mul-le-mul-right, lt-of-mul-lt-mul-left, le-of-mul-le-mul-left, div-add-mod, add-sub-cancel-left}
+use native.Mathlib.Nat.{sub-zero, mul-zero, mul-suc, mul-le-mul-left, mul-le-mul-right, lt-of-mul-lt-mul-left, le-of-mul-le-mul-left, mul-div-right, div-add-mod, add-sub-cancel-left}
 use native.Mathlib.Numerals.{add-one}
 use native.Mathlib.Omega.{arith}
 use borrow.Author.Tests.{lt-ltb, le-ltb}
@@ -81,6 +81,14 @@ resized rule l j size other is e = e ∙ ap (λ (s : ℕ). firstBad rule (l / s)
 
 pub walk-start : (rule : ℕ → Bool) (size : ℕ) (run : List ℕ) → Walked rule size run 0 0
 walk-start rule size run = record { stands = sym (mul-zero size); inside = omega arith; left = rw sub-zero }
+
+-- a loop that carries `at` alone works the place out by it
+pub place-is : (size at j : ℕ) → 1 ≤ size → at ≡ size * j → at / size ≡ j
+place-is size at j some e = ap (λ (k : ℕ). k / size) e ∙ mul-div-right j some
+
+pub walk-placed : (rule : ℕ → Bool) (size : ℕ) (run : List ℕ) (at j : ℕ) → 1 ≤ size → Walked rule size run at j
+    → Walked rule size run at (at / size)
+walk-placed rule size run at j some w = subst (Walked rule size run at) (sym (place-is size at j some (w .stands))) w
 
 -- ---- the record before the one that begins at `at`, as code finds it
 pub before-is : (size : ℕ) (previous run : List ℕ) (at j : ℕ) → 1 ≤ size → at ≡ size * j

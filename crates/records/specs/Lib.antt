@@ -3,5 +3,6 @@ pub mod Fields
 pub mod Users
 pub mod Existing
 pub mod Rules
+pub mod LabelRuns
 pub mod Fresh
 pub mod Kinds
