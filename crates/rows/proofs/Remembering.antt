@@ -17,7 +17,7 @@ use Rattle.image.proofs.Policy.{label-kept, label-found, label-carries, tag-out
 use Rattle.access.specs.Verdicts.{knownTag}
 use Rattle.maps.specs.Map.{bitOf}
 use Rattle.rows.specs.Mapped.{tagMapped}
-use Rattle.rows.specs.Slots.{Told, Remembered}
+use Rattle.rows.specs.Slots.{slotCount, Told, Remembered}
 
 -- a bool as a number is the entry of tag 0 with that answer
 free : (answer : Bool) → (boolByte answer / 2 ≡ 0) × (eqb (boolByte answer % 2) 1 ≡ answer)
@@ -37,12 +37,12 @@ module _ (im bits : List ℕ) (unknown : Bool) where
 
   -- ---- slots
   -- one more right entry
-  pub remembered-set : (slots : List ℕ) → Remembered im bits unknown slots → (slot entry : ℕ) → slot < 3120 → Told im bits unknown entry
+  pub remembered-set : (slots : List ℕ) → Remembered im bits unknown slots → (slot entry : ℕ) → slot < slotCount → Told im bits unknown entry
       → Remembered im bits unknown (set slots slot entry)
   remembered-set slots r slot entry inside told =
       record { long = length-set slots slot entry ∙ r .long; told = λ k h. at k h (eqb slot k) refl }
     where
-      at : (k : ℕ) → k < 3120 → (t : Bool) → eqb slot k ≡ t → Told im bits unknown (getD (set slots slot entry) k 0)
+      at : (k : ℕ) → k < slotCount → (t : Bool) → eqb slot k ≡ t → Told im bits unknown (getD (set slots slot entry) k 0)
       at k h true e =
           let here : getD (set slots slot entry) k 0 ≡ entry =
           ap (λ (i : ℕ). getD (set slots slot entry) i 0) (sym (eqb-true slot k e))
@@ -57,11 +57,11 @@ module _ (im bits : List ℕ) (unknown : Bool) where
     zero-told = rw (le-ltb _ _ (tag-outside im acc 0 (λ h. absurd (omega arith))))
 
     -- so free slots are right
-    pub remembered-free : Remembered im bits unknown (replicate 3120 (boolByte unknown))
+    pub remembered-free : Remembered im bits unknown (replicate slotCount (boolByte unknown))
     remembered-free =
         record {
-          long = length-replicate 3120 (boolByte unknown);
-          told = λ k h. rw (getD-replicate 3120 k (boolByte unknown) 0 h) (told-made (boolByte unknown) 0 unknown (free unknown) (sym zero-told));
+          long = length-replicate slotCount (boolByte unknown);
+          told = λ k h. rw (getD-replicate slotCount k (boolByte unknown) 0 h) (told-made (boolByte unknown) 0 unknown (free unknown) (sym zero-told));
         }
 
     -- the answer on the tag of a label record is its bit

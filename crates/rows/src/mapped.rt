@@ -14,6 +14,7 @@ use crate::answers::RowsRead;
 use crate::few::few_by_map;
 use crate::remembered::fill_for;
 use crate::remembered::is_mapped;
+use crate::slots::COUNT;
 use crate::slots::Slots;
 use crate::slots::seek;
 use buffers::given::put;
@@ -109,7 +110,7 @@ fn many_by_map(
     requires { ⌜ MappedRun (now image) (now bits) (now run) width ⌝ }
     ensures { λ r. ⌜ (r, now (buffer .exit)) ≡ handedOut (kept (rowMapped (now (image .entry)) (now (bits .entry)) unknown) (runRows (now (run .entry)) width)) (now (buffer .entry)) ⌝ }
 {
-    let mut slots = [unknown as u32; 3120];
+    let mut slots = [unknown as u32; COUNT];
     fill_for(image, bits, unknown, &mut slots, run.len() / width);
     if !mapped_fits(image, bits, unknown, &mut slots, run, width, buffer.len()) {
         return RowsRead::Refused(Refusal::Room);
@@ -179,7 +180,7 @@ pub fn nth_by_map(
     requires { ⌜ MappedRun (now image) (now bits) (now run) width ⌝ }
     ensures { λ r. ⌜ r ≡ offsetOf (rowMapped (now (image .entry)) (now (bits .entry)) unknown) n (runRows (now (run .entry)) width) ⌝ }
 {
-    let mut slots = [unknown as u32; 3120];
+    let mut slots = [unknown as u32; COUNT];
     fill_for(image, bits, unknown, &mut slots, n);
     nth_mapped(image, bits, unknown, &mut slots, run, width, n)
 }

@@ -4,7 +4,7 @@ ghost use Prim.Native.Nat.{_<_};
 ghost use mathlib.Core.Path.{_≡_};
 ghost use Rattle.rows.specs.Mapped.{tagMapped};
 ghost use Rattle.rows.specs.Scan.{Mapping};
-ghost use Rattle.rows.specs.Slots.{Remembered};
+ghost use Rattle.rows.specs.Slots.{slotCount, Remembered};
 use crate::slots::Slots;
 use crate::slots::entry_of;
 use crate::slots::seek;
@@ -19,7 +19,7 @@ use maps::given::bit_of;
 // Asks: the bit of the label record that carries the tag; where none does, `unknown`: are rows of unknown tags handed out? Remembers the answer
 // in that slot, or in the spare one.
 fn ask(image: &[u8], bits: &[u8], unknown: bool, slots: &mut Slots, slot: usize, tag: u32) -> bool
-    requires { ⌜ Mapping (now image) (now bits) × (slot < 3120) ⌝ }
+    requires { ⌜ Mapping (now image) (now bits) × (slot < slotCount) ⌝ }
     requires { ⌜ Remembered (now image) (now bits) unknown (now slots) ⌝ }
     ensures { λ r. ⌜ (r ≡ tagMapped (now (image .entry)) (now (bits .entry)) unknown tag) × Remembered (now (image .entry)) (now (bits .entry)) unknown (now (slots .exit)) ⌝ }
 {
@@ -45,7 +45,7 @@ pub fn is_mapped(
     slot: usize,
     tag: u32,
 ) -> bool
-    requires { ⌜ Mapping (now image) (now bits) × (slot < 3120) ⌝ }
+    requires { ⌜ Mapping (now image) (now bits) × (slot < slotCount) ⌝ }
     requires { ⌜ Remembered (now image) (now bits) unknown (now slots) ⌝ }
     ensures { λ r. ⌜ (r ≡ tagMapped (now (image .entry)) (now (bits .entry)) unknown tag) × Remembered (now (image .entry)) (now (bits .entry)) unknown (now (slots .exit)) ⌝ }
 {

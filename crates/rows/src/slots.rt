@@ -4,20 +4,24 @@ ghost use Prim.Native.Nat.{_/_, _%_, _<_};
 ghost use mathlib.Core.Path.{_≡_};
 ghost use lib.Dec.{eqb};
 ghost use lib.ListN.{length};
+ghost use Rattle.rows.specs.Slots.{slotCount};
+
+// 2,976 own slots and 48 spare ones: the stack of an update holds them all, and has to stay under 16 KiB.
+pub const COUNT: usize = 3024;
 
 // An entry is twice a tag, and 1 more where rows of the tag are handed out. One below 2 is free: it tells of tag 0, which no label carries.
-pub type Slots = [u32; 3120];
+pub type Slots = [u32; COUNT];
 
 // The tag's own slot. The last 48 are nobody's own: with them a search for a tag needs no turn back to the first slot.
 fn slot_of(tag: u32) -> usize
-    ensures { λ r. ⌜ r < 3072 ⌝ }
+    ensures { λ r. ⌜ r < 2976 ⌝ }
 {
-    ((tag as u64) * 2654435769 % 4294967296 * 3072 / 4294967296) as usize
+    ((tag as u64) * 2654435769 % 4294967296 * 2976 / 4294967296) as usize
 }
 
 // From the tag's own slot on the first that holds the tag or is free; its own where 48 hold others.
 pub fn seek(slots: &Slots, tag: u32) -> usize
-    ensures { λ r. ⌜ r < 3120 ⌝ }
+    ensures { λ r. ⌜ r < slotCount ⌝ }
 {
     let own = slot_of(tag);
     let end = own + 48;
@@ -37,9 +41,9 @@ pub fn seek(slots: &Slots, tag: u32) -> usize
 
 // One of the last 48, for a tag that no label carries. There such tags stand in the way of no label's: a table may be full of them.
 pub fn spare_of(tag: u32) -> usize
-    ensures { λ r. ⌜ r < 3120 ⌝ }
+    ensures { λ r. ⌜ r < slotCount ⌝ }
 {
-    3072 + (tag % 48) as usize
+    2976 + (tag % 48) as usize
 }
 
 // The entry for a tag that leaves room for the answer.
