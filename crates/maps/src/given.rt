@@ -8,6 +8,8 @@ ghost use Rattle.header.specs.Limits.{Counted};
 ghost use Rattle.access.specs.Rights.{rightsOf};
 ghost use Rattle.maps.specs.Map.{bitOf, mapLength, mapOf, mapRule};
 use crate::byte::map_byte;
+use crate::whole::put_whole;
+use crate::whole::reads_all;
 use access::rights::View;
 use buffers::answers::Filled;
 use fields::names::same_name;
@@ -34,8 +36,8 @@ pub fn bit_of(bits: &[u8], p: usize) -> bool
     word::has(bits[p / 8] as u64, p % 8)
 }
 
-// Writes the map to the front of the buffer, and tells its length.
-pub fn put_map(image: &[u8], view: View, buffer: &mut [u8]) -> usize
+// Writes the map to the front of the buffer, and tells its length. Every label is asked.
+fn put_asked(image: &[u8], view: View, buffer: &mut [u8]) -> usize
     requires { ⌜ Counted (now image) × (mapLength (now image) ≤ length (now buffer)) ⌝ }
     ensures { λ r. ⌜ Written (now (buffer .entry)) 0 (mapOf (now (image .entry)) (rightsOf view)) (now (buffer .exit)) r ⌝ }
 {
@@ -51,6 +53,17 @@ pub fn put_map(image: &[u8], view: View, buffer: &mut [u8]) -> usize
         k += 1;
     }
     k
+}
+
+// The same. Where the answer is yes to every label, none is asked.
+pub fn put_map(image: &[u8], view: View, buffer: &mut [u8]) -> usize
+    requires { ⌜ Counted (now image) × (mapLength (now image) ≤ length (now buffer)) ⌝ }
+    ensures { λ r. ⌜ Written (now (buffer .entry)) 0 (mapOf (now (image .entry)) (rightsOf view)) (now (buffer .exit)) r ⌝ }
+{
+    if reads_all(view) {
+        return put_whole(layout::labels(image), buffer);
+    }
+    put_asked(image, view, buffer)
 }
 
 // Refusal: 13.

@@ -2,6 +2,7 @@
 // session.
 mod byte;
 pub mod given;
+mod whole;
 
 ghost use mathlib.Core.Path.{_≡_};
 ghost use Rattle.sessions.specs.Session.{sessionOf};

@@ -1,126 +1,55 @@
-use Prim.Native.Nat.{ℕ, _+_, _-_, _*_, _≤_, _<_, min}
-use mathlib.Core.Path.{_≡_, sym, ap, subst, _∙_}
-use mathlib.Core.List.{[], _∷_}
-use native.Mathlib.Nat.{sub-zero, zero-add}
-use native.Mathlib.Omega.{arith}
-use lib.ListN.{length}
-use Rattle.fields.specs.Scan.{listFrom}
-use Rattle.fields.proofs.Scan.{list-turn, list-end}
-use Rattle.header.specs.declared.layout.Kind.the-variants.{Label}
-use Rattle.header.specs.Layout.{labels, Standing}
-use Rattle.header.proofs.Inside.{header-inside, record-upto}
-use Rattle.buffers.proofs.Left.{Left, left-start, left-turn, left-end, byte-alone}
+use mathlib.Core.Path.{sym, _∙_}
+use borrow.Author.Needs.{needs}
+use Rattle.header.proofs.Inside.{header-inside}
 use Rattle.access.specs.Rights.{rightsOf}
-use Rattle.maps.specs.Map.{mapLength, mapByte, mapOf}
-use Rattle.maps.proofs.Bits.{map-long, length-least}
+use Rattle.maps.specs.Map.{mapLength}
+use Rattle.maps.proofs.EveryLabel.{every-label}
 use Rattle.maps.proofs.given.put_map.Statement.{statement}
 use Rattle.maps.proofs.given.put_map.Tie as tie
 
-abbrev Inv-loop : tie.InvT-loop
-Inv-loop image view buffer₀ shape edition count here₀ k₀ buffer here k =
-    Left buffer₀ 0 (mapOf image (rightsOf view)) buffer k (listFrom (mapByte image (rightsOf view)) (count - k) k)
-    × Standing shape (min (8 * k) (labels image)) here
+reads-all-requires : tie.Need-reads-all-requires
+reads-all-requires c κs = search needs
 
-abbrev μ-loop : tie.MeasureT-loop
-μ-loop image view buffer₀ shape edition count here₀ k₀ buffer here k = count - k
+labels-requires : tie.Need-labels-requires
+labels-requires c κs = header-inside _ (c .before .before .before .before .pre .0 .fitted)
 
-shape-of-requires : tie.Need-shape-of-requires Inv-loop μ-loop
-shape-of-requires c κs = header-inside _ (c .before .before .pre .0 .fitted)
+put-whole-requires : tie.Need-put-whole-requires
+unfolding mapLength
+put-whole-requires c κs =
+    let start = c .before .before .before .before .before .before in
+    rw (c .before .labels .ensures .0) (start .pre .1)
 
-edition-of-requires : tie.Need-edition-of-requires Inv-loop μ-loop
-edition-of-requires c κs = header-inside _ (c .before .before .before .pre .0 .fitted)
+same-length : tie.Need-same-length
+same-length c = search needs
 
-map-length-requires : tie.Need-map-length-requires Inv-loop μ-loop
-map-length-requires c κs = c .before .before .before .before .pre .0
-
-record-at-requires : tie.Need-record-at-requires Inv-loop μ-loop
-record-at-requires c κs =
-    let shaped = c .before .before in
-    let start = shaped .before .before .before in
-    let s = shaped .shape-of .ensures in
-    (s .roomy, rw (s .is) (omega (arith, record-upto _ (start .pre .0 .fitted) Label 0 (omega arith))))
-
-loop-holds : tie.Need-loop-holds Inv-loop μ-loop
-unfolding mapOf
-loop-holds c =
-    let shaped = c .before .before .before in
-    let n = labels (shaped .before .before .before .args .image .now) in
-    let first : 0 ≡ min (8 * 0) n = omega arith in (
-      left-start _ _ _ _ (rw (sub-zero, c .before .map-length .ensures .0)),
-      subst (λ (p : ℕ). Standing (shaped .shape-of .result) p (c .record-at .result)) first (c .record-at .ensures),
-    )
-
-map-byte-requires : tie.Need-map-byte-requires Inv-loop μ-loop
-map-byte-requires c κs =
-    let long = c .before .before .before in
-    let edition = long .before in
-    let shaped = edition .before in
-    let start = shaped .before .before .before in
-    let im = start .args .image .now in
-    let l = c .before .loop in
-    let inside : 8 * l .k < labels im = omega (arith, c .loop-test .taken, long .map-length .ensures .0, length-least im) in
-    let here : min (8 * l .k) (labels im) ≡ 8 * l .k = omega arith in (
-      (start .pre .0, (shaped .shape-of .ensures, edition .edition-of .ensures)),
-      (inside, subst (λ (p : ℕ). Standing (shaped .shape-of .result) p (l .here)) here (l .inv .1)),
-    )
-
-slice-write-buffer : tie.Need-slice-write-buffer Inv-loop μ-loop
-slice-write-buffer c =
-    let turn = c .before in
-    let long = turn .before .before .before in
-    let start = long .before .before .before .before .before in
-    omega (arith, turn .before .loop .inv .0 .long, turn .loop-test .taken, long .map-length .ensures .0, start .pre .1)
-
-add-k : tie.Need-add-k Inv-loop μ-loop
-add-k c = omega arith
-
-loop-less : tie.Need-loop-less Inv-loop μ-loop
-loop-less c = omega arith
-
-loop-again : tie.Need-loop-again Inv-loop μ-loop
-loop-again c =
-    let made = c .before in
-    let turn = made .before in
-    let long = turn .before .before .before in
-    let shaped = long .before .before in
-    let start = shaped .before .before .before in
+returns : tie.Need-returns
+returns c =
+    let put = c .before .before in
+    let counted = put .before .before in
+    let seen = counted .before in
+    let start = seen .before .before .before .before in
     let a = start .args in
-    let byte = mapByte (a .image .now) (rightsOf (a .view)) in
-    let count = long .map-length .result in
-    let k = turn .before .loop .k in
-    let inv = turn .before .loop .inv .0 in
-    let room : mapLength (a .image .now) ≤ length (a .buffer .now) = start .pre .1 in
-    let here : k < length (turn .before .loop .buffer) = omega (arith, inv .long, turn .loop-test .taken, long .map-length .ensures .0, room) in
-    let step =
-    list-turn byte count k (turn .loop-test .taken)
-    ∙ ap (λ (x : ℕ). x ∷ listFrom byte (count - (k + 1)) (k + 1)) (sym (made .map-byte .ensures .0)) in
-    let n = labels (a .image .now) in
-    let next : min (8 * k + 8) n ≡ min (8 * (k + 1)) n = omega arith in (
-      left-turn _ _ _ _ _ _ inv _ _ step _ _ (rw (zero-add, map-long) room) (byte-alone _ _ _ here),
-      subst (λ (p : ℕ). Standing (shaped .shape-of .result) p (made .map-byte .result .next)) next (made .map-byte .ensures .1),
-    )
+    let whole = every-label (a .image .now) (rightsOf (a .view)) (sym (seen .before .reads-all .ensures) ∙ seen .if1 .taken) in
+    rw (whole, ← counted .labels .ensures .0) (put .put-whole .ensures)
 
-same-length : tie.Need-same-length Inv-loop μ-loop
-same-length c = c .before .loop .inv .0 .long
+put-asked-requires : tie.Need-put-asked-requires
+put-asked-requires c κs = search needs
 
-returns : tie.Need-returns Inv-loop μ-loop
-returns c = left-end _ _ _ _ _ _ (c .before .loop .inv .0) (list-end _ _ _ (c .loop-test .left))
+same-length-2 : tie.Need-same-length-2
+same-length-2 c = search needs
+
+returns-2 : tie.Need-returns-2
+returns-2 c = c .before .before .put-asked .ensures
 
 pub put-map-spec : {M : Type 1} → statement M
 put-map-spec =
     tie.close
     (tie.spec
-    Inv-loop
-    μ-loop
-    shape-of-requires
-    edition-of-requires
-    map-length-requires
-    record-at-requires
-    loop-holds
-    map-byte-requires
-    slice-write-buffer
-    add-k
-    loop-less
-    loop-again
+    reads-all-requires
+    labels-requires
+    put-whole-requires
     same-length
-    returns)
+    returns
+    put-asked-requires
+    same-length-2
+    returns-2)
