@@ -23,7 +23,7 @@ use records::group_sets::group_set;
 use sets::word;
 
 // Is READ or FULL held?
-pub(crate) fn reads_all(view: View) -> bool
+pub fn reads_all(view: View) -> bool
     ensures { λ r. ⌜ r ≡ readsAll (rightsOf view) ⌝ }
 {
     let privileges = view.privileges as u64;

@@ -9,13 +9,9 @@ use lib.Dec.{ltb}
 use Rattle.fields.specs.Scan.{firstBad}
 use Rattle.fields.proofs.Scan.{bad-same-on}
 use Rattle.sets.specs.Sets.{none, one, union, meets, collect}
-use Rattle.header.specs.declared.profile.Profile.{Profile}
-use Rattle.header.specs.declared.counts.Counts.{Counts}
-use Rattle.records.specs.declared.users.GroupSets.{GroupSets}
-use Rattle.records.specs.Users.{GroupsAre}
 use Rattle.hierarchy.specs.Forest.{Forest, hasParentIn, endsWithinIn, endsIn, AllEndIn, firstRingIn, lineageWithinIn, lineageIn, belowIn}
 use Rattle.hierarchy.specs.Forest.{tableRoom, ParentsIn, forestBy, Ordered, OrderedBy, TabledIn}
-use Rattle.hierarchy.specs.Below.{forestIn, belowSets, setsRule, ofSets, groupSetsIn}
+use Rattle.hierarchy.specs.Below.{belowSets}
 use Rattle.hierarchy.proofs.Lineage.{parent-below}
 
 pub record Alike (f new : Forest) : Type 0 where
@@ -95,14 +91,6 @@ module _ (f new : Forest) (same : Alike f new) where
   pub sets-alike : (read write default row : ℕ) → belowSets new read write default row ≡ belowSets f read write default row
   unfolding belowSets
   sets-alike read write default row = rw (below-alike read, below-alike default, below-alike write)
-
--- the rule of the sets that a user's record holds, by the values that code has for them
-pub sets-held : (n : Counts) (components : List (List ℕ)) (rec : List ℕ) (new : Forest) (profile : Profile) (sets : GroupSets)
-    → Alike (forestIn n components) new → profile ≡ n .profile → GroupsAre (n .edition) rec sets
-    → ofSets (setsRule profile new) sets ≡ groupSetsIn n components rec
-unfolding groupSetsIn
-sets-held n components rec new profile sets same is are =
-    rw (are .read, are .write, are .default, are .row, is, sets-alike (forestIn n components) new same _ _ _ _)
 
 -- ---- the forest of a table that holds the parents
 pub table-alike : (f : Forest) (count : ℕ) (table : List ℕ) → count ≡ f .count → ParentsIn f table → Alike f (forestBy count table)

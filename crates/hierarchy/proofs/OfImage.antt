@@ -7,19 +7,17 @@ use Rattle.fields.specs.Scan.{firstBad}
 use Rattle.header.specs.declared.layout.Kind.the-variants.{Component, User}
 use Rattle.header.specs.declared.profile.Profile.{Profile}
 use Rattle.header.specs.declared.profile.Profile.the-variants.{Tree}
-use Rattle.header.specs.Layout.{editionOf, profileOf, byProfile, groups, users, components, countsOf, classFirst, componentRecord, userRecord, recordsOf}
+use Rattle.header.specs.Layout.{editionOf, byProfile, groups, users, components, countsOf, classFirst, componentRecord, userRecord, recordsOf}
 use Rattle.header.specs.Limits.{Counted}
 use Rattle.header.proofs.Inside.{records-count, record-of}
-use Rattle.records.specs.declared.users.GroupSets.{GroupSets}
 use Rattle.records.specs.Fields.{parentOf}
-use Rattle.records.specs.Users.{GroupsAre}
 use Rattle.records.specs.Rules.{recordIn}
 use Rattle.hierarchy.specs.Forest.{tableRoom, forestBy, OrderedBy}
-use Rattle.hierarchy.specs.Below.{parentIn, setsRule, ofSets, groupSetsIn, firstBadSets, forestOf, parent, groupSetsRule, firstBadBelow}
+use Rattle.hierarchy.specs.Below.{parentIn, firstBadSets, forestOf, parent, groupSetsRule, firstBadBelow}
 use Rattle.hierarchy.specs.Below.{AllEnd, Parents, Tabled, RingFound}
 use Rattle.hierarchy.specs.Paths.{OrderFound}
 use Rattle.hierarchy.proofs.Room.{groups-table}
-use Rattle.hierarchy.proofs.Alike.{Alike, sets-held, table-alike, tabled-by}
+use Rattle.hierarchy.proofs.Alike.{Alike, table-alike, tabled-by}
 use Rattle.hierarchy.proofs.Rings.{ring-none, ring-past}
 use Rattle.hierarchy.proofs.OrderTurns.{found-ring, found-parents, found-ordered}
 
@@ -51,14 +49,6 @@ module _ (im table : List ℕ) (count : ℕ) (is : count ≡ groups im) where
 
   pub tabled-ordered : Counted im → Tabled im table → OrderedBy count table
   tabled-ordered c tabled = tabled-by (forestOf im) count table is (tabled-fits c) tabled
-
-  -- the rule of the user at place u
-  pub user-sets : (profile : Profile) (sets : GroupSets) (u : ℕ) → Parents im table → u < users im → profile ≡ profileOf im
-      → GroupsAre (editionOf im) (userRecord im u) sets
-      → ofSets (setsRule profile (forestBy count table)) sets ≡ groupSetsRule im u
-  user-sets profile sets u parents h p are =
-      sets-held (countsOf im) (recordsOf im Component) (userRecord im u) (forestBy count table) profile sets (tabled-alike parents) p are
-      ∙ ap (groupSetsIn (countsOf im) (recordsOf im Component)) (sym (user-record im u h))
 
 -- the order has been put behind the parents
 pub ring-found : (im before table : List ℕ) (count r : ℕ) → count ≡ groups im → Counted im → Parents im before → OrderFound count before table r

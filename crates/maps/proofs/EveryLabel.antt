@@ -15,7 +15,8 @@ use Rattle.header.specs.Layout.{labels}
 use Rattle.labels.specs.Label.{labelAt}
 use Rattle.access.specs.Rights.{Rights}
 use Rattle.access.specs.Verdicts.{readsAll, readsLabel}
-use Rattle.maps.specs.Map.{readsRecord, mapLength, mapByte, mapOf, wholeByte, wholeMap}
+use Rattle.maps.specs.Map.{readsRecord, mapLength, mapByte, mapOf}
+use Rattle.maps.specs.Whole.{wholeByte, wholeMap}
 
 -- ---- bytes of the whole map
 module _ (n k : ℕ) where

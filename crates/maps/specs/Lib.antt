@@ -1,3 +1,4 @@
 -- Maps of sessions: request R-4.
 pub mod Map
+pub mod Whole
 pub mod Calls

@@ -1,13 +1,13 @@
 -- The map for an image and session, request R-4: one bit for each label record, bit p mod 8 of byte p div 8, set exactly if the session may read
 -- that label; as few bytes as hold them, spare bits zero. Of the session it takes the user and the session label: the row label counts for 19 only.
-use Prim.Native.Nat.{ℕ, _+_, _-_, _*_, _/_, _%_, min}
+use Prim.Native.Nat.{ℕ, _+_, _*_, _/_, _%_}
 use mathlib.Core.Bool.{Bool, _&&_}
 use mathlib.Core.List.{List}
 use lib.Dec.{ltb}
 use Rattle.fields.specs.Bytes.{byteAt}
 use Rattle.fields.specs.Scan.{listFrom}
 use Rattle.fields.specs.Names.{sameBytes}
-use Rattle.sets.specs.Sets.{has, allBelow, collect}
+use Rattle.sets.specs.Sets.{has, collect}
 use Rattle.header.specs.Layout.{labels}
 use Rattle.labels.specs.Label.{labelAt}
 use Rattle.access.specs.Rights.{Rights}
@@ -34,14 +34,6 @@ mapByte im rights k = collect (λ i. readsRecord im rights (8 * k + i)) 8
 unfoldable pub mapOf : List ℕ → Rights → List ℕ
 mapOf im rights = listFrom (mapByte im rights) (mapLength im) 0
 
--- ---- the map of n labels for whoever may read every one
--- byte k has a bit for each record that is left for it, of at most eight
-unfoldable pub wholeByte : ℕ → ℕ → ℕ
-wholeByte n k = allBelow (min 8 (n - 8 * k))
-
-unfoldable pub wholeMap : ℕ → List ℕ
-wholeMap n = listFrom (wholeByte n) ((n + 7) / 8) 0
-
--- ---- lent bytes are the map
+-- ---- lent bytes are that map
 unfoldable pub mapRule : List ℕ → Rights → List ℕ → Bool
 mapRule im rights bits = sameBytes bits (mapOf im rights)

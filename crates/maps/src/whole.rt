@@ -4,19 +4,8 @@ ghost use Prim.Native.Nat.{_+_, _/_, _≤_};
 ghost use mathlib.Core.Path.{_≡_};
 ghost use lib.ListN.{length};
 ghost use Rattle.buffers.specs.Pasting.{Written};
-ghost use Rattle.access.specs.Rights.{rightsOf};
-ghost use Rattle.access.specs.Verdicts.{readsAll};
-ghost use Rattle.maps.specs.Map.{wholeMap};
-use access::rights::View;
+ghost use Rattle.maps.specs.Whole.{wholeMap};
 use sets::word;
-
-// Is READ or FULL held? Those read every label. The crate `access` asks the same by a function of its own.
-pub(crate) fn reads_all(view: View) -> bool
-    ensures { λ r. ⌜ r ≡ readsAll (rightsOf view) ⌝ }
-{
-    let privileges = view.privileges as u64;
-    word::has(privileges, 0) | word::has(privileges, 1)
-}
 
 // Writes the map of so many labels to the front of the buffer, and tells its length. Eight labels fill a byte, so that every byte but the last is
 // 255; the last has a bit for each label that is left, and where none is left there is no such byte.

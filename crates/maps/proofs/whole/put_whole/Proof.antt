@@ -9,7 +9,7 @@ use Rattle.fields.specs.Scan.{listFrom}
 use Rattle.fields.proofs.Scan.{list-turn, list-end}
 use Rattle.sets.specs.Sets.{allBelow}
 use Rattle.buffers.proofs.Left.{Left, left-start, left-turn, left-end, byte-alone}
-use Rattle.maps.specs.Map.{wholeByte, wholeMap}
+use Rattle.maps.specs.Whole.{wholeByte, wholeMap}
 use Rattle.maps.proofs.EveryLabel.{byte-full, byte-last, whole-long}
 use Rattle.maps.proofs.whole.put_whole.Statement.{statement}
 use Rattle.maps.proofs.whole.put_whole.Tie as tie
