@@ -1,15 +1,15 @@
 #!/usr/bin/env bash
-# Counts the instructions of calls of the library by callgrind, and fails where one is over its limit. A slower form of a loop
-# that is still right, such as one that the compiler no longer makes vector code of, shows here. Without valgrind nothing is
-# counted, which is no failure; without target/staticlib/libabi.a nothing can be, which is one.
+# Counts the instructions of calls of the library by callgrind, and the stack of some, and fails where one is over its limit. A
+# slower form of a loop that is still right, such as one that the compiler no longer makes vector code of, shows here. Without
+# valgrind nothing is counted, which is no failure; without target/staticlib/libabi.a nothing can be, which is one.
 set -eu
 cd "$(dirname "$0")"
 unset BRAWNESK_LIB_DIR
 
 # A call as the bench program names it, with @ and its image if that isn't the largest of edition 1; what is counted: the whole
-# call, its share for each row, or how many times another call it is; and the limit. Four limits only keep what was reached: check@worst,
-# whose names also end alike, parse-longest, whose mark is 243,741, set-label-longest, for whose text there is no mark, and rows-20,
-# where 1.05 was asked for (docs/BENCHMARKS.md).
+# call, its share for each row, how many times another call it is, or the bytes of its stack; and the limit. Two limits only keep what
+# was reached: check@worst, whose names also end alike, and set-label-longest, for whose text there is no mark. A mapped read judges
+# the map, which a plain one makes: that is a few dozen instructions on millions (docs/BENCHMARKS.md).
 limits='
 check                whole    190000
 check@parent-higher  check    1.2
@@ -24,13 +24,22 @@ read-10-counted      row      130
 read-64-counted      row      130
 update-10            row      60
 update-64            row      60
-parse-longest        whole    246000
+parse-longest        whole    243741
 print-longest        whole    203111
-set-label-longest    whole    250000
-rows-20              check    1.06
+set-label-longest    whole    245000
+rows-20              check    1.05
 write                check    2
-mapped-10            read-10  1.001
-mapped-64            read-64  1.001
+write@parent-higher  check@parent-higher  2
+write@parent-lower   check@parent-lower   2
+mapped-10            read-10  1.0002
+mapped-64            read-64  1.0002
+check                stack    4096
+write                stack    4096
+read-10              stack    16384
+mapped-10            stack    16384
+update-10            stack    16384
+parse-longest        stack    16384
+set-label-longest    stack    16384
 '
 
 if ! command -v valgrind >/dev/null; then
@@ -46,26 +55,35 @@ fi
 # What the call is divided by.
 unit() {
     case "$2" in
-    whole) echo 1 ;;
+    whole | stack) echo 1 ;;
     row) "$bench" rows "$1" ;;
     *) echo "${counts[ours-$2]}" ;;
     esac
 }
 
+# What is measured of a call: its instructions, or the bytes of its stack.
+measured() {
+    if [ "$2" = stack ]; then
+        "$bench" ours "$1" stack
+    else
+        echo "${counts[ours-$1]}"
+    fi
+}
+
 lines=0
 over=()
-printf '%-20s %12s %12s %10s  %s\n' call instructions figure limit of
+printf '%-20s %12s %12s %10s  %s\n' call measured figure limit of
 while read -r call what limit; do
     if [ -z "$call" ]; then continue; fi
-    counted ours "$call"
-    case "$what" in whole | row) ;; *) counted ours "$what" ;; esac
-    instructions=${counts[ours-$call]}
+    if [ "$what" != stack ]; then counted ours "$call"; fi
+    case "$what" in whole | row | stack) ;; *) counted ours "$what" ;; esac
+    value=$(measured "$call" "$what")
     divisor=$(unit "$call" "$what")
-    figure=$(awk -v count="$instructions" -v divisor="$divisor" -v what="$what" \
-        'BEGIN { printf what == "whole" ? "%d" : what == "row" ? "%.1f" : "%.4f", count / divisor }')
-    verdict=$(awk -v count="$instructions" -v divisor="$divisor" -v limit="$limit" \
+    figure=$(awk -v count="$value" -v divisor="$divisor" -v what="$what" \
+        'BEGIN { printf what == "whole" || what == "stack" ? "%d" : what == "row" ? "%.1f" : "%.4f", count / divisor }')
+    verdict=$(awk -v count="$value" -v divisor="$divisor" -v limit="$limit" \
         'BEGIN { print (count > limit * divisor + 0.000001 ? "PASSED OVER" : "ok") }')
-    printf '%-20s %12s %12s %10s  %-9s %s\n' "$call" "$instructions" "$figure" "$limit" "$what" "$verdict"
+    printf '%-20s %12s %12s %10s  %-9s %s\n' "$call" "$value" "$figure" "$limit" "$what" "$verdict"
     lines=$((lines + 1))
     if [ "$verdict" != ok ]; then over+=("$call: $figure, limit $limit"); fi
 done <<<"$limits"

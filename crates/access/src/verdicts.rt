@@ -58,23 +58,30 @@ fn read_groups(view: View, row: Label) -> bool
     group_test::passes(profile, view.reached_groups, row.groups)
 }
 
-// Is a row of that label readable by level, groups and compartments, or by COMPACCESS?
+// Is a row of that label readable by level, groups and compartments, or by COMPACCESS? Both ask for level and compartments.
 fn read_tests(view: View, row: Label) -> bool
     ensures { λ r. ⌜ r ≡ readTests (rightsOf view) (marksOf row) ⌝ }
 {
-    let compaccess = holds_compaccess(view);
-    let level = read_level(view, row);
-    let groups = read_groups(view, row);
-    let compartments = word::within(row.compartments, view.compartments);
-    (level & groups & compartments)
-        | (compaccess & level & !word::is_empty(row.compartments) & compartments)
+    if !read_level(view, row) {
+        return false;
+    }
+    if !word::within(row.compartments, view.compartments) {
+        return false;
+    }
+    if holds_compaccess(view) & !word::is_empty(row.compartments) {
+        return true;
+    }
+    read_groups(view, row)
 }
 
 // Is a row of that label readable?
 pub fn reads_label(view: View, row: Label) -> bool
     ensures { λ r. ⌜ r ≡ readsLabel (rightsOf view) (marksOf row) ⌝ }
 {
-    reads_all(view) | read_tests(view, row)
+    if reads_all(view) {
+        return true;
+    }
+    read_tests(view, row)
 }
 
 // A row with groups asks for the session's compartments only.

@@ -29,11 +29,16 @@ fn put_set(rows: &mut [u64], b: usize, s: Groups)
     rows[b + 192] = s.word(3);
 }
 
-// Turns the rows over, sixty-four at once: for each of `count` groups a row, in which bit b tells whether the group is in the set at place b.
+// Turns the rows over, sixty-four at once: for each of `count` groups a row, in which bit b tells whether the group is in the set at place b. An image of
+// edition 1 has no more than sixty-four.
 fn turn_over(count: usize, rows: &mut [u64])
     requires { ⌜ (count ≤ tableRoom) × (length (now rows) ≡ tableRoom) ⌝ }
     ensures { λ r. ⌜ Turned count (now (rows .entry)) (now (rows .exit)) ⌝ }
 {
+    if count <= 64 {
+        transpose(&mut rows[0..64]);
+        return;
+    }
     let mut from = 0;
     while from < count {
         let end = from + 64;

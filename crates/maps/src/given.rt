@@ -36,14 +36,14 @@ pub fn bit_of(bits: &[u8], p: usize) -> bool
     word::has(bits[p / 8] as u64, p % 8)
 }
 
-// Writes the map to the front of the buffer, and tells its length. Every label is asked.
-fn put_asked(image: &[u8], view: View, buffer: &mut [u8]) -> usize
+// Writes the map, of that length, to the front of the buffer, and tells the length. Every label is asked.
+fn put_asked(image: &[u8], view: View, count: usize, buffer: &mut [u8]) -> usize
     requires { ⌜ Counted (now image) × (mapLength (now image) ≤ length (now buffer)) ⌝ }
+    requires { ⌜ count ≡ mapLength (now image) ⌝ }
     ensures { λ r. ⌜ Written (now (buffer .entry)) 0 (mapOf (now (image .entry)) (rightsOf view)) (now (buffer .exit)) r ⌝ }
 {
     let shape = layout::shape_of(image, Kind::Label);
     let edition = edition_of(image);
-    let count = map_length(image);
     let mut here = walk::record_at(shape, 0);
     let mut k = 0;
     while k < count {
@@ -55,15 +55,17 @@ fn put_asked(image: &[u8], view: View, buffer: &mut [u8]) -> usize
     k
 }
 
-// The same. Where the answer is yes to every label, none is asked.
+// Writes the map to the front of the buffer, and tells its length. Where the answer is yes to every label, none is asked. The length is worked out
+// before both ways: with a length of its own in each, the compiled loop over labels takes up to two instructions more for a byte.
 pub fn put_map(image: &[u8], view: View, buffer: &mut [u8]) -> usize
     requires { ⌜ Counted (now image) × (mapLength (now image) ≤ length (now buffer)) ⌝ }
     ensures { λ r. ⌜ Written (now (buffer .entry)) 0 (mapOf (now (image .entry)) (rightsOf view)) (now (buffer .exit)) r ⌝ }
 {
+    let count = map_length(image);
     if reads_all(view) {
-        return put_whole(layout::labels(image), buffer);
+        return put_whole(layout::labels(image), count, buffer);
     }
-    put_asked(image, view, buffer)
+    put_asked(image, view, count, buffer)
 }
 
 // Refusal: 13.

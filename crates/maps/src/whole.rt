@@ -7,10 +7,10 @@ ghost use Rattle.buffers.specs.Pasting.{Written};
 ghost use Rattle.maps.specs.Whole.{wholeMap};
 use sets::word;
 
-// Writes the map of so many labels to the front of the buffer, and tells its length. Eight labels fill a byte, so that every byte but the last is
-// 255; the last has a bit for each label that is left, and where none is left there is no such byte.
-pub(crate) fn put_whole(labels: usize, buffer: &mut [u8]) -> usize
-    requires { ⌜ (labels + 7) / 8 ≤ length (now buffer) ⌝ }
+// Writes the map of so many labels, which has that length, to the front of the buffer, and tells the length. Eight labels fill a byte, so that every
+// byte but the last is 255; the last has a bit for each label that is left, and where none is left there is no such byte.
+pub(crate) fn put_whole(labels: usize, count: usize, buffer: &mut [u8]) -> usize
+    requires { ⌜ (count ≡ (labels + 7) / 8) × (count ≤ length (now buffer)) ⌝ }
     ensures { λ r. ⌜ Written (now (buffer .entry)) 0 (wholeMap labels) (now (buffer .exit)) r ⌝ }
 {
     let full = labels / 8;
@@ -21,9 +21,9 @@ pub(crate) fn put_whole(labels: usize, buffer: &mut [u8]) -> usize
         k += 1;
     }
     if left == 0 {
-        return k;
+        return count;
     }
     let last = word::all_below(left) as u8;
     buffer[k] = last;
-    k + 1
+    count
 }

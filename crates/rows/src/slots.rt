@@ -6,7 +6,7 @@ ghost use lib.Dec.{eqb};
 ghost use lib.ListN.{length};
 ghost use Rattle.rows.specs.Slots.{slotCount};
 
-// 2,976 own slots and 48 spare ones: the stack of an update holds them all, and has to stay under 16 KiB.
+// 2,976 own slots and 48 spare ones. They stand on the stack of a read or an update, which may take 16 KiB.
 pub const COUNT: usize = 3024;
 
 // An entry is twice a tag, and 1 more where rows of the tag are handed out. One below 2 is free: it tells of tag 0, which no label carries.

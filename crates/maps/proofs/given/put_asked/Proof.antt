@@ -17,59 +17,56 @@ use Rattle.maps.proofs.given.put_asked.Statement.{statement}
 use Rattle.maps.proofs.given.put_asked.Tie as tie
 
 abbrev Inv-loop : tie.InvT-loop
-Inv-loop image view buffer₀ shape edition count here₀ k₀ buffer here k =
+Inv-loop image view count buffer₀ shape edition here₀ k₀ buffer here k =
     Left buffer₀ 0 (mapOf image (rightsOf view)) buffer k (listFrom (mapByte image (rightsOf view)) (count - k) k)
     × Standing shape (min (8 * k) (labels image)) here
 
 abbrev μ-loop : tie.MeasureT-loop
-μ-loop image view buffer₀ shape edition count here₀ k₀ buffer here k = count - k
+μ-loop image view count buffer₀ shape edition here₀ k₀ buffer here k = count - k
 
 shape-of-requires : tie.Need-shape-of-requires Inv-loop μ-loop
-shape-of-requires c κs = header-inside _ (c .before .before .pre .0 .fitted)
+shape-of-requires c κs = header-inside _ (c .before .before .pre .0 .0 .fitted)
 
 edition-of-requires : tie.Need-edition-of-requires Inv-loop μ-loop
-edition-of-requires c κs = header-inside _ (c .before .before .before .pre .0 .fitted)
-
-map-length-requires : tie.Need-map-length-requires Inv-loop μ-loop
-map-length-requires c κs = c .before .before .before .before .pre .0
+edition-of-requires c κs = header-inside _ (c .before .before .before .pre .0 .0 .fitted)
 
 record-at-requires : tie.Need-record-at-requires Inv-loop μ-loop
 record-at-requires c κs =
-    let shaped = c .before .before in
+    let shaped = c .before in
     let start = shaped .before .before .before in
     let s = shaped .shape-of .ensures in
-    (s .roomy, rw (s .is) (omega (arith, record-upto _ (start .pre .0 .fitted) Label 0 (omega arith))))
+    (s .roomy, rw (s .is) (omega (arith, record-upto _ (start .pre .0 .0 .fitted) Label 0 (omega arith))))
 
 loop-holds : tie.Need-loop-holds Inv-loop μ-loop
 unfolding mapOf
 loop-holds c =
-    let shaped = c .before .before .before in
-    let n = labels (shaped .before .before .before .args .image .now) in
+    let shaped = c .before .before in
+    let start = shaped .before .before .before in
+    let n = labels (start .args .image .now) in
     let first : 0 ≡ min (8 * 0) n = omega arith in (
-      left-start _ _ _ _ (rw (sub-zero, c .before .map-length .ensures .0)),
+      left-start _ _ _ _ (rw (sub-zero, start .pre .1)),
       subst (λ (p : ℕ). Standing (shaped .shape-of .result) p (c .record-at .result)) first (c .record-at .ensures),
     )
 
 map-byte-requires : tie.Need-map-byte-requires Inv-loop μ-loop
 map-byte-requires c κs =
-    let long = c .before .before .before in
-    let edition = long .before in
+    let edition = c .before .before .before in
     let shaped = edition .before in
     let start = shaped .before .before .before in
     let im = start .args .image .now in
     let l = c .before .loop in
-    let inside : 8 * l .k < labels im = omega (arith, c .loop-test .taken, long .map-length .ensures .0, length-least im) in
+    let inside : 8 * l .k < labels im = omega (arith, c .loop-test .taken, start .pre .1, length-least im) in
     let here : min (8 * l .k) (labels im) ≡ 8 * l .k = omega arith in (
-      (start .pre .0, (shaped .shape-of .ensures, edition .edition-of .ensures)),
+      (start .pre .0 .0, (shaped .shape-of .ensures, edition .edition-of .ensures)),
       (inside, subst (λ (p : ℕ). Standing (shaped .shape-of .result) p (l .here)) here (l .inv .1)),
     )
 
 slice-write-buffer : tie.Need-slice-write-buffer Inv-loop μ-loop
 slice-write-buffer c =
     let turn = c .before in
-    let long = turn .before .before .before in
-    let start = long .before .before .before .before .before in
-    omega (arith, turn .before .loop .inv .0 .long, turn .loop-test .taken, long .map-length .ensures .0, start .pre .1)
+    let shaped = turn .before .before .before .before in
+    let start = shaped .before .before .before in
+    omega (arith, turn .before .loop .inv .0 .long, turn .loop-test .taken, start .pre .0 .1, start .pre .1)
 
 add-k : tie.Need-add-k Inv-loop μ-loop
 add-k c = omega arith
@@ -81,16 +78,15 @@ loop-again : tie.Need-loop-again Inv-loop μ-loop
 loop-again c =
     let made = c .before in
     let turn = made .before in
-    let long = turn .before .before .before in
-    let shaped = long .before .before in
+    let shaped = turn .before .before .before .before in
     let start = shaped .before .before .before in
     let a = start .args in
     let byte = mapByte (a .image .now) (rightsOf (a .view)) in
-    let count = long .map-length .result in
+    let count = a .count in
     let k = turn .before .loop .k in
     let inv = turn .before .loop .inv .0 in
-    let room : mapLength (a .image .now) ≤ length (a .buffer .now) = start .pre .1 in
-    let here : k < length (turn .before .loop .buffer) = omega (arith, inv .long, turn .loop-test .taken, long .map-length .ensures .0, room) in
+    let room : mapLength (a .image .now) ≤ length (a .buffer .now) = start .pre .0 .1 in
+    let here : k < length (turn .before .loop .buffer) = omega (arith, inv .long, turn .loop-test .taken, start .pre .1, room) in
     let step =
     list-turn byte count k (turn .loop-test .taken)
     ∙ ap (λ (x : ℕ). x ∷ listFrom byte (count - (k + 1)) (k + 1)) (sym (made .map-byte .ensures .0)) in
@@ -114,7 +110,6 @@ put-asked-spec =
     μ-loop
     shape-of-requires
     edition-of-requires
-    map-length-requires
     record-at-requires
     loop-holds
     map-byte-requires
