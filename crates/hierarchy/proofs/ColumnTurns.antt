@@ -14,7 +14,7 @@ use lib.Seq.{getD-set-same, getD-set-other}
 use Rattle.sets.specs.Sets.{has, one, union, intersection, difference, collect}
 use Rattle.sets.proofs.Has.{has-ext, none-has, one-has, union-has, intersection-has, difference-has, collect-has}
 use Rattle.sets.proofs.Words.{moved-has}
-use Rattle.hierarchy.specs.Forest.{Forest, belowIn, tableRoom, forestBy, orderAt, OrderedBy}
+use Rattle.hierarchy.specs.Forest.{Forest, belowIn, tableRoom, parentBy, forestBy, orderAt, OrderedBy}
 use Rattle.hierarchy.specs.Columns.{column, asked, lacking, rowAbove, lacks, Lacked}
 use Rattle.hierarchy.proofs.InOrder.{Descending, descend-put, descend-pass}
 
@@ -42,7 +42,7 @@ lacking-has x u b =
 
 -- ---- one turn, for one bit
 module _ (count : ℕ) (table : List ℕ) (all : OrderedBy count table) (s i g p b : ℕ) (rows : List ℕ) (size : length rows ≡ tableRoom)
-    (so : Descending count table s (column count rows b) i) (left : i < count) (is : g ≡ orderAt table i) (up : p ≡ getD table g 0) (new : ℕ)
+    (so : Descending count table s (column count rows b) i) (left : i < count) (is : g ≡ orderAt table i) (up : p ≡ parentBy table g) (new : ℕ)
     (joins : new ≡ union (getD rows g 0) (rowAbove count rows p)) where
   group : g < count
   group = rw is (all .2 .group i left)
@@ -142,7 +142,7 @@ pass-start count table rows size =
     }
 
 module _ (count : ℕ) (table rows₀ rows : List ℕ) (r i g p : ℕ) (all : OrderedBy count table) (so : Passing count table rows₀ rows r i) (left : i < count)
-    (is : g ≡ orderAt table i) (up : p ≡ getD table g 0) (below : ℕ) (joins : below ≡ union (getD rows g 0) (rowAbove count rows p)) where
+    (is : g ≡ orderAt table i) (up : p ≡ parentBy table g) (below : ℕ) (joins : below ≡ union (getD rows g 0) (rowAbove count rows p)) where
   abbrev f : Forest
   f = forestBy count table
 

@@ -17,7 +17,7 @@ use Rattle.sets.proofs.Within.{within-trans, intersection-within-right}
 use Rattle.sets.proofs.Bounds.{within-below}
 use Rattle.sets.proofs.Words.{low-has, wordOf-zero, joined-has, joined-whole}
 use Rattle.sets.proofs.EachWord.{each-wordOf, joined-with}
-use Rattle.hierarchy.specs.Forest.{Forest, belowIn, forestBy, orderAt, OrderedBy}
+use Rattle.hierarchy.specs.Forest.{Forest, belowIn, parentBy, forestBy, orderAt, OrderedBy}
 use Rattle.hierarchy.proofs.Under.{below-place, below-outside, below-parent, below-self, below-groups}
 
 -- of the groups at the first i places, r has those that lie below s; of the others those of s
@@ -43,7 +43,7 @@ descend-start count table t s is =
     and-none false = refl
 
 module _ (count : ℕ) (table : List ℕ) (all : OrderedBy count table) (s r i g p : ℕ) (so : Descending count table s r i) (left : i < count)
-    (is : g ≡ orderAt table i) (up : p ≡ getD table g 0) where
+    (is : g ≡ orderAt table i) (up : p ≡ parentBy table g) where
   abbrev f : Forest
   f = forestBy count table
 
@@ -53,7 +53,7 @@ module _ (count : ℕ) (table : List ℕ) (all : OrderedBy count table) (s r i g
   -- the parent has been asked
   parent-done : p < count → has r p ≡ has (belowIn f s) p
   parent-done h =
-      let same : p ≡ getD table (orderAt table i) 0 = up ∙ ap (λ (x : ℕ). getD table x 0) is in
+      let same : p ≡ parentBy table (orderAt table i) = up ∙ ap (λ (x : ℕ). parentBy table x) is in
       let q = all .2 .after i left (rw (sym same) h) in
       let at : orderAt table (q .0) ≡ p = q .1 .1 ∙ sym same in
       ap (has r) (sym at) ∙ so .done (q .0) (q .1 .0) ∙ ap (has (belowIn f s)) at
@@ -152,7 +152,7 @@ four-are (a ∷ b ∷ c ∷ d ∷ x ∷ ws) e = absurd (omega arith)
 
 -- the turn of the pass, by words
 module _ (count : ℕ) (table : List ℕ) (all : OrderedBy count table) (s i g p : ℕ) (ws : List ℕ) (four : length ws ≡ 4)
-    (so : Descending count table s (joined ws) i) (left : i < count) (is : g ≡ orderAt table i) (up : p ≡ getD table g 0) (new : List ℕ) where
+    (so : Descending count table s (joined ws) i) (left : i < count) (is : g ≡ orderAt table i) (up : p ≡ parentBy table g) (new : List ℕ) where
   pub words-put : (w : ℕ) → p < count → has (getD ws (p / 64) 0) (p % 64) ≡ true → w ≡ union (getD ws (g / 64) 0) (one (g % 64))
       → new ≡ set ws (g / 64) w → (length new ≡ 4) × Descending count table s (joined new) (i + 1)
   words-put w h k e put =

@@ -14,7 +14,7 @@ use lib.ListN.{length, getD}
 use Rattle.fields.specs.Scan.{firstBad}
 use Rattle.fields.proofs.Scan.{loop-good, loop-bad, loop-end}
 use Rattle.hierarchy.specs.Forest.{Forest, hasParentIn, endsWithinIn, endsIn, here, up, firstRingIn}
-use Rattle.hierarchy.specs.Forest.{tableRoom, tableLength, ParentsIn, forestBy, orderAt, Ordered}
+use Rattle.hierarchy.specs.Forest.{tableRoom, tableLength, parentBy, ParentsIn, forestBy, orderAt, Ordered}
 use Rattle.hierarchy.specs.Paths.{ancestor, Passes, Placed, OrderFound}
 use Rattle.hierarchy.proofs.Lineage.{ends-none, ends-parent}
 use Rattle.hierarchy.proofs.Walks.{too-many, top-ends, above-ends}
@@ -77,8 +77,8 @@ pub record Turn (count : ℕ) (before table places : List ℕ) (end g : ℕ) : T
   pub upto : g ≤ count
   pub long : length table ≡ tableLength
   pub room : length places ≡ tableRoom
-  pub parents : (p : ℕ) → p < tableRoom → getD table p 0 ≡ getD before p 0
-  pub placing : Placing count (λ p. getD table p 0) table places end
+  pub parents : (p : ℕ) → p < tableRoom → parentBy table p ≡ parentBy before p
+  pub placing : Placing count (λ p. parentBy table p) table places end
   pub ends : (p : ℕ) → p < count → 0 < getD places p 0 → endsIn (forestBy count before) p ≡ true
   pub reached : (p : ℕ) → p < g → 0 < getD places p 0
   pub rest : firstBad (endsIn (forestBy count before)) (count - g) g ≡ firstRingIn (forestBy count before)
@@ -92,14 +92,14 @@ turn-start count table places long room none =
       long = long;
       room = room;
       parents = λ p h. refl;
-      placing = placing-start count (λ p. getD table p 0) table places none;
+      placing = placing-start count (λ p. parentBy table p) table places none;
       ends = λ p l h. absurd (omega (arith, none p l));
       reached = λ p h. absurd (omega arith);
       rest = rw sub-zero;
     }
 
 module _ (count : ℕ) (before table places : List ℕ) (end g n : ℕ) (fits : count ≤ tableRoom) (turn : Turn count before table places end g)
-    (group : g < count) (walk : Passes count (λ p. getD table p 0) places g n) where
+    (group : g < count) (walk : Passes count (λ p. parentBy table p) places g n) where
   same : Alike (forestBy count before) (forestBy count table)
   same = table-alike (forestBy count before) count table refl (λ p l. turn .parents p (omega arith))
 
@@ -116,25 +116,25 @@ module _ (count : ℕ) (before table places : List ℕ) (end g n : ℕ) (fits : 
       }
 
   module _ (ends : n ≤ count) where
-    walk-sure : (k : ℕ) → k ≤ n → ancestor (λ p. getD table p 0) k g < count → endsIn (forestBy count before) (ancestor (λ p. getD table p 0) k g) ≡ true
+    walk-sure : (k : ℕ) → k ≤ n → ancestor (λ p. parentBy table p) k g < count → endsIn (forestBy count before) (ancestor (λ p. parentBy table p) k g) ≡ true
     walk-sure k h l =
-        sym (as-before (ancestor (λ p. getD table p 0) k g) l)
+        sym (as-before (ancestor (λ p. parentBy table p) k g) l)
         ∙ walk-ends (forestBy count table) places g n walk ends (λ p m q. as-before p m ∙ turn .ends p m q) (n - k) k (omega arith) l
 
     -- its groups have got their places
-    module _ (new are : List ℕ) (put : Placed (λ p. getD table p 0) g end (end + n) table places new are) where
+    module _ (new are : List ℕ) (put : Placed (λ p. parentBy table p) g end (end + n) table places new are) where
       next-ends : (p : ℕ) → p < count → 0 < getD are p 0 → endsIn (forestBy count before) p ≡ true
       next-ends p l h =
           ⊎-elim (turn .ends p l)
           (λ q.
           subst (λ (x : ℕ). x < count → endsIn (forestBy count before) x ≡ true) (q .1 .1) (walk-sure (q .0) (omega (arith, q .1 .0))) l)
-          (placed-by count (λ p. getD table p 0) table places end g n (turn .placing) walk ends new are put p h)
+          (placed-by count (λ p. parentBy table p) table places end g n (turn .placing) walk ends new are put p h)
 
       -- the table has the same parents
-      next-placing : Placing count (λ p. getD new p 0) new are (end + n)
+      next-placing : Placing count (λ p. parentBy new p) new are (end + n)
       next-placing =
-          let next = placing-next count (λ p. getD table p 0) table places end g n (turn .placing) walk ends new are put in
-          let alike : (i : ℕ) → i < end + n → getD new (orderAt new i) 0 ≡ getD table (orderAt new i) 0 =
+          let next = placing-next count (λ p. parentBy table p) table places end g n (turn .placing) walk ends new are put in
+          let alike : (i : ℕ) → i < end + n → parentBy new (orderAt new i) ≡ parentBy table (orderAt new i) =
           λ i h. let l = next .group i h in put .parents (orderAt new i) (omega arith) in
           record {
             upto = next .upto;
@@ -156,8 +156,8 @@ module _ (count : ℕ) (before table places : List ℕ) (end g n : ℕ) (fits : 
             ends = next-ends;
             reached =
                 below-more (λ (p : ℕ). 0 < getD are p 0) g
-                (λ p h. placed-still count (λ p. getD table p 0) table places end g n (turn .placing) walk ends new are put p (turn .reached p h))
-                (placed-here count (λ p. getD table p 0) table places end g n (turn .placing) walk ends new are put group);
+                (λ p h. placed-still count (λ p. parentBy table p) table places end g n (turn .placing) walk ends new are put p (turn .reached p h))
+                (placed-here count (λ p. parentBy table p) table places end g n (turn .placing) walk ends new are put group);
             rest = loop-good _ _ _ _ group (turn .rest) (walk-sure 0 zero-le group);
           }
 
@@ -201,8 +201,8 @@ module _ (count : ℕ) (before table places : List ℕ) (end : ℕ) (fits : coun
         after =
             λ i h l.
             let q = turn .placing .after i (omega (arith, all-placed)) l in (
-              getD places (getD table (orderAt table i) 0) 0 - 1,
-              (omega (arith, q .0, q .1), turn .placing .known (getD table (orderAt table i) 0) l (q .0) .1),
+              getD places (parentBy table (orderAt table i)) 0 - 1,
+              (omega (arith, q .0, q .1), turn .placing .known (parentBy table (orderAt table i)) l (q .0) .1),
             );
       }
 

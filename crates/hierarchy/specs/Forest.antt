@@ -1,11 +1,11 @@
 -- A forest: groups and their parents. Rings of parents, ancestors and what lies below a set are said of any forest; an image has one, and
 -- so have component records that no image holds yet.
-use Prim.Native.Nat.{ℕ, zero, suc, _+_, _≤_, _<_}
+use Prim.Native.Nat.{ℕ, zero, suc, _+_, _*_, _≤_, _<_}
 use mathlib.Core.Path.{_≡_}
 use mathlib.Core.Bool.{Bool, true, false, cond, not, _||_}
 use mathlib.Core.List.{List}
 use lib.Dec.{ltb}
-use lib.ListN.{getD}
+use Rattle.fields.specs.Bytes.{byteAt, number2}
 use Rattle.fields.specs.Scan.{firstBad}
 use Rattle.sets.specs.Sets.{none, one, union, meets, collect}
 
@@ -58,32 +58,33 @@ belowIn f s = collect (λ g. meets (lineageIn f g) s) (f .count)
 abbrev pub tableRoom : ℕ
 tableRoom = 256
 
--- how many numbers it has
+-- how many bytes it has: two for each parent, and one for each place of the order
 abbrev pub tableLength : ℕ
-tableLength = 512
+tableLength = 768
 
--- the table holds the parent's place of every group
-abbrev pub ParentsIn : Forest → List ℕ → Type 0
-ParentsIn f table = (g : ℕ) → g < f .count → getD table g 0 ≡ f .parent g
-
--- the parent's place that the table holds for g, and the forest of `count` groups whose parents it holds
+-- the parent's place that the table holds for g
 abbrev pub parentBy : List ℕ → ℕ → ℕ
-parentBy table g = getD table g 0
+parentBy table g = number2 table (2 * g)
 
+-- it holds the parent's place of every group
+abbrev pub ParentsIn : Forest → List ℕ → Type 0
+ParentsIn f table = (g : ℕ) → g < f .count → parentBy table g ≡ f .parent g
+
+-- the forest of `count` groups whose parents it holds
 abbrev pub forestBy : ℕ → List ℕ → Forest
 forestBy count table = record { count = count; parent = parentBy table }
 
 -- the group at place i of the order
 abbrev pub orderAt : List ℕ → ℕ → ℕ
-orderAt table i = getD table (tableRoom + i) 0
+orderAt table i = byteAt table (512 + i)
 
 -- the table orders `count` groups: each stands at one of the first `count` places, and its parent, where it has one, at a lower place
 pub record Ordered (count : ℕ) (table : List ℕ) : Type 0 where
   pub group : (i : ℕ) → i < count → orderAt table i < count
   pub once : (i j : ℕ) → i < count → j < count → orderAt table i ≡ orderAt table j → i ≡ j
   pub every : (g : ℕ) → g < count → (i : ℕ) × ((i < count) × (orderAt table i ≡ g))
-  pub after : (i : ℕ) → i < count → getD table (orderAt table i) 0 < count
-      → (j : ℕ) × ((j < i) × (orderAt table j ≡ getD table (orderAt table i) 0))
+  pub after : (i : ℕ) → i < count → parentBy table (orderAt table i) < count
+      → (j : ℕ) × ((j < i) × (orderAt table j ≡ parentBy table (orderAt table i)))
 
 -- the table has room for so many groups, the parents of each end, and it orders them
 abbrev pub OrderedBy : ℕ → List ℕ → Type 0

@@ -3,7 +3,7 @@ use Prim.Native.Nat.{ℕ, zero, suc, _+_, _-_, _≤_, _<_}
 use mathlib.Core.Path.{_≡_}
 use mathlib.Core.List.{List}
 use lib.ListN.{getD}
-use Rattle.hierarchy.specs.Forest.{firstRingIn, tableRoom, forestBy, orderAt, Ordered}
+use Rattle.hierarchy.specs.Forest.{firstRingIn, tableRoom, parentBy, forestBy, orderAt, Ordered}
 
 -- the n-th parent of g
 unfoldable pub ancestor : (ℕ → ℕ) → ℕ → ℕ → ℕ
@@ -24,7 +24,7 @@ pub record Differ (room : ℕ) (parent : ℕ → ℕ) (g n : ℕ) : Type 0 where
 
 -- the groups of a walk from g have the places from `from` up to `end`, g the last; the table and the places were `before` and `were`
 pub record Placed (parent : ℕ → ℕ) (g from end : ℕ) (before were table places : List ℕ) : Type 0 where
-  pub parents : (p : ℕ) → p < tableRoom → getD table p 0 ≡ getD before p 0
+  pub parents : (p : ℕ) → p < tableRoom → parentBy table p ≡ parentBy before p
   pub lower : (i : ℕ) → i < from → orderAt table i ≡ orderAt before i
   pub order : (i : ℕ) → from ≤ i → i < end → orderAt table i ≡ ancestor parent (end - 1 - i) g
   pub place : (i : ℕ) → from ≤ i → i < end → getD places (ancestor parent (end - 1 - i) g) 0 ≡ i + 1
@@ -34,5 +34,5 @@ pub record Placed (parent : ℕ → ℕ) (g from end : ℕ) (before were table p
 -- where there is no such group it orders them
 pub record OrderFound (count : ℕ) (before table : List ℕ) (r : ℕ) : Type 0 where
   pub ring : r ≡ firstRingIn (forestBy count before)
-  pub parents : (p : ℕ) → p < tableRoom → getD table p 0 ≡ getD before p 0
+  pub parents : (p : ℕ) → p < tableRoom → parentBy table p ≡ parentBy before p
   pub ordered : count ≤ r → Ordered count table

@@ -7,13 +7,13 @@ ghost use lib.ListN.{length, getD};
 ghost use Rattle.hierarchy.specs.Forest.{tableRoom, tableLength, parentBy};
 ghost use Rattle.hierarchy.specs.Paths.{Passes, Differ, Placed, OrderFound};
 use crate::table::Table;
-use crate::table::wide;
+use fields::numbers::number2;
 
 // One more than each group's place; 0 where it has none.
 const NO_PLACES: [u16; 256] = [0u16; 256];
 
 // How many groups the walk from g passes. One that never ends is broken off.
-fn walk_length(count: usize, table: &[u16], places: &[u16], g: usize) -> usize
+fn walk_length(count: usize, table: &[u8], places: &[u16], g: usize) -> usize
     requires { ⌜ (count ≤ tableRoom) × ((length (now table) ≡ tableLength) × (length (now places) ≡ tableRoom)) ⌝ }
     ensures { λ r. ⌜ Passes count (parentBy (now (table .entry))) (now (places .entry)) g r ⌝ }
 {
@@ -26,14 +26,14 @@ fn walk_length(count: usize, table: &[u16], places: &[u16], g: usize) -> usize
         if places[at] != 0 {
             return n;
         }
-        at = wide(table[at]);
+        at = number2(table, 2 * at) as usize;
         n += 1;
     }
     n
 }
 
 // Gives the groups of the walk from g the places from `from` up to `end`.
-fn put_walk(table: &mut [u16], places: &mut [u16], g: usize, from: usize, end: usize)
+fn put_walk(table: &mut [u8], places: &mut [u16], g: usize, from: usize, end: usize)
     requires { ⌜ (length (now table) ≡ tableLength) × (length (now places) ≡ tableRoom) ⌝ }
     requires { ⌜ (from ≤ end) × ((end ≤ tableRoom) × Differ tableRoom (parentBy (now table)) g (end - from)) ⌝ }
     ensures { λ r. ⌜ Placed (parentBy (now (table .entry))) g from end (now (table .entry)) (now (places .entry)) (now (table .exit)) (now (places .exit)) ⌝ }
@@ -41,14 +41,14 @@ fn put_walk(table: &mut [u16], places: &mut [u16], g: usize, from: usize, end: u
     let mut at = g;
     let mut to = end;
     while from < to {
-        table[255 + to] = at as u16;
+        table[511 + to] = at as u8;
         places[at] = to as u16;
-        at = wide(table[at]);
+        at = number2(table, 2 * at) as usize;
         to -= 1;
     }
 }
 
-fn place_all(count: usize, table: &mut [u16], places: &mut [u16]) -> usize
+fn place_all(count: usize, table: &mut [u8], places: &mut [u16]) -> usize
     requires { ⌜ (count ≤ tableRoom) × ((length (now table) ≡ tableLength) × (length (now places) ≡ tableRoom)) ⌝ }
     requires { ⌜ ((g : ℕ) → g < count → getD (now places) g 0 ≡ 0) ⌝ }
     ensures { λ r. ⌜ OrderFound count (now (table .entry)) (now (table .exit)) r ⌝ }

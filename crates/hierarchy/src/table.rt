@@ -1,13 +1,14 @@
 // The table of parents and of the order of the groups, and by it what lies below a set of groups. `count` is the number of groups.
 ghost use Prim.Native.Nat.{_≤_, _<_};
 ghost use mathlib.Core.Path.{_≡_};
-ghost use lib.ListN.{length, getD};
+ghost use lib.ListN.{length};
 ghost use Rattle.sets.specs.Groups.{placesOf};
 ghost use Rattle.sets.specs.Sets.{within, allBelow};
 ghost use Rattle.header.specs.Limits.{Counted};
-ghost use Rattle.hierarchy.specs.Forest.{belowIn, tableRoom, tableLength, forestBy, orderAt, OrderedBy};
+ghost use Rattle.hierarchy.specs.Forest.{belowIn, tableRoom, tableLength, parentBy, forestBy, orderAt, OrderedBy};
 ghost use Rattle.hierarchy.specs.Below.{Parents, AllEnd, Tabled, RingFound};
 use crate::order::put_order;
+use fields::numbers::number2;
 use header::edition::edition_of;
 use header::layout;
 use header::layout::Kind;
@@ -16,14 +17,14 @@ use records::components::parent_in;
 use sets::groups::Groups;
 use sets::word;
 
-// The parent's place of every group, and from place 256 on the groups in an order.
-pub type Table = [u16; 512];
+// The parent's place of every group in two bytes, and from byte 512 on the groups in an order, in one byte each.
+pub type Table = [u8; 768];
 
 // A table before it is filled.
-pub const EMPTY: Table = [0u16; 512];
+pub const EMPTY: Table = [0u8; 768];
 
 // A place as a number of the machine's width.
-pub(crate) fn wide(place: u16) -> usize
+fn wide(place: u8) -> usize
     ensures { λ r. ⌜ r ≡ place ⌝ }
 {
     place as usize
@@ -32,9 +33,9 @@ pub(crate) fn wide(place: u16) -> usize
 // The parent's place that the table holds for g.
 pub(crate) fn stored(table: &Table, g: usize) -> usize
     requires { ⌜ g < tableRoom ⌝ }
-    ensures { λ r. ⌜ r ≡ getD (now (table .entry)) g 0 ⌝ }
+    ensures { λ r. ⌜ r ≡ parentBy (now (table .entry)) g ⌝ }
 {
-    wide(table[g])
+    number2(table, 2 * g) as usize
 }
 
 // The group at place i of the order.
@@ -42,11 +43,11 @@ pub(crate) fn ordered(table: &Table, i: usize) -> usize
     requires { ⌜ i < tableRoom ⌝ }
     ensures { λ r. ⌜ r ≡ orderAt (now (table .entry)) i ⌝ }
 {
-    wide(table[256 + i])
+    wide(table[512 + i])
 }
 
 // Puts the parent's place of every group into the places. The walk goes from record to record, so that nothing is divided here.
-fn fill_places(image: &[u8], places: &mut [u16])
+fn fill_places(image: &[u8], places: &mut [u8])
     requires { ⌜ Counted (now image) × (length (now places) ≡ tableLength) ⌝ }
     ensures { λ r. ⌜ Parents (now (image .entry)) (now (places .exit)) ⌝ }
 {
@@ -59,7 +60,9 @@ fn fill_places(image: &[u8], places: &mut [u16])
     while g < count {
         let i = first + g;
         let rec = layout::placed_part(image, shape, Kind::Component, i, here.at);
-        places[g] = parent_in(edition, rec) as u16;
+        let parent = parent_in(edition, rec);
+        places[2 * g] = (parent % 256) as u8;
+        places[2 * g + 1] = (parent / 256) as u8;
         here = walk::next_record(shape, here, i);
         g += 1;
     }

@@ -28,7 +28,7 @@ fn parent_at(edition: Edition, components: &[u8], i: usize) -> usize
 }
 
 // Puts the parent's place of every group into the places.
-fn fill_places(counts: Counts, components: &[u8], places: &mut [u16])
+fn fill_places(counts: Counts, components: &[u8], places: &mut [u8])
     requires { ⌜ (counts .levels + counts .compartments + counts .groups ≤ length (now components) / 40) × ((counts .groups ≤ tableRoom) × (length (now places) ≡ tableLength)) ⌝ }
     ensures { λ r. ⌜ ParentsIn (forestIn counts (runRecords 40 (now (components .entry)))) (now (places .exit)) ⌝ }
 {
@@ -36,7 +36,9 @@ fn fill_places(counts: Counts, components: &[u8], places: &mut [u16])
     let first = counts.levels + counts.compartments;
     let mut g = 0;
     while g < counts.groups {
-        places[g] = parent_at(edition, components, first + g) as u16;
+        let parent = parent_at(edition, components, first + g);
+        places[2 * g] = (parent % 256) as u8;
+        places[2 * g + 1] = (parent / 256) as u8;
         g += 1;
     }
 }

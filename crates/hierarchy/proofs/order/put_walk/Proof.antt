@@ -20,9 +20,6 @@ cast-table c = omega (arith, putting-at _ _ _ _ _ _ _ _ _ (c .before .loop .inv)
 add-table : tie.Need-add-table Inv-loop μ-loop
 add-table c = omega arith
 
-mul-table : tie.Need-mul-table Inv-loop μ-loop
-mul-table c = omega arith
-
 slice-write-table : tie.Need-slice-write-table Inv-loop μ-loop
 slice-write-table c = omega arith
 
@@ -35,14 +32,17 @@ mul-places c = omega (arith, putting-at _ _ _ _ _ _ _ _ _ (c .before .loop .inv)
 slice-write-places : tie.Need-slice-write-places Inv-loop μ-loop
 slice-write-places c = omega (arith, putting-at _ _ _ _ _ _ _ _ _ (c .before .loop .inv) (c .loop-test .taken))
 
-mul-wide : tie.Need-mul-wide Inv-loop μ-loop
-mul-wide c = omega (arith, putting-at _ _ _ _ _ _ _ _ _ (c .before .loop .inv) (c .loop-test .taken))
+mul-number2 : tie.Need-mul-number2 Inv-loop μ-loop
+mul-number2 c = let turn = c .before in omega (arith, putting-at _ _ _ _ _ _ _ _ _ (turn .before .loop .inv) (turn .loop-test .taken))
 
-slice-read-wide : tie.Need-slice-read-wide Inv-loop μ-loop
-slice-read-wide c = let turn = c .before in rw length-set (omega (arith, putting-at _ _ _ _ _ _ _ _ _ (turn .before .loop .inv) (turn .loop-test .taken)))
+number2-requires : tie.Need-number2-requires Inv-loop μ-loop
+number2-requires c κs =
+    let turn = c .before in
+    let inv = turn .before .loop .inv in
+    rw length-set (omega (arith, inv .long, putting-at _ _ _ _ _ _ _ _ _ inv (turn .loop-test .taken)))
 
-wide-requires : tie.Need-wide-requires Inv-loop μ-loop
-wide-requires c κs = search needs
+cast-at : tie.Need-cast-at Inv-loop μ-loop
+cast-at c = omega (arith, c .number2 .ensures .1)
 
 sub-to : tie.Need-sub-to Inv-loop μ-loop
 sub-to c = omega arith
@@ -51,7 +51,7 @@ loop-less : tie.Need-loop-less Inv-loop μ-loop
 loop-less c = omega arith
 
 loop-again : tie.Need-loop-again Inv-loop μ-loop
-loop-again c = let turn = c .before .before in putting-next _ _ _ _ _ _ _ _ _ (turn .before .loop .inv) (turn .loop-test .taken) _ (c .wide .ensures)
+loop-again c = let turn = c .before .before in putting-next _ _ _ _ _ _ _ _ _ (turn .before .loop .inv) (turn .loop-test .taken) _ (c .number2 .ensures .0)
 
 same-length : tie.Need-same-length Inv-loop μ-loop
 same-length c = search needs
@@ -71,14 +71,13 @@ put-walk-spec =
     loop-holds
     cast-table
     add-table
-    mul-table
     slice-write-table
     cast-places
     mul-places
     slice-write-places
-    mul-wide
-    slice-read-wide
-    wide-requires
+    mul-number2
+    number2-requires
+    cast-at
     sub-to
     loop-less
     loop-again

@@ -1,13 +1,13 @@
 use Prim.Native.Nat.{_+_, _-_}
 use native.Mathlib.Omega.{arith}
 use borrow.Author.Needs.{needs}
-use lib.ListN.{getD}
+use Rattle.hierarchy.specs.Forest.{parentBy}
 use Rattle.hierarchy.proofs.Steps.{Passing, passing-start, passing-next, passing-stop, passing-on}
 use Rattle.hierarchy.proofs.order.walk_length.Statement.{statement}
 use Rattle.hierarchy.proofs.order.walk_length.Tie as tie
 
 abbrev Inv-loop : tie.InvT-loop
-Inv-loop count table places g at₀ n₀ at n = Passing count (λ p. getD table p 0) places g at n
+Inv-loop count table places g at₀ n₀ at n = Passing count (λ p. parentBy table p) places g at n
 
 abbrev μ-loop : tie.MeasureT-loop
 μ-loop count table places g at₀ n₀ at n = count + 1 - n
@@ -31,14 +31,17 @@ returns-2 c =
     let turn = c .before .before .before .before in
     passing-stop _ _ _ _ _ _ (turn .loop .inv) (λ group. omega arith)
 
-mul-wide : tie.Need-mul-wide Inv-loop μ-loop
-mul-wide c = omega arith
+mul-number2 : tie.Need-mul-number2 Inv-loop μ-loop
+mul-number2 c = omega arith
 
-shared-slice-read-wide : tie.Need-shared-slice-read-wide Inv-loop μ-loop
-shared-slice-read-wide c = omega arith
+number2-requires : tie.Need-number2-requires Inv-loop μ-loop
+number2-requires c κs =
+    let turn = c .before .before .before in
+    let start = turn .before .before .before .before in
+    omega (arith, start .pre .0, start .pre .1 .0)
 
-wide-requires : tie.Need-wide-requires Inv-loop μ-loop
-wide-requires c κs = search needs
+cast-at : tie.Need-cast-at Inv-loop μ-loop
+cast-at c = omega arith
 
 add-n : tie.Need-add-n Inv-loop μ-loop
 add-n c = omega arith
@@ -48,10 +51,10 @@ loop-less c = omega arith
 
 loop-again : tie.Need-loop-again Inv-loop μ-loop
 loop-again c =
-    let asked = c .before .before in
+    let asked = c .before in
     let group = asked .before .before in
     let turn = group .before in
-    passing-next _ _ _ _ _ _ (turn .before .loop .inv) (turn .loop-test .taken) (group .if1 .left) (asked .if2 .left) _ (c .wide .ensures)
+    passing-next _ _ _ _ _ _ (turn .before .loop .inv) (turn .loop-test .taken) (group .if1 .left) (asked .if2 .left) _ (c .number2 .ensures .0)
 
 returns-3 : tie.Need-returns-3 Inv-loop μ-loop
 returns-3 c = passing-on _ _ _ _ _ _ (c .before .loop .inv) (omega arith)
@@ -67,9 +70,9 @@ walk-length-spec =
     mul-if2
     shared-slice-read-if2
     returns-2
-    mul-wide
-    shared-slice-read-wide
-    wide-requires
+    mul-number2
+    number2-requires
+    cast-at
     add-n
     loop-less
     loop-again

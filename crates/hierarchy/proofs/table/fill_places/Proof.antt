@@ -1,11 +1,11 @@
-use Prim.Native.Nat.{ℕ, _+_, _-_, _^_, _≤_, _<_, zero-le}
+use Prim.Native.Nat.{ℕ, _+_, _-_, _*_, _^_, _≤_, _<_, zero-le}
 use mathlib.Core.Path.{_≡_, sym, _∙_, subst}
 use mathlib.Core.List.{List}
 use native.Mathlib.Nat.{add-zero}
 use native.Mathlib.Omega.{arith}
 use borrow.Author.Count.{below-none}
 use borrow.Author.Needs.{needs}
-use lib.ListN.{length, getD, length-set}
+use lib.ListN.{length, length-set}
 use Rattle.header.specs.declared.layout.Kind.the-variants.{Component}
 use Rattle.header.specs.declared.layout.Shape.{Shape}
 use Rattle.header.specs.declared.edition.Edition.{Edition}
@@ -13,11 +13,11 @@ use Rattle.header.specs.Layout.{editionOf, recordAt, countsOf, groups, componen
 use Rattle.header.specs.Limits.{Counted}
 use Rattle.header.proofs.Inside.{header-inside, record-upto}
 use Rattle.records.specs.Fields.{parentOf}
-use Rattle.hierarchy.specs.Forest.{tableLength}
+use Rattle.hierarchy.specs.Forest.{tableLength, parentBy}
 use Rattle.hierarchy.specs.Below.{parent}
 use Rattle.hierarchy.proofs.Room.{groups-table}
 use Rattle.hierarchy.proofs.OfImage.{parent-record}
-use Rattle.hierarchy.proofs.Steps.{stored-more}
+use Rattle.hierarchy.proofs.Steps.{stored-length, stored-more}
 use Rattle.hierarchy.proofs.table.fill_places.Statement.{statement}
 use Rattle.hierarchy.proofs.table.fill_places.Tie as tie
 
@@ -42,7 +42,7 @@ held im edition rec first g e r f h = rw (e, r, f) (sym (parent-record im g h))
 abbrev Inv-loop : tie.InvT-loop
 Inv-loop image places₀ edition count first shape here₀ g₀ places here g =
     (g ≤ groups image)
-    × (Standing shape (first + g) here × ((length places ≡ tableLength) × ((k : ℕ) → k < g → getD places k 0 ≡ parent image k)))
+    × (Standing shape (first + g) here × ((length places ≡ tableLength) × ((k : ℕ) → k < g → parentBy places k ≡ parent image k)))
 
 abbrev μ-loop : tie.MeasureT-loop
 μ-loop image places₀ edition count first shape here₀ g₀ places here g = groups image - g
@@ -90,6 +90,22 @@ parent-in-requires c κs = c .placed-part .ensures .1 .0
 cast-places : tie.Need-cast-places Inv-loop μ-loop
 cast-places c = omega arith
 
+cast-places-2 : tie.Need-cast-places-2 Inv-loop μ-loop
+cast-places-2 c = omega arith
+
+mul-places-2 : tie.Need-mul-places-2 Inv-loop μ-loop
+mul-places-2 c = omega arith
+
+add-places : tie.Need-add-places Inv-loop μ-loop
+add-places c = omega arith
+
+slice-write-places-2 : tie.Need-slice-write-places-2 Inv-loop μ-loop
+slice-write-places-2 c =
+    let turn = c .before .before .before in
+    let shapes = turn .before .before in
+    let start = shapes .before .before .before .before .before .before in
+    rw length-set (omega (arith, turn .loop .inv .1 .1 .0, groups-table (start .args .image .now) (start .pre .0)))
+
 mul-places : tie.Need-mul-places Inv-loop μ-loop
 mul-places c = omega arith
 
@@ -127,7 +143,7 @@ loop-again c =
     let places = turn .loop .places in
     let inv = turn .loop .inv .1 .1 in
     let h : g < groups im = omega arith in
-    let l : g < length places = omega (arith, inv .0, groups-table im (start .pre .0)) in
+    let l : 2 * g + 1 < length places = omega (arith, inv .0, groups-table im (start .pre .0)) in
     let next : firsts .class-first .result + g + 1 ≡ firsts .class-first .result + (g + 1) = omega arith in
     let is =
     c .before .parent-in .ensures .0
@@ -135,7 +151,7 @@ loop-again c =
       omega arith,
       (
         subst (λ (n : ℕ). Standing (shapes .shape-of .result) n (c .next-record .result)) next (c .next-record .ensures),
-        (length-set places g _ ∙ inv .0, stored-more (parent im) places g _ l is (inv .1)),
+        (stored-length places g _ ∙ inv .0, stored-more (parent im) places g _ l is (inv .1)),
       ),
     )
 
@@ -163,6 +179,10 @@ fill-places-spec =
     cast-places
     mul-places
     slice-write-places
+    cast-places-2
+    mul-places-2
+    add-places
+    slice-write-places-2
     next-record-requires
     add-g
     loop-less

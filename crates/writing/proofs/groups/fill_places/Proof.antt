@@ -1,20 +1,20 @@
-use Prim.Native.Nat.{ℕ, _-_, _≤_, _<_}
+use Prim.Native.Nat.{ℕ, _+_, _-_, _*_, _≤_, _<_}
 use mathlib.Core.Path.{_≡_, _∙_}
 use native.Mathlib.Omega.{arith}
 use borrow.Author.Count.{below-none}
 use borrow.Author.Needs.{needs}
-use lib.ListN.{length, getD, length-set}
+use lib.ListN.{length, length-set}
 use Rattle.header.specs.Layout.{classFirst}
 use Rattle.records.specs.Rules.{runRecords}
-use Rattle.hierarchy.specs.Forest.{tableLength}
+use Rattle.hierarchy.specs.Forest.{tableLength, parentBy}
 use Rattle.hierarchy.specs.Below.{parentIn}
-use Rattle.hierarchy.proofs.Steps.{stored-more}
+use Rattle.hierarchy.proofs.Steps.{stored-length, stored-more}
 use Rattle.writing.proofs.groups.fill_places.Statement.{statement}
 use Rattle.writing.proofs.groups.fill_places.Tie as tie
 
 abbrev Inv-loop : tie.InvT-loop
 Inv-loop counts components places₀ edition first g₀ places g =
-    (g ≤ counts .groups) × ((length places ≡ tableLength) × ((k : ℕ) → k < g → getD places k 0 ≡ parentIn counts (runRecords 40 components) k))
+    (g ≤ counts .groups) × ((length places ≡ tableLength) × ((k : ℕ) → k < g → parentBy places k ≡ parentIn counts (runRecords 40 components) k))
 
 abbrev μ-loop : tie.MeasureT-loop
 μ-loop counts components places₀ edition first g₀ places g = counts .groups - g
@@ -33,6 +33,21 @@ parent-at-requires c κs = search needs
 
 cast-places : tie.Need-cast-places Inv-loop μ-loop
 cast-places c = omega arith
+
+cast-places-2 : tie.Need-cast-places-2 Inv-loop μ-loop
+cast-places-2 c = omega arith
+
+mul-places-2 : tie.Need-mul-places-2 Inv-loop μ-loop
+mul-places-2 c = omega arith
+
+add-places : tie.Need-add-places Inv-loop μ-loop
+add-places c = omega arith
+
+slice-write-places-2 : tie.Need-slice-write-places-2 Inv-loop μ-loop
+slice-write-places-2 c =
+    let turn = c .before .before .before in
+    let start = turn .before .before .before .before in
+    rw length-set (omega (arith, turn .loop .inv .1 .0, start .pre .1 .0, c .before .if1 .taken))
 
 mul-places : tie.Need-mul-places Inv-loop μ-loop
 mul-places c = omega arith
@@ -58,9 +73,9 @@ loop-again c =
     let g = turn .loop .g in
     let places = turn .loop .places in
     let inv = turn .loop .inv .1 in
-    let l : g < length places = omega (arith, inv .0, start .pre .1 .0, c .before .if1 .taken) in
+    let l : 2 * g + 1 < length places = omega (arith, inv .0, start .pre .1 .0, c .before .if1 .taken) in
     let more = stored-more (parentIn (a .counts) (runRecords 40 (a .components .now))) places g _ l (c .parent-at .ensures .0) (inv .1) in
-    (omega (arith, c .before .if1 .taken), (length-set places g _ ∙ inv .0, more))
+    (omega (arith, c .before .if1 .taken), (stored-length places g _ ∙ inv .0, more))
 
 same-length : tie.Need-same-length Inv-loop μ-loop
 same-length c = search needs
@@ -81,6 +96,10 @@ fill-places-spec =
     cast-places
     mul-places
     slice-write-places
+    cast-places-2
+    mul-places-2
+    add-places
+    slice-write-places-2
     add-g
     loop-less
     loop-again
