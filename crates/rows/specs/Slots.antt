@@ -9,7 +9,7 @@ use Rattle.rows.specs.Mapped.{tagMapped}
 
 -- as many entries as the code has slots
 abbrev pub slotCount : ℕ
-slotCount = 3024
+slotCount = 2976
 
 -- an entry is twice a tag, and 1 more where rows of the tag are handed out
 abbrev pub Told : List ℕ → List ℕ → Bool → ℕ → Type 0

@@ -6,17 +6,17 @@ ghost use lib.Dec.{eqb};
 ghost use lib.ListN.{length};
 ghost use Rattle.rows.specs.Slots.{slotCount};
 
-// 2,976 own slots and 48 spare ones. They stand on the stack of a read or an update, which may take 16 KiB.
-pub const COUNT: usize = 3024;
+// 2,928 own slots and 48 spare ones. They stand on the stack of a read or an update, which may take 16 KiB.
+pub const COUNT: usize = 2976;
 
 // An entry is twice a tag, and 1 more where rows of the tag are handed out. One below 2 is free: it tells of tag 0, which no label carries.
 pub type Slots = [u32; COUNT];
 
 // The tag's own slot. The last 48 are nobody's own: with them a search for a tag needs no turn back to the first slot.
 fn slot_of(tag: u32) -> usize
-    ensures { λ r. ⌜ r < 2976 ⌝ }
+    ensures { λ r. ⌜ r < 2928 ⌝ }
 {
-    ((tag as u64) * 2654435769 % 4294967296 * 2976 / 4294967296) as usize
+    ((tag as u64) * 2654435769 % 4294967296 * 2928 / 4294967296) as usize
 }
 
 // From the tag's own slot on the first that holds the tag or is free; its own where 48 hold others.
@@ -43,7 +43,7 @@ pub fn seek(slots: &Slots, tag: u32) -> usize
 pub fn spare_of(tag: u32) -> usize
     ensures { λ r. ⌜ r < slotCount ⌝ }
 {
-    2976 + (tag % 48) as usize
+    2928 + (tag % 48) as usize
 }
 
 // The entry for a tag that leaves room for the answer.
