@@ -142,14 +142,6 @@ pub four-words : (s w0 w1 w2 w3 : ℕ) → s < 2 ^ 256 → w0 ≡ wordOf s 0 →
     → joined (w0 ∷ w1 ∷ w2 ∷ w3 ∷ []) ≡ s
 four-words s w0 w1 w2 w3 h a b c d = rw (a, b, c, d) (ap joined (each-wordOf 4 s) ∙ joined-whole 4 s h)
 
-pub four-are : (ws : List ℕ) → length ws ≡ 4 → getD ws 0 0 ∷ getD ws 1 0 ∷ getD ws 2 0 ∷ getD ws 3 0 ∷ [] ≡ ws
-four-are [] e = absurd (omega arith)
-four-are (a ∷ []) e = absurd (omega arith)
-four-are (a ∷ b ∷ []) e = absurd (omega arith)
-four-are (a ∷ b ∷ c ∷ []) e = absurd (omega arith)
-four-are (a ∷ b ∷ c ∷ d ∷ []) e = refl
-four-are (a ∷ b ∷ c ∷ d ∷ x ∷ ws) e = absurd (omega arith)
-
 -- the turn of the pass, by words
 module _ (count : ℕ) (table : List ℕ) (all : OrderedBy count table) (s i g p : ℕ) (ws : List ℕ) (four : length ws ≡ 4)
     (so : Descending count table s (joined ws) i) (left : i < count) (is : g ≡ orderAt table i) (up : p ≡ parentBy table g) (new : List ℕ) where

@@ -1,9 +1,9 @@
 -- Users' records where they stand: in an image's blocks, or one right after the other. The rule over them is the rule of the list of the records. Assumes
 -- nothing.
-use Prim.Native.Nat.{ℕ, suc, _+_, _-_, _*_, _/_, _^_, _≤_, _<_}
+use Prim.Native.Nat.{ℕ, _+_, _-_, _*_, _/_, _^_, _≤_, _<_}
 use mathlib.Core.Path.{_≡_, refl, sym, ap, ap₂, _∙_}
 use mathlib.Core.List.{List}
-use native.Mathlib.Nat.{le-refl, mul-comm, mul-suc, le-div-iff-mul-le}
+use native.Mathlib.Nat.{le-refl}
 use native.Mathlib.Omega.{arith}
 use lib.ListN.{length}
 use Rattle.fields.specs.Bytes.{part}
@@ -19,7 +19,8 @@ use Rattle.header.specs.Layout.{editionOf, recordSize, users, recordsOf, record
 use Rattle.header.specs.Limits.{Counted}
 use Rattle.header.proofs.Inside.{offset-straight, record-inside, record-upto, records-count}
 use Rattle.records.specs.Rules.{recordIn, runRecords}
-use Rattle.records.proofs.Parts.{run-count, run-record}
+use Rattle.records.proofs.BlockRuns.{size-some}
+use Rattle.records.proofs.Parts.{run-count, run-record, run-inside}
 use Rattle.hierarchy.specs.declared.users.Users.{Users}
 use Rattle.hierarchy.specs.Forest.{Forest}
 use Rattle.hierarchy.specs.Below.{forestIn, groupSetsIn, firstBadSets}
@@ -73,10 +74,6 @@ module _ (im : List ℕ) (shape : Shape) (edition : Edition) (c : Counted im) (s
       }
 
 -- ---- of a run
-pub some-size : (edition : Edition) → 1 ≤ recordSize edition User
-some-size One = omega arith
-some-size Two = omega arith
-
 -- a machine holds no more of them
 pub run-few : (edition : Edition) (run : List ℕ) (size : ℕ) → size ≡ recordSize edition User → length run < 2 ^ 64 → length run / size < 2 ^ 60
 run-few One run size is h = rw is (omega arith)
@@ -100,9 +97,8 @@ module _ (edition : Edition) (run : List ℕ) (size : ℕ) (is : size ≡ record
               size = is;
               whole =
                   λ u h.
-                  let some : 1 ≤ size = omega (arith, some-size edition, is) in
-                  let m : suc u * size ≡ size * u + size = mul-comm (suc u) size ∙ mul-suc size u in
-                  omega (arith, starts u, le-div-iff-mul-le some .0 h);
+                  let some : 1 ≤ size = omega (arith, size-some edition User, is) in
+                  omega (arith, starts u, run-inside size run some u h);
             };
         same = refl;
         count = ap (λ (n : ℕ). length run / n) is ∙ sym (run-count (recordSize edition User) run);

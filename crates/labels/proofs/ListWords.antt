@@ -36,12 +36,3 @@ module _ (im : List ℕ) (class : ℕ) (text : List ℕ) (at end : ℕ) (words :
         let same : joined (set words (p / 64) w) ≡ union (joined words) (one p) =
         rw e (joined-with words (p / 64) (p % 64) p words-room (omega arith) (omega arith)) in
         rw same (list-next im class text at end (joined words) inside ends below p found (joined-has words p ∙ h))
-
--- the four words of a set
-pub four-are : (ws : List ℕ) → length ws ≡ 4 → getD ws 0 0 ∷ getD ws 1 0 ∷ getD ws 2 0 ∷ getD ws 3 0 ∷ [] ≡ ws
-four-are [] e = absurd (omega arith)
-four-are (a ∷ []) e = absurd (omega arith)
-four-are (a ∷ b ∷ []) e = absurd (omega arith)
-four-are (a ∷ b ∷ c ∷ []) e = absurd (omega arith)
-four-are (a ∷ b ∷ c ∷ d ∷ []) e = refl
-four-are (a ∷ b ∷ c ∷ d ∷ x ∷ ws) e = absurd (omega arith)

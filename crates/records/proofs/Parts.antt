@@ -1,8 +1,8 @@
 -- A component's name is new: by a search of its class up to it, and in a run of records. Assumes nothing.
-use Prim.Native.Nat.{ℕ, _+_, _-_, _*_, _/_, _≤_, _<_}
+use Prim.Native.Nat.{ℕ, suc, _+_, _-_, _*_, _/_, _≤_, _<_}
 use mathlib.Core.Path.{_≡_, sym, ap, _∙_}
 use mathlib.Core.List.{List}
-use native.Mathlib.Nat.{zero-add, add-zero, add-sub-of-le, mul-div-right}
+use native.Mathlib.Nat.{zero-add, add-zero, add-sub-of-le, mul-comm, mul-suc, mul-div-right, le-div-iff-mul-le}
 use native.Mathlib.Omega.{arith}
 use lib.Dec.{eqb}
 use lib.ListN.{length}
@@ -42,6 +42,11 @@ module _ (size : ℕ) (run : List ℕ) where
   pub run-count : length (runRecords size run) ≡ length run / size
   unfolding runRecords
   run-count = list-length (runRecord size run) (length run / size) 0
+
+  pub run-inside : 1 ≤ size → (j : ℕ) → j < length run / size → size * j + size ≤ length run
+  run-inside some j h =
+      let m : suc j * size ≡ size * j + size = mul-comm (suc j) size ∙ mul-suc size j in
+      omega (arith, le-div-iff-mul-le some .0 h)
 
   pub run-record : (j : ℕ) → j < length run / size → recordIn (runRecords size run) j ≡ runRecord size run j
   unfolding runRecords

@@ -28,6 +28,7 @@ use Rattle.labels.specs.Parse.{matches, classCount, placeOfName}
 use Rattle.printing.specs.Print.{nameAt}
 use Rattle.labels.proofs.Alphabet.{name-bytes-in-text}
 use Rattle.labels.proofs.Classes.{class-has}
+use Rattle.labels.proofs.Unique.{place-unique}
 use Rattle.roundtrip.proofs.Unmarked.{lacks, name-lacks}
 use Rattle.printing.proofs.Listed.{name-short}
 
@@ -40,24 +41,6 @@ named-bytes field e =
     both-right a b (both-left (a && b) (allZero (part field (1 + byteAt field 0) (30 - byteAt field 0))) e)
 
 -- ---- a component is found by its own name
-module _ (im : List ℕ) (class : ℕ) where
-  index-class : (p : ℕ) → 1 ≤ class → class ≤ 3 → p < classCount im class → classAt (countsOf im) (componentIndex im class p) ≡ class
-  unfolding componentIndex classFirst
-  index-class p low high = at (eqb class 1) refl (eqb class 2) refl
-    where
-      at : (s : Bool) → eqb class 1 ≡ s → (t : Bool) → eqb class 2 ≡ t
-          → p < cond s (levels im) (cond t (compartments im) (groups im))
-          → classAt (countsOf im) (cond s 0 (cond t (levels im) (levels im + compartments im)) + p) ≡ class
-      at true e t d h = class-level (countsOf im) (0 + p) (omega arith) ∙ sym (eqb-true class 1 e)
-      at false e true d h = class-compartment (countsOf im) (levels im + p) (omega arith) (omega arith) ∙ sym (eqb-true class 2 d)
-      at false e false d h =
-          let three : class ≡ 3 = omega (arith, eqb-false class 1 e, eqb-false class 2 d) in
-          class-group (countsOf im) (levels im + compartments im + p) (omega arith) ∙ sym three
-
-  index-tells : (j p : ℕ) → componentIndex im class j ≡ componentIndex im class p → j ≡ p
-  unfolding componentIndex
-  index-tells j p e = omega arith
-
 -- what is found has the name, folded
 pub place-found : (im : List ℕ) (class p : ℕ) → p < classCount im class → (name : List ℕ) → placeOfName im class name ≡ p
     → foldedName name ≡ nameAt im class p
@@ -82,19 +65,9 @@ module _ (im : List ℕ) (acc : IsAccepted im) (class : ℕ) (low : 1 ≤ class)
   own-folded = folded-name (nameAt im class p) name-bytes
 
   pub place-of-own-name : placeOfName im class (nameAt im class p) ≡ p
-  unfolding placeOfName matches
+  unfolding matches
   place-of-own-name =
-      found-unique _ (classCount im class) 0 p zero-le (omega arith) (rw own-folded (same-refl (nameAt im class p)))
-      (λ j from upto e. only j (omega arith) (same-means _ _ e ∙ own-folded))
-    where
-      inside : (j : ℕ) → j < classCount im class → componentIndex im class j < components im
-      inside j l = placed-index im class j (class-has im class j low high l)
-
-      only : (j : ℕ) → j < classCount im class → nameAt im class j ≡ nameAt im class p → j ≡ p
-      only j l e =
-          index-tells im class j p
-          (components-apart im acc (componentIndex im class j) (componentIndex im class p)
-          (inside j l) (inside p h) (index-class im class j low high l ∙ sym (index-class im class p low high h)) e)
+      place-unique im acc class low high p h (nameAt im class p) (λ there. rw own-folded (same-refl (nameAt im class p)))
 
   -- ---- it has 1 byte or more and 30 at most
   name-some : 1 ≤ length (nameAt im class p)

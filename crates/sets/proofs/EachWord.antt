@@ -279,3 +279,12 @@ module _ (w : ℕ) (ws : List ℕ) where
 -- the last word, which may have no place
 pub lowest-last : (w q : ℕ) → Lowest 64 w q → Lowest 64 (joined (w ∷ [])) q
 lowest-last w q l = in-first 64 w [] q l (l .upto) (λ m. m)
+
+-- ---- four words, one by one
+pub four-are : (ws : List ℕ) → length ws ≡ 4 → getD ws 0 0 ∷ getD ws 1 0 ∷ getD ws 2 0 ∷ getD ws 3 0 ∷ [] ≡ ws
+four-are [] e = absurd (omega arith)
+four-are (a ∷ []) e = absurd (omega arith)
+four-are (a ∷ b ∷ []) e = absurd (omega arith)
+four-are (a ∷ b ∷ c ∷ []) e = absurd (omega arith)
+four-are (a ∷ b ∷ c ∷ d ∷ []) e = refl
+four-are (a ∷ b ∷ c ∷ d ∷ x ∷ ws) e = absurd (omega arith)

@@ -9,7 +9,8 @@ use lib.Seq.{ext-getD, getD-take, getD-drop}
 use Rattle.fields.specs.Bytes.{part}
 use Rattle.fields.proofs.Laws.{part-length, part-part}
 use Rattle.records.specs.Rules.{runRecords}
-use Rattle.writing.proofs.Runs.{run-count, run-record, run-joined}
+use Rattle.records.proofs.Parts.{run-count, run-record}
+use Rattle.writing.proofs.Runs.{run-joined}
 
 module _ (size : ℕ) (some : 1 ≤ size) (bytes : List ℕ) (from to : ℕ) (low : from ≤ to) (high : to ≤ length bytes / size) where
   abbrev m : ℕ
@@ -40,16 +41,16 @@ module _ (size : ℕ) (some : 1 ≤ size) (bytes : List ℕ) (from to : ℕ) (lo
   same-record i h =
       let near : size * i + size ≤ size * m = rw (mul-suc size i) at (mul-le-mul-left size h) in
       let at : size * from + size * i ≡ size * (from + i) = sym (mul-add size from i) in
-      run-record size some few i (omega (arith, few-count))
+      run-record size few i (omega (arith, few-count))
       ∙ part-part bytes (size * from) (size * m) (size * i) size near
       ∙ ap (λ (k : ℕ). part bytes k size) at
       ∙ sym (getD-take m (drop from (runRecords size bytes)) i [] h ∙ getD-drop from (runRecords size bytes) i []
-      ∙ run-record size some bytes (from + i) (omega arith))
+      ∙ run-record size bytes (from + i) (omega arith))
 
   same-records : runRecords size few ≡ take m (drop from (runRecords size bytes))
   same-records =
-      let long : length (take m (drop from (runRecords size bytes))) ≡ m = simp (length-take, length-drop) (omega (arith, run-count size some bytes)) in
-      let count = run-count size some few ∙ few-count in
+      let long : length (take m (drop from (runRecords size bytes))) ≡ m = simp (length-take, length-drop) (omega (arith, run-count size bytes)) in
+      let count = run-count size few ∙ few-count in
       ext-getD [] (runRecords size few) (take m (drop from (runRecords size bytes))) (count ∙ sym long) (λ i h. same-record i (omega (arith, count)))
 
   -- as code takes them

@@ -24,7 +24,7 @@ use Rattle.header.specs.Layout.{editionOf, users, labels, components, countsOf,
 use Rattle.header.specs.Layout.{firstBlock, blocksNeeded, shapeOf, recordOffset, recordAt, kindAt, held, contentsOf}
 use Rattle.header.proofs.Inside.{shape-roomy, kind-among, held-run, one-block}
 use Rattle.image.proofs.EveryRule.{EveryRule}
-use Rattle.writing.proofs.Runs.{size-some}
+use Rattle.records.proofs.BlockRuns.{size-some}
 use Rattle.writing.proofs.Counted.{block-byte}
 
 -- ---- a byte of a record

@@ -23,7 +23,8 @@ use Rattle.writing.specs.declared.answers.LentCheck.{LentCheck}
 use Rattle.writing.specs.declared.answers.LentCheck.the-variants.{Sound, Fault}
 use Rattle.writing.specs.Laid.{Sized, Fits}
 use Rattle.writing.specs.Lent.{lentRecords, lentCounts, lentLayoutRule, LentWhole, Classed, firstBadOf, faultAt, recordsCheck, lentCheck}
-use Rattle.writing.proofs.Runs.{run-sized, size-some}
+use Rattle.records.proofs.BlockRuns.{size-some}
+use Rattle.writing.proofs.Runs.{run-sized}
 use Rattle.writing.proofs.Totals.{counts-all, kept-all}
 use Rattle.writing.proofs.LentLayout.{layout-means}
 

@@ -30,7 +30,8 @@ use Rattle.writing.specs.declared.answers.WriteAnswer.the-variants.{Imag
 use Rattle.writing.specs.Laid.{profileByte}
 use Rattle.writing.specs.Lent.{bytesBy, lentRecords, lentCounts, lentCheck}
 use Rattle.writing.specs.Calls.{lentImage, onSound, imageTo, writeOf}
-use Rattle.writing.proofs.Runs.{run-joined, size-some}
+use Rattle.records.proofs.BlockRuns.{size-some}
+use Rattle.writing.proofs.Runs.{run-joined}
 use Rattle.writing.proofs.Counted.{edition-byte-is, profile-byte-is}
 use Rattle.writing.proofs.ReadBack.{records-are}
 use Rattle.writing.proofs.SoundLent.{sound-parts, sound-layout, sound-fits}

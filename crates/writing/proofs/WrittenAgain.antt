@@ -24,7 +24,8 @@ use Rattle.writing.specs.Laid.{imageOf, Limited}
 use Rattle.writing.specs.Lent.{bytesBy, lentRecords, lentCounts, LentWhole, recordsCheck, lentCheck}
 use Rattle.writing.specs.Calls.{lentImage, onSound, imageTo, writeOf}
 use Rattle.writing.proofs.Packed.{flatten-length}
-use Rattle.writing.proofs.Runs.{run-split, size-some}
+use Rattle.records.proofs.BlockRuns.{size-some}
+use Rattle.writing.proofs.Runs.{run-split}
 use Rattle.writing.proofs.ClassTotals.{own-counts}
 use Rattle.writing.proofs.LentLayout.{layout-holds}
 use Rattle.writing.proofs.SoundLent.{layout-told}

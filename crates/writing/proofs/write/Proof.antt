@@ -17,7 +17,8 @@ use Rattle.writing.specs.declared.answers.WriteAnswer.the-variants.{Imag
 use Rattle.writing.specs.Laid.{imageOf, Fits, Limited}
 use Rattle.writing.specs.Lent.{bytesBy, lentRecords, lentCounts, lentCheck}
 use Rattle.writing.specs.Calls.{lentImage, imageTo, writeOf}
-use Rattle.writing.proofs.Runs.{run-count, size-some}
+use Rattle.records.proofs.BlockRuns.{size-some}
+use Rattle.records.proofs.Parts.{run-count}
 use Rattle.writing.proofs.SoundLent.{sound-layout, sound-fits}
 use borrow.Author.Needs.{needs}
 use Rattle.writing.proofs.write.Statement.{statement}
@@ -32,7 +33,7 @@ module _ (edition profile : ℕ) (bytes : Kind → List ℕ) (m : Counts)
       × Limited n (length (bytes User) / recordSize (n .edition) User) (length (bytes Label) / recordSize (n .edition) Label)
 
   counted : (kind : Kind) → length (lentRecords (editionNamed edition) bytes kind) ≡ length (bytes kind) / recordSize (editionNamed edition) kind
-  counted kind = run-count (recordSize (editionNamed edition) kind) (size-some (editionNamed edition) kind) (bytes kind)
+  counted kind = run-count (recordSize (editionNamed edition) kind) (bytes kind)
 
   ready : lentCheck edition profile bytes ≡ Sound → Ready m
   ready sound =

@@ -9,9 +9,10 @@ use Rattle.sets.specs.Sets.{intersection}
 use Rattle.sets.specs.Words.{joined}
 use Rattle.sets.specs.Groups.{placesOf}
 use Rattle.sets.proofs.Places.{places-below}
+use Rattle.sets.proofs.EachWord.{four-are}
 use Rattle.hierarchy.specs.Forest.{belowIn, tableRoom, forestBy, orderAt, OrderedBy}
 use Rattle.hierarchy.proofs.Under.{below-groups}
-use Rattle.hierarchy.proofs.InOrder.{Descending, descend-start, descend-end, four-words, four-are, words-put, words-pass}
+use Rattle.hierarchy.proofs.InOrder.{Descending, descend-start, descend-end, four-words, words-put, words-pass}
 use Rattle.hierarchy.proofs.table.below_in_words.Statement.{statement}
 use Rattle.hierarchy.proofs.table.below_in_words.Tie as tie
 

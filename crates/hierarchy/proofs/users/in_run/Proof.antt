@@ -2,7 +2,9 @@ use Prim.Native.Nat.{_/_, _^_, _<_}
 use native.Mathlib.Omega.{arith}
 use borrow.Author.Needs.{needs}
 use lib.ListN.{length}
-use Rattle.hierarchy.proofs.UsersHeld.{some-size, run-few, run-held}
+use Rattle.header.specs.declared.layout.Kind.the-variants.{User}
+use Rattle.records.proofs.BlockRuns.{size-some}
+use Rattle.hierarchy.proofs.UsersHeld.{run-few, run-held}
 use Rattle.hierarchy.proofs.users.in_run.Statement.{statement}
 use Rattle.hierarchy.proofs.users.in_run.Tie as tie
 
@@ -10,7 +12,7 @@ size-requires : tie.Need-size-requires
 size-requires c κs = search needs
 
 div-t6 : tie.Need-div-t6
-div-t6 c = let e = c .before .before .args .edition in omega (arith, some-size e, c .size .ensures)
+div-t6 c = let e = c .before .before .args .edition in omega (arith, size-some e User, c .size .ensures)
 
 returns : tie.Need-returns
 returns c =

@@ -1,4 +1,4 @@
-use Rattle.labels.proofs.ListWords.{four-are}
+use Rattle.sets.proofs.EachWord.{four-are}
 use borrow.Author.Needs.{needs}
 use Rattle.labels.proofs.lists.list_read.Statement.{statement}
 use Rattle.labels.proofs.lists.list_read.Tie as tie

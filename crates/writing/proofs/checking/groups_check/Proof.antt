@@ -12,7 +12,8 @@ use Rattle.hierarchy.proofs.OrderTurns.{found-ring, found-parents, found-ordere
 use Rattle.hierarchy.proofs.Rings.{ring-none}
 use Rattle.writing.specs.declared.answers.LentFault.the-variants.{Record, Ring}
 use Rattle.writing.specs.declared.answers.LentCheck.the-variants.{Sound}
-use Rattle.writing.proofs.Runs.{run-count, size-some}
+use Rattle.records.proofs.BlockRuns.{size-some}
+use Rattle.records.proofs.Parts.{run-count}
 use Rattle.writing.proofs.Totals.{counts-most}
 use Rattle.writing.proofs.Faults.{told-here, told-after}
 use borrow.Author.Needs.{needs}
@@ -25,7 +26,7 @@ module _ (n : Counts) (bytes : List ℕ) (size : ℕ) (told : size ≡ recordSiz
   users = runRecords (recordSize (n .edition) User) bytes
 
   count : length users ≡ length bytes / size
-  count = run-count (recordSize (n .edition) User) (size-some (n .edition) User) bytes ∙ ap (λ (s : ℕ). length bytes / s) (sym told)
+  count = run-count (recordSize (n .edition) User) bytes ∙ ap (λ (s : ℕ). length bytes / s) (sym told)
 
 fill-requires : tie.Need-fill-requires
 fill-requires c κs =
@@ -34,7 +35,7 @@ fill-requires c κs =
     let n = a .existing .counts in
     let components = runRecords 40 (a .components .now) in
     let most = subst (λ (m : Counts). m .levels + m .compartments + m .groups ≤ length components) (sym (start .pre .1)) (counts-most (n .edition) (n .profile) components) in
-    (omega (arith, run-count 40 (omega arith) (a .components .now)), start .pre .0 .fewGroups)
+    (omega (arith, run-count 40 (a .components .now)), start .pre .0 .fewGroups)
 
 put-order-requires : tie.Need-put-order-requires
 put-order-requires c κs = search needs

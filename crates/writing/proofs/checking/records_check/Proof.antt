@@ -12,7 +12,8 @@ use Rattle.writing.specs.declared.answers.LentFault.the-variants.{Record
 use Rattle.writing.specs.declared.answers.LentCheck.{LentCheck}
 use Rattle.writing.specs.declared.answers.LentCheck.the-variants.{Fault}
 use Rattle.writing.specs.Lent.{faultAt, recordsCheck}
-use Rattle.writing.proofs.Runs.{run-count, size-some}
+use Rattle.records.proofs.BlockRuns.{size-some}
+use Rattle.records.proofs.Parts.{run-count}
 use Rattle.writing.proofs.Faults.{told-here, told-after, counted-bad}
 use borrow.Author.Needs.{needs}
 use Rattle.writing.proofs.checking.records_check.Statement.{statement}
@@ -26,10 +27,10 @@ module _ (n : Counts) (kind : Kind) (bytes : List ℕ) (size r : ℕ) (told : si
   records = runRecords (recordSize (n .edition) kind) bytes
 
   count : length records ≡ length bytes / size
-  count = run-count (recordSize (n .edition) kind) (size-some (n .edition) kind) bytes ∙ ap (λ (s : ℕ). length bytes / s) (sym told)
+  count = run-count (recordSize (n .edition) kind) bytes ∙ ap (λ (s : ℕ). length bytes / s) (sym told)
 
   place : r ≡ firstBad (ruleOf kind n records) (length records) 0
-  place = counted-bad (ruleOf kind n records) (run-count (recordSize (n .edition) kind) (size-some (n .edition) kind) bytes) found
+  place = counted-bad (ruleOf kind n records) (run-count (recordSize (n .edition) kind) bytes) found
 
   bad-told : r < length bytes / size
       → faultAt (firstBad (ruleOf kind n records) (length records) 0) (length records) (Record kind) after ≡ Fault (Record kind r)

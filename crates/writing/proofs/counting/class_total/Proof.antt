@@ -12,7 +12,7 @@ use Rattle.fields.proofs.PlacesWhere.{turn-here, turn-not, turn-end}
 use Rattle.records.specs.Fields.{classOf}
 use Rattle.records.specs.Rules.{recordIn, runRecords}
 use Rattle.writing.specs.Lent.{classTotal}
-use Rattle.writing.proofs.Runs.{run-count}
+use Rattle.records.proofs.Parts.{run-count}
 use Rattle.writing.proofs.counting.class_total.Statement.{statement}
 use Rattle.writing.proofs.counting.class_total.Tie as tie
 
@@ -64,7 +64,7 @@ returns c =
     let a = turn .before .before .args in
     let n = length (a .components .now) / 40 in
     let none = ap length (turn-end (named (a .components .now) (a .class)) n (turn .loop .i) (c .loop-test .left)) in
-    rw (run-count 40 (omega arith) (a .components .now)) (omega (arith, turn .loop .inv .1))
+    rw (run-count 40 (a .components .now)) (omega (arith, turn .loop .inv .1))
 
 pub class-total-spec : {M : Type 1} → statement M
 class-total-spec =

@@ -1,7 +1,8 @@
 use Rattle.header.specs.declared.layout.Kind.the-variants.{Label, User}
 use Rattle.header.specs.Layout.{editionNamed, recordSize}
 use Rattle.writing.specs.Lent.{lentLayoutRule}
-use Rattle.writing.proofs.Runs.{run-count, size-some}
+use Rattle.records.proofs.BlockRuns.{size-some}
+use Rattle.records.proofs.Parts.{run-count}
 use borrow.Author.Needs.{needs}
 use Rattle.writing.proofs.counting.layout_fits.Statement.{statement}
 use Rattle.writing.proofs.counting.layout_fits.Tie as tie
@@ -76,8 +77,8 @@ returns c =
       sized .size2 .ensures,
       sized .before .size .ensures,
       named .edition-named .ensures,
-      run-count (recordSize e User) (size-some e User) (a .users .now),
-      run-count (recordSize e Label) (size-some e Label) (a .labels .now),
+      run-count (recordSize e User) (a .users .now),
+      run-count (recordSize e Label) (a .labels .now),
     )
 
 pub layout-fits-spec : {M : Type 1} → statement M

@@ -13,7 +13,8 @@ use Rattle.buffers.specs.Pasting.{Written}
 use Rattle.writing.specs.Laid.{headerBlock, firstIn, kindBlocks, kindLaid, Fits, Limited}
 use Rattle.writing.specs.Lent.{bytesBy, lentRecords}
 use Rattle.writing.proofs.Placed.{image-length}
-use Rattle.writing.proofs.Runs.{run-count, size-some}
+use Rattle.records.proofs.BlockRuns.{size-some}
+use Rattle.records.proofs.Parts.{run-count}
 use Rattle.writing.proofs.FewRecords.{few-components, few-labels, few-users, few-groups, few-blocks}
 use Rattle.writing.proofs.KindSteps.{written-same}
 use Rattle.writing.proofs.ImageWritten.{components-room, labels-room, users-room, image-written}
@@ -48,7 +49,7 @@ module _ (s : tie.Start) where
   records = lentRecords (n .edition) bytes
 
   counted : (kind : Kind) → length (records kind) ≡ length (bytes kind) / recordSize (n .edition) kind
-  counted kind = run-count (recordSize (n .edition) kind) (size-some (n .edition) kind) (bytes kind)
+  counted kind = run-count (recordSize (n .edition) kind) (bytes kind)
 
   fits : Fits n records
   fits = s .pre .0

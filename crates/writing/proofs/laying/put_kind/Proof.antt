@@ -11,7 +11,9 @@ use Rattle.header.specs.Layout.{kindByte, recordSize, capacityOf, blocksFor}
 use Rattle.records.specs.Rules.{runRecords}
 use Rattle.buffers.proofs.Left.{Left, left-start, left-room, left-turn, left-end}
 use Rattle.writing.specs.Laid.{blockOf, kindBlocks}
-use Rattle.writing.proofs.Runs.{run-count, run-sized, size-some}
+use Rattle.records.proofs.BlockRuns.{size-some}
+use Rattle.records.proofs.Parts.{run-count}
+use Rattle.writing.proofs.Runs.{run-sized}
 use Rattle.writing.proofs.KindSteps.{runOf, blocksLeft, allBlocks, last-place, kind-start, kind-step, kind-end, kind-long, block-long}
 use Rattle.writing.proofs.laying.put_kind.Statement.{statement}
 use Rattle.writing.proofs.laying.put_kind.Tie as tie
@@ -20,7 +22,7 @@ abbrev recordsIn : Edition → Kind → List ℕ → List (List ℕ)
 recordsIn edition kind bytes = runRecords (recordSize edition kind) bytes
 
 count-is : (edition : Edition) (kind : Kind) (bytes : List ℕ) → length (recordsIn edition kind bytes) ≡ length bytes / recordSize edition kind
-count-is edition kind bytes = run-count (recordSize edition kind) (size-some edition kind) bytes
+count-is edition kind bytes = run-count (recordSize edition kind) bytes
 
 -- all blocks, by the number of records that the bytes hold
 abbrev blocks : Edition → Kind → List ℕ → ℕ → List ℕ

@@ -9,8 +9,9 @@ use Rattle.header.specs.Layout.{kindByte, recordSize, capacityOf}
 use Rattle.header.proofs.Editions.{kind-roomy}
 use Rattle.records.specs.Rules.{runRecords}
 use Rattle.writing.specs.Laid.{headOf, sealed, blockOf}
-use Rattle.writing.proofs.Runs.{run-sized, size-some}
-use Rattle.writing.proofs.Runs as runs
+use Rattle.records.proofs.BlockRuns.{size-some}
+use Rattle.writing.proofs.Runs.{run-sized}
+use Rattle.records.proofs.Parts as parts
 use Rattle.writing.proofs.RunParts.{bytes-low, bytes-end, run-bytes}
 use Rattle.writing.proofs.KindSteps.{runOf, run-fits, run-count, written-same}
 use borrow.Author.Needs.{needs}
@@ -24,7 +25,7 @@ module _ (edition : Edition) (kind : Kind) (bytes : List ℕ) (from to size : �
   records = runRecords (recordSize edition kind) bytes
 
   upto : to ≤ length records
-  upto = omega (arith, runs.run-count (recordSize edition kind) (size-some edition kind) bytes)
+  upto = omega (arith, parts.run-count (recordSize edition kind) bytes)
 
   payload-is : take (size * to - size * from) (drop (size * from) bytes) ≡ flatten (runOf edition kind records from to)
   payload-is = rw told (run-bytes (recordSize edition kind) (size-some edition kind) bytes from to low high)

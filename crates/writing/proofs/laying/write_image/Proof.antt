@@ -11,7 +11,8 @@ use Rattle.buffers.proofs.FrontWritten.{answer-room, answer-done}
 use Rattle.writing.specs.Laid.{imageOf, Limited}
 use Rattle.writing.specs.Lent.{bytesBy, lentRecords}
 use Rattle.writing.proofs.Placed.{image-length}
-use Rattle.writing.proofs.Runs.{run-count, size-some}
+use Rattle.records.proofs.BlockRuns.{size-some}
+use Rattle.records.proofs.Parts.{run-count}
 use Rattle.writing.proofs.FewRecords.{few-components, few-labels, few-users}
 use borrow.Author.Needs.{needs}
 use Rattle.writing.proofs.laying.write_image.Statement.{statement}
@@ -33,7 +34,7 @@ module _ (s : tie.Start) where
   records = lentRecords (n .edition) bytes
 
   counted : (kind : Kind) → length (records kind) ≡ length (bytes kind) / recordSize (n .edition) kind
-  counted kind = run-count (recordSize (n .edition) kind) (size-some (n .edition) kind) (bytes kind)
+  counted kind = run-count (recordSize (n .edition) kind) (bytes kind)
 
   limited : Limited n (length (records User)) (length (records Label))
   limited = rw (counted User, counted Label) (s .pre .1)

@@ -6,7 +6,7 @@ use borrow.Author.Needs.{needs}
 use Rattle.fields.specs.Scan.{firstBad}
 use Rattle.header.specs.Layout.{recordSize}
 use Rattle.records.specs.Rules.{runRecords, freshRule}
-use Rattle.writing.proofs.Runs.{size-least}
+use Rattle.header.proofs.Editions.{size-least}
 use Rattle.writing.proofs.LentRuns.{lent-upto, lent-names, lent-both, lent-none}
 use Rattle.writing.proofs.lent.first_bad.Statement.{statement}
 use Rattle.writing.proofs.lent.first_bad.Tie as tie
