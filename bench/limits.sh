@@ -8,8 +8,8 @@ unset BRAWNESK_LIB_DIR
 
 # A call as the bench program names it, with @ and its image if that isn't the largest of edition 1; what is counted: the whole
 # call, its share for each row, how many times another call it is, or the bytes of its stack; and the limit. Two limits only keep what
-# was reached: check@worst, whose names also end alike, and set-label-longest, for whose text there is no mark. A mapped read judges
-# the map, which a plain one makes: that is a few dozen instructions on millions (docs/BENCHMARKS.md).
+# was reached: check@worst, whose names also end alike, and set-label-longest, for whose text there is no mark. A mapped read compares
+# the map, which a plain one only makes: up to 153 instructions of millions (docs/BENCHMARKS.md).
 limits='
 check                whole    190000
 check@parent-higher  check    1.2

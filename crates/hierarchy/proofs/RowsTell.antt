@@ -14,8 +14,8 @@ use Rattle.header.specs.declared.profile.Profile.the-variants.{Tree}
 use Rattle.records.specs.Fields.{readGroups, writeGroups, defaultGroups, rowGroups}
 use Rattle.hierarchy.specs.declared.users.Users.{Users}
 use Rattle.hierarchy.specs.Forest.{Forest}
-use Rattle.hierarchy.specs.Below.{belowSets}
-use Rattle.hierarchy.specs.Users.{recordSets, userRule, firstBadUser}
+use Rattle.hierarchy.specs.Below.{belowSets, recordSets}
+use Rattle.hierarchy.specs.Users.{userRule, firstBadUser}
 use Rattle.hierarchy.specs.SetRows.{rowsRule}
 use Rattle.hierarchy.specs.UserRows.{userSet, plainSets, PlainUpto, Filled}
 use Rattle.hierarchy.proofs.UsersInRows.{user-there, user-none, plain-below}

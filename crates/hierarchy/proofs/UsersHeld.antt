@@ -23,8 +23,8 @@ use Rattle.records.proofs.BlockRuns.{size-some}
 use Rattle.records.proofs.Parts.{run-count, run-record, run-inside}
 use Rattle.hierarchy.specs.declared.users.Users.{Users}
 use Rattle.hierarchy.specs.Forest.{Forest}
-use Rattle.hierarchy.specs.Below.{forestIn, groupSetsIn, firstBadSets}
-use Rattle.hierarchy.specs.Users.{userAt, userIn, Held, recordSets, userRule, firstBadUser}
+use Rattle.hierarchy.specs.Below.{forestIn, recordSets, groupSetsIn, firstBadSets}
+use Rattle.hierarchy.specs.Users.{userAt, Held, userRule, firstBadUser}
 use Rattle.hierarchy.proofs.Alike.{Alike, sets-alike}
 use Rattle.hierarchy.proofs.OfImage.{user-record}
 

@@ -1,7 +1,7 @@
--- Users in rows, sixteen at once: the loop that fills the rows, and what the lowest bad user of each sixteen tells.
+-- Users in rows, sixteen at once: the loop that passes over users, and the one that fills the rows. Assumes nothing.
 use Prim.Native.Nat.{ℕ, _+_, _-_, _*_, _/_, _≤_, _<_}
 use mathlib.Core.Path.{_≡_, refl, sym, ap, _∙_, subst}
-use mathlib.Core.Bool.{Bool, true, false, cond, true≢false}
+use mathlib.Core.Bool.{Bool, true, false, cond}
 use mathlib.Core.List.{List}
 use native.Mathlib.Nat.{le-refl}
 use native.Mathlib.Omega.{arith}
@@ -9,23 +9,20 @@ use borrow.Author.Count.{below-more}
 use borrow.Author.Tests.{lt-ltb, le-ltb, ltb-true, ltb-false}
 use lib.Dec.{ltb}
 use lib.ListN.{length}
-use Rattle.fields.specs.Scan.{firstBad}
-use Rattle.fields.proofs.Scan.{good-before, bad-at, bad-is, all-good}
 use Rattle.fields.proofs.Both.{parts}
 use Rattle.sets.specs.Sets.{none, allBelow, union, intersection, within}
 use Rattle.sets.specs.Groups.{placesOf}
-use Rattle.sets.proofs.Within.{within-trans, within-none, within-union-left, within-union-right, intersection-within-left, intersection-within-right}
+use Rattle.sets.proofs.Within.{within-trans, within-union-left, within-union-right, intersection-within-left, intersection-within-right}
 use Rattle.sets.proofs.Bounds.{within-below}
 use Rattle.header.specs.declared.edition.Edition.{Edition}
-use Rattle.header.specs.declared.profile.Profile.the-variants.{Tree}
 use Rattle.records.specs.declared.users.GroupSets.{GroupSets}
 use Rattle.records.specs.Fields.{readGroups, writeGroups, defaultGroups, rowGroups}
 use Rattle.records.specs.Users.{GroupsAre}
 use Rattle.hierarchy.specs.declared.users.Users.{Users}
 use Rattle.hierarchy.specs.Forest.{Forest, belowIn, tableRoom}
 use Rattle.hierarchy.specs.Below.{belowSets, ofSets}
-use Rattle.hierarchy.specs.Users.{userIn, recordSets, userRule, firstBadUser}
-use Rattle.hierarchy.specs.SetRows.{setAt, UserPut, RowsFit, rowsRule}
+use Rattle.hierarchy.specs.Users.{userIn}
+use Rattle.hierarchy.specs.SetRows.{setAt, UserPut, RowsFit}
 use Rattle.hierarchy.specs.UserRows.{userSet, SetsAre, plainSets, plainRule, PlainUpto, HoldsSet, Filled}
 use Rattle.hierarchy.proofs.Under.{below-self}
 

@@ -10,6 +10,7 @@ use lib.ListN.{length}
 use Rattle.fields.specs.Scan.{firstBad}
 use Rattle.sets.specs.Sets.{within}
 use Rattle.sets.specs.Groups.{placesOf}
+use Rattle.header.specs.declared.edition.Edition.{Edition}
 use Rattle.header.specs.declared.profile.Profile.{Profile}
 use Rattle.header.specs.declared.layout.Kind.the-variants.{Component, User}
 use Rattle.header.specs.declared.counts.Counts.{Counts}
@@ -46,10 +47,12 @@ abbrev pub ofSets : (ℕ → ℕ → ℕ → ℕ → Bool) → GroupSets → Boo
 ofSets rule sets = rule (placesOf (sets .read)) (placesOf (sets .write)) (placesOf (sets .default)) (placesOf (sets .row))
 
 -- by the profile, of the sets that a user's record holds
+unfoldable pub recordSets : Profile → Forest → Edition → List ℕ → Bool
+recordSets profile f edition rec =
+    setsRule profile f (readGroups edition rec) (writeGroups edition rec) (defaultGroups edition rec) (rowGroups edition rec)
+
 unfoldable pub groupSetsIn : Counts → List (List ℕ) → List ℕ → Bool
-groupSetsIn n components rec =
-    setsRule (n .profile) (forestIn n components)
-    (readGroups (n .edition) rec) (writeGroups (n .edition) rec) (defaultGroups (n .edition) rec) (rowGroups (n .edition) rec)
+groupSetsIn n components rec = recordSets (n .profile) (forestIn n components) (n .edition) rec
 
 -- the lowest user whose groups break that rule; the number of users where there is none
 unfoldable pub firstBadSets : Counts → List (List ℕ) → List (List ℕ) → ℕ

@@ -1,4 +1,5 @@
--- The sets of sixteen users in rows, from the user at place `from` on. Where there is no user, there are empty sets. `all` are all groups.
+-- The sets of users, one by one and those of sixteen in rows, from the user at place `from` on. Where there is no user, there are empty sets. `all`
+-- are all groups.
 use Prim.Native.Nat.{ℕ, _+_, _≤_, _<_}
 use mathlib.Core.Path.{_≡_}
 use mathlib.Core.Bool.{Bool, true, cond, _&&_}
@@ -19,7 +20,7 @@ use Rattle.hierarchy.specs.SetRows.{setAt}
 unfoldable pub userSet : Users → List ℕ → (Edition → List ℕ → ℕ) → ℕ → ℕ
 userSet l bytes field u = cond (ltb u (l .count)) (field (l .edition) (userIn l bytes u)) none
 
--- the four values are the sets of the user at place u
+-- the four values are the sets of the user at place u, empty where there is none
 pub record SetsAre (l : Users) (bytes : List ℕ) (u : ℕ) (sets : GroupSets) : Type 0 where
   pub read : placesOf (sets .read) ≡ userSet l bytes readGroups u
   pub write : placesOf (sets .write) ≡ userSet l bytes writeGroups u

@@ -11,11 +11,10 @@ use Rattle.header.specs.declared.edition.Edition.{Edition}
 use Rattle.header.specs.declared.profile.Profile.{Profile}
 use Rattle.header.specs.declared.layout.Kind.the-variants.{User}
 use Rattle.header.specs.Layout.{recordSize}
-use Rattle.records.specs.Fields.{readGroups, writeGroups, defaultGroups, rowGroups}
 use Rattle.records.specs.Rules.{recordIn}
 use Rattle.hierarchy.specs.declared.users.Users.{Users}
 use Rattle.hierarchy.specs.Forest.{Forest}
-use Rattle.hierarchy.specs.Below.{setsRule}
+use Rattle.hierarchy.specs.Below.{recordSets}
 
 -- where the record of the user at place u begins
 unfoldable pub userAt : Users → ℕ → ℕ
@@ -25,7 +24,7 @@ userAt l u = l .base + l .size * u + l .gap * (u / l .each)
 abbrev pub userIn : Users → List ℕ → ℕ → List ℕ
 userIn l bytes u = part bytes (userAt l u) (l .size)
 
--- all of them are among the bytes
+-- all of them are among the bytes, and they are so few that no place overflows
 pub record Among (l : Users) (bytes : List ℕ) : Type 0 where
   pub some : 1 ≤ l .each
   pub few : l .count < 2 ^ 60
@@ -40,11 +39,7 @@ pub record Held (edition : Edition) (records : List (List ℕ)) (bytes : List �
   pub each : (u : ℕ) → u < l .count → userIn l bytes u ≡ recordIn records u
 
 -- ---- the rule of the sets of groups
--- of those that a record holds
-unfoldable pub recordSets : Profile → Forest → Edition → List ℕ → Bool
-recordSets profile f edition rec = setsRule profile f (readGroups edition rec) (writeGroups edition rec) (defaultGroups edition rec) (rowGroups edition rec)
-
--- of those of the user at place u
+-- of the user at place u
 abbrev pub userRule : Profile → Forest → Users → List ℕ → ℕ → Bool
 userRule profile f l bytes u = recordSets profile f (l .edition) (userIn l bytes u)
 

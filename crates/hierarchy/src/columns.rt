@@ -20,8 +20,8 @@ fn row_above(count: usize, rows: &[u64], p: usize) -> u64
     if p < count { rows[p] } else { 0 }
 }
 
-// Which sets a group with the row x had to lie below and does not. Those that it lies below are in `below`. The number has the bits 0 to 15 and 32
-// to 47.
+// Which sets a group with the row x had to lie below and does not. Those that it lies below are in `below`. 281470681808895 has the bits
+// 0 to 15 and 32 to 47.
 fn lacking(x: u64, below: u64) -> u64
     ensures { λ r. ⌜ r ≡ columns.lacking x below ⌝ }
 {

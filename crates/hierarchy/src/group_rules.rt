@@ -56,7 +56,7 @@ fn release_ok(sets: GroupSets) -> bool
 }
 
 // A user's sets of groups among each other, by the profile. `all` are all groups.
-pub fn sets_ok(profile: Profile, count: usize, table: &Table, all: Groups, sets: GroupSets) -> bool
+fn sets_ok(profile: Profile, count: usize, table: &Table, all: Groups, sets: GroupSets) -> bool
     requires { ⌜ OrderedBy count (now table) × (placesOf all ≡ allBelow count) ⌝ }
     ensures { λ r. ⌜ r ≡ ofSets (setsRule profile (forestBy count (now (table .entry)))) sets ⌝ }
 {

@@ -48,6 +48,7 @@ fn put_walk(table: &mut [u8], places: &mut [u16], g: usize, from: usize, end: us
     }
 }
 
+// Gives every group its place, walk by walk. Gives the lowest group whose parents never end; the number of groups where there is none.
 fn place_all(count: usize, table: &mut [u8], places: &mut [u16]) -> usize
     requires { ⌜ (count ≤ tableRoom) × ((length (now table) ≡ tableLength) × (length (now places) ≡ tableRoom)) ⌝ }
     requires { ⌜ ((g : ℕ) → g < count → getD (now places) g 0 ≡ 0) ⌝ }

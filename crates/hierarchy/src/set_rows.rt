@@ -29,8 +29,8 @@ fn put_set(rows: &mut [u64], b: usize, s: Groups)
     rows[b + 192] = s.word(3);
 }
 
-// Turns the rows over, sixty-four at once: for each of `count` groups a row, in which bit b tells whether the group is in the set at place b. An image of
-// edition 1 has no more than sixty-four.
+// Turns the rows over, sixty-four at once: for each of `count` groups a row, in which bit b tells whether the group is in the set at place b. With
+// two calls of `transpose` it is compiled apart: compiled into its caller it would take its room on the stack for the whole of the check.
 fn turn_over(count: usize, rows: &mut [u64])
     requires { ⌜ (count ≤ tableRoom) × (length (now rows) ≡ tableRoom) ⌝ }
     ensures { λ r. ⌜ Turned count (now (rows .entry)) (now (rows .exit)) ⌝ }
@@ -48,7 +48,7 @@ fn turn_over(count: usize, rows: &mut [u64])
 }
 
 // Puts the sets of user i of sixteen.
-pub fn put_user(rows: &mut [u64], i: usize, sets: GroupSets)
+pub(crate) fn put_user(rows: &mut [u64], i: usize, sets: GroupSets)
     requires { ⌜ (length (now rows) ≡ tableRoom) × (i < 16) ⌝ }
     ensures { λ r. ⌜ UserPut i sets (now (rows .entry)) (now (rows .exit)) ⌝ }
 {
@@ -63,7 +63,7 @@ pub fn put_user(rows: &mut [u64], i: usize, sets: GroupSets)
 }
 
 // Are all groups of the four sets in `all`?
-pub fn sets_fit(all: Groups, sets: GroupSets) -> bool
+pub(crate) fn sets_fit(all: Groups, sets: GroupSets) -> bool
     ensures { λ r. ⌜ r ≡ ofSets (λ read write default row. within (union (union read write) (union default row)) (placesOf all)) sets ⌝ }
 {
     let read = sets.read;
@@ -74,7 +74,7 @@ pub fn sets_fit(all: Groups, sets: GroupSets) -> bool
 }
 
 // The lowest of the sixteen users whose groups break the rule of the tree; 16 where there is none. The rows are written over.
-pub fn lowest_bad_user(count: usize, table: &Table, rows: &mut [u64]) -> usize
+pub(crate) fn lowest_bad_user(count: usize, table: &Table, rows: &mut [u64]) -> usize
     requires { ⌜ OrderedBy count (now table) × ((length (now rows) ≡ tableRoom) × RowsFit count (now rows)) ⌝ }
     ensures { λ r. ⌜ r ≡ firstBad (rowsRule (forestBy count (now (table .entry))) (now (rows .entry))) 16 0 ⌝ }
 {

@@ -93,8 +93,8 @@ pub fn fill(image: &[u8], table: &mut Table)
     first_ring(image, table);
 }
 
-// s with every group that has an ancestor in s. Each parent stands before its children in the order, so that one pass tells of every group.
-// First where one word holds every group, then where the set is kept as its words, which is quicker than as one value.
+// s with every group that has an ancestor in s, where one word holds every group. Each parent stands before its children in the order, so that one
+// pass tells of every group.
 fn below_in_word(count: usize, table: &Table, s: u64) -> u64
     requires { ⌜ OrderedBy count (now table) × (count ≤ 64) ⌝ }
     ensures { λ r. ⌜ r ≡ belowIn (forestBy count (now (table .entry))) s ⌝ }
@@ -114,6 +114,7 @@ fn below_in_word(count: usize, table: &Table, s: u64) -> u64
     groups
 }
 
+// The same for any number of groups. The set is kept as its words, which is quicker than as one value.
 fn below_in_words(count: usize, table: &Table, s: Groups) -> Groups
     requires { ⌜ OrderedBy count (now table) ⌝ }
     ensures { λ r. ⌜ placesOf r ≡ belowIn (forestBy count (now (table .entry))) (placesOf s) ⌝ }
@@ -139,6 +140,7 @@ fn below_in_words(count: usize, table: &Table, s: Groups) -> Groups
     Groups::of_words(words[0], words[1], words[2], words[3])
 }
 
+// s with every group that has an ancestor in s.
 pub fn below(count: usize, table: &Table, s: Groups) -> Groups
     requires { ⌜ OrderedBy count (now table) ⌝ }
     ensures { λ r. ⌜ placesOf r ≡ belowIn (forestBy count (now (table .entry))) (placesOf s) ⌝ }

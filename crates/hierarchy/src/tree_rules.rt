@@ -21,7 +21,8 @@ use header::profile::Profile;
 use records::users::GroupSets;
 use sets::groups::Groups;
 
-// Do the sets lie within one another as they stand? Then they lie below one another too, whatever the parents are.
+// Do the sets lie within one another as they stand, and the read groups, which have all of them, within `all`? Then they lie below one another too,
+// whatever the parents are.
 fn plain(all: Groups, sets: GroupSets) -> bool
     ensures { λ r. ⌜ r ≡ ofSets (plainSets (placesOf all)) sets ⌝ }
 {
@@ -32,7 +33,8 @@ fn plain(all: Groups, sets: GroupSets) -> bool
     write.union(default).within(read) & row.within(default.intersection(write)) & read.within(all)
 }
 
-// The first user from `from` on whose sets do not lie within one another as they stand. Most images have none.
+// The first user from `from` on whose sets do not lie within one another as they stand. Most images have none. Only that the users before are good
+// is claimed: from where on they are asked in rows is a matter of speed alone.
 fn first_not_plain(users: Users, bytes: &[u8], from: usize, all: Groups) -> usize
     requires { ⌜ Among users (now bytes) × (from < 2 ^ 61) ⌝ }
     ensures { λ r. ⌜ PlainUpto (placesOf all) users (now (bytes .entry)) from r ⌝ }
@@ -48,7 +50,7 @@ fn first_not_plain(users: Users, bytes: &[u8], from: usize, all: Groups) -> usiz
 }
 
 // Fills the rows with the sets of sixteen users from `from` on. Says no where one of these names a group that is not there; the rule of user
-// records leaves none of these where groups are asked.
+// records leaves none of these where groups are asked. Nothing is claimed where it says no: then users are asked one after the other.
 fn fill_rows(users: Users, bytes: &[u8], from: usize, all: Groups, rows: &mut [u64]) -> bool
     requires { ⌜ Among users (now bytes) × ((from < 2 ^ 60) × (length (now rows) ≡ tableRoom)) ⌝ }
     ensures { λ r. ⌜ (r ≡ true → Filled (placesOf all) users (now (bytes .entry)) from 16 (now (rows .exit))) ⌝ }

@@ -21,7 +21,7 @@ use Rattle.records.proofs.MeaningBlocks.{records-kept}
 use Rattle.records.proofs.MeaningComponents.{ComponentKept, ComponentAmong, component-means, numeric-rise, component-unique}
 use Rattle.records.proofs.MeaningLabels.{LabelKept, LabelAmong, label-means, tags-rise, tag-unique}
 use Rattle.records.proofs.MeaningUsers.{UserKept, UserAmong, user-means, names-rise, user-unique}
-use Rattle.hierarchy.specs.Below.{belowSets, releaseSets, setsRule, groupSetsIn, forestOf, endsRule, below, groupSetsRule}
+use Rattle.hierarchy.specs.Below.{belowSets, releaseSets, setsRule, groupSetsIn, recordSets, forestOf, endsRule, below, groupSetsRule}
 use Rattle.header.specs.declared.profile.Profile.{Profile}
 use Rattle.header.specs.declared.profile.Profile.the-variants.{Tree, Release}
 use Rattle.hierarchy.proofs.Under.{below-closed}
@@ -78,7 +78,7 @@ SetsKept Release = ReleaseKept
 
 -- the rule of the user at place u
 user-rule : (im : List ℕ) (u : ℕ) → u < users im → groupSetsRule im u ≡ setsIn (profileOf im) im (userRecord im u)
-unfolding groupSetsIn
+unfolding groupSetsIn recordSets
 user-rule im u h = ap (setsIn (profileOf im) im) (user-record im u h)
 
 pub sets-means : (im : List ℕ) (u : ℕ) → u < users im → groupSetsRule im u ≡ true → SetsKept (profileOf im) im (userRecord im u)

@@ -36,7 +36,7 @@ pub fn bit_of(bits: &[u8], p: usize) -> bool
     word::has(bits[p / 8] as u64, p % 8)
 }
 
-// Writes the map, of that length, to the front of the buffer, and tells the length. Every label is asked.
+// Writes the map to the front of the buffer, and tells its length, which is `count`. Every label is asked.
 fn put_asked(image: &[u8], view: View, count: usize, buffer: &mut [u8]) -> usize
     requires { ⌜ Counted (now image) × (mapLength (now image) ≤ length (now buffer)) ⌝ }
     requires { ⌜ count ≡ mapLength (now image) ⌝ }

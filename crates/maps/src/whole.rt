@@ -7,8 +7,8 @@ ghost use Rattle.buffers.specs.Pasting.{Written};
 ghost use Rattle.maps.specs.Whole.{wholeMap};
 use sets::word;
 
-// Writes the map of so many labels, which has that length, to the front of the buffer, and tells the length. Eight labels fill a byte, so that every
-// byte but the last is 255; the last has a bit for each label that is left, and where none is left there is no such byte.
+// Writes the map of so many labels to the front of the buffer, and tells `count`, which is its length. Eight labels fill a byte: each full byte is
+// 255. A last one has a bit for each label that is left; where none is left, there is no such byte.
 pub(crate) fn put_whole(labels: usize, count: usize, buffer: &mut [u8]) -> usize
     requires { ⌜ (count ≡ (labels + 7) / 8) × (count ≤ length (now buffer)) ⌝ }
     ensures { λ r. ⌜ Written (now (buffer .entry)) 0 (wholeMap labels) (now (buffer .exit)) r ⌝ }

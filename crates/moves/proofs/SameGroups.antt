@@ -6,7 +6,7 @@ use mathlib.Core.List.{List}
 use native.Mathlib.Omega.{arith}
 use Rattle.header.specs.declared.profile.Profile.{Profile}
 use Rattle.header.specs.Layout.{byProfile, groups, users}
-use Rattle.hierarchy.specs.Below.{groupSetsIn, forestOf, endsRule, below, reach, groupSetsRule}
+use Rattle.hierarchy.specs.Below.{groupSetsIn, recordSets, forestOf, endsRule, below, reach, groupSetsRule}
 use Rattle.hierarchy.proofs.Alike as forests
 use Rattle.hierarchy.proofs.Alike.{Alike, sets-alike}
 use Rattle.hierarchy.proofs.OfImage.{user-record}
@@ -29,7 +29,7 @@ module _ {change : ℕ → ℕ} (im new : List ℕ) (same : HoldsTheSame change 
 
   -- so a user's groups stand among each other as they did
   pub sets-rule-alike : (u : ℕ) → u < users im → groupSetsRule new u ≡ groupSetsRule im u
-  unfolding groupSetsIn
+  unfolding groupSetsIn recordSets
   sets-rule-alike u h =
       let k = same .user u h in
       let there : u < users new = omega (arith, same .sameUsers) in

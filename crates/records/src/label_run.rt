@@ -1,7 +1,7 @@
 // The labels of a run, one right after the other: what is asked of each and of the one before it. Of the one before only the tag is asked,
 // so the loop carries that; 0 before the first label of all, where every tag from 1 on is higher. The level and the three unused bytes
 // after it are one number: it is below the count of levels exactly if the level is and they are zero. Tags rise, so whether one is above
-// the highest that a label may have is asked of the last alone.
+// the highest that a label may have is asked from the last one back, up to the first that is not.
 ghost use Prim.Native.Nat.{_*_, _/_, _%_, _≤_};
 ghost use mathlib.Core.Path.{_≡_};
 ghost use mathlib.Core.Bool.{cond};

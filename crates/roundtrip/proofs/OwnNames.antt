@@ -1,28 +1,26 @@
 -- The names of an accepted image's components: a component is found by its own name, and the name holds no separator. Assumes nothing.
-use Prim.Native.Nat.{ℕ, zero-le, _+_, _-_, _≤_, _<_}
+use Prim.Native.Nat.{ℕ, _+_, _-_, _≤_, _<_}
 use mathlib.Core.Path.{_≡_, refl, sym, ap, _∙_}
-use mathlib.Core.Bool.{Bool, true, false, cond, _&&_}
+use mathlib.Core.Bool.{true, false, _&&_}
 use mathlib.Core.List.{List, [], _∷_}
 use native.Mathlib.Omega.{arith}
-use borrow.Author.Tests.{eqb-true, eqb-false}
-use lib.Dec.{eqb, leb}
+use lib.Dec.{leb}
 use lib.ListN.{length}
 use Rattle.fields.specs.Bytes.{byteAt, part, allZero}
 use Rattle.fields.specs.Names.{nameByte, nameIn, nameRule, allNameBytes, foldedName}
 use Rattle.fields.proofs.Both.{both-left, both-right}
 use Rattle.fields.proofs.Laws.{part-length}
 use Rattle.fields.proofs.Folding.{folded-name}
-use Rattle.fields.proofs.Meaning.{NameKept, found-at, found-unique, same-refl, same-means, name-length, name-holds}
-use Rattle.header.specs.Layout.{levels, compartments, groups, components, countsOf, classFirst, classAt, componentRecord}
+use Rattle.fields.proofs.Meaning.{NameKept, found-at, same-refl, same-means, name-length, name-holds}
+use Rattle.header.specs.Layout.{components, componentRecord}
 use Rattle.records.specs.Fields.{componentNameField}
 use Rattle.header.specs.declared.layout.Kind.the-variants.{Component}
 use Rattle.header.proofs.Inside.{record-length}
-use Rattle.records.proofs.MeaningComponents.{class-level, class-compartment, class-group}
 use Rattle.image.specs.Check.{IsAccepted}
 use Rattle.image.specs.Lookup.{componentIndex}
 use Rattle.image.proofs.Accepted.{accepted-counted}
 use Rattle.image.proofs.Placed.{placed-index}
-use Rattle.image.proofs.Policy.{component-kept, components-apart}
+use Rattle.image.proofs.Policy.{component-kept}
 use Rattle.labels.specs.Text.{comma, colon, allTextBytes, isName}
 use Rattle.labels.specs.Parse.{matches, classCount, placeOfName}
 use Rattle.printing.specs.Print.{nameAt}

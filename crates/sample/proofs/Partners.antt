@@ -13,7 +13,7 @@ use Rattle.header.specs.Layout.{levels, compartments, groups, users, labels, co
 use Rattle.header.specs.Header.{headerRule, fitRule, countsRule}
 use Rattle.records.specs.Rules.{parentRule, componentShape, newNameRule, labelShape, userLevelsRule, userCompartmentsRule, userGroupsRule, privilegesRule, userShape, ruleOf, layoutRule, firstBadRecord, contentRule, otherName}
 use Rattle.hierarchy.specs.Forest.{hasParentIn, endsWithinIn, endsIn, firstRingIn, lineageWithinIn, lineageIn, belowIn}
-use Rattle.hierarchy.specs.Below.{parentIn, belowSets, firstBadSets, groupSetsIn, reach}
+use Rattle.hierarchy.specs.Below.{parentIn, belowSets, firstBadSets, groupSetsIn, recordSets, reach}
 use Rattle.refusals.specs.declared.answers.Checked.the-variants.{Accepted}
 use Rattle.image.specs.declared.faults.Fault.the-variants.{Sound}
 use Rattle.image.specs.Walk.{firstBadContent, contentFault, countedFault, foundFault}
@@ -35,7 +35,7 @@ use Rattle.sample.specs.Partners.{partners, ofNorth, ofBoth}
 use Rattle.sample.proofs.Sample.{sound-accepted}
 
 partners-sound : foundFault partners ≡ Sound
-unfolding partners number2 number4 number8 all nameByte nameIn nameRule sameBytes nameBefore firstBad has allBelow within meets collect lengthRule blockAt sumA sumB checkRule placeRule blockRule blockCount firstBadBlock levels compartments groups users labels components firstBlock blocksFor blocksNeeded recordOffset recordAt contentsOf kindAt headerRule fitRule classAt classFirst parentRule componentShape otherName newNameRule labelShape userLevelsRule userCompartmentsRule userGroupsRule privilegesRule userShape ruleOf recordsOf listFrom layoutRule firstBadRecord contentRule parentIn hasParentIn endsWithinIn endsIn firstRingIn lineageWithinIn lineageIn belowIn belowSets firstBadSets firstBadContent contentFault countedFault foundFault editionOf countsRule groupsAt joined groupSetsIn profileOf reach releaseSets
+unfolding partners number2 number4 number8 all nameByte nameIn nameRule sameBytes nameBefore firstBad has allBelow within meets collect lengthRule blockAt sumA sumB checkRule placeRule blockRule blockCount firstBadBlock levels compartments groups users labels components firstBlock blocksFor blocksNeeded recordOffset recordAt contentsOf kindAt headerRule fitRule classAt classFirst parentRule componentShape otherName newNameRule labelShape userLevelsRule userCompartmentsRule userGroupsRule privilegesRule userShape ruleOf recordsOf listFrom layoutRule firstBadRecord contentRule parentIn hasParentIn endsWithinIn endsIn firstRingIn lineageWithinIn lineageIn belowIn belowSets firstBadSets firstBadContent contentFault countedFault foundFault editionOf countsRule groupsAt joined groupSetsIn recordSets profileOf reach releaseSets
 partners-sound = refl
 
 pub partners-accepted : checkOf partners ≡ Accepted

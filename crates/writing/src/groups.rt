@@ -51,7 +51,8 @@ pub(crate) fn fill(counts: Counts, components: &[u8], table: &mut Table)
     fill_places(counts, components, table)
 }
 
-// The lowest user whose sets of groups break their rule; the number of users where there is none.
+// The lowest user whose sets of groups break their rule; the number of users where there is none. The components, by which the table was filled, are
+// here for the contract alone.
 pub(crate) fn first_bad_user(
     existing: Existing,
     components: &[u8],

@@ -7,8 +7,8 @@ use borrow.Author.Tests.{not-true, not-false}
 use Rattle.fields.specs.Scan.{firstBad}
 use Rattle.fields.proofs.Scan.{loop-bad, loop-good, loop-end}
 use Rattle.hierarchy.specs.Forest.{forestBy}
-use Rattle.hierarchy.specs.Below.{setsRule}
-use Rattle.hierarchy.specs.Users.{recordSets, userRule, firstBadUser}
+use Rattle.hierarchy.specs.Below.{setsRule, recordSets}
+use Rattle.hierarchy.specs.Users.{userRule, firstBadUser}
 use Rattle.hierarchy.proofs.UsersInRows.{sets-rule}
 use Rattle.hierarchy.proofs.group_rules.first_bad_singly.Statement.{statement}
 use Rattle.hierarchy.proofs.group_rules.first_bad_singly.Tie as tie

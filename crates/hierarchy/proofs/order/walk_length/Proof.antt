@@ -1,6 +1,5 @@
 use Prim.Native.Nat.{_+_, _-_}
 use native.Mathlib.Omega.{arith}
-use borrow.Author.Needs.{needs}
 use Rattle.hierarchy.specs.Forest.{parentBy}
 use Rattle.hierarchy.proofs.Steps.{Passing, passing-start, passing-next, passing-stop, passing-on}
 use Rattle.hierarchy.proofs.order.walk_length.Statement.{statement}

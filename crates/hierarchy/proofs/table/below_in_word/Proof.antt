@@ -1,11 +1,11 @@
 use Prim.Native.Nat.{ℕ, _-_, _<_}
-use mathlib.Core.Path.{_≡_, refl, sym, ap, _∙_}
+use mathlib.Core.Path.{_≡_, sym, ap, _∙_}
 use mathlib.Core.Logic.{⊎-elim}
 use mathlib.Core.List.{List}
 use native.Mathlib.Omega.{arith}
 use borrow.Author.Needs.{needs}
-use Rattle.sets.specs.Sets.{intersection, allBelow}
-use Rattle.hierarchy.specs.Forest.{belowIn, tableRoom, forestBy, orderAt, OrderedBy}
+use Rattle.sets.specs.Sets.{intersection}
+use Rattle.hierarchy.specs.Forest.{belowIn, forestBy, orderAt, OrderedBy}
 use Rattle.hierarchy.proofs.Under.{below-groups}
 use Rattle.hierarchy.proofs.InOrder.{Descending, descend-start, descend-put, descend-pass, descend-end}
 use Rattle.hierarchy.proofs.table.below_in_word.Statement.{statement}

@@ -1,7 +1,5 @@
-use Prim.Native.Nat.{_/_, _^_, _<_}
 use native.Mathlib.Omega.{arith}
 use borrow.Author.Needs.{needs}
-use lib.ListN.{length}
 use Rattle.header.specs.declared.layout.Kind.the-variants.{User}
 use Rattle.records.proofs.BlockRuns.{size-some}
 use Rattle.hierarchy.proofs.UsersHeld.{run-few, run-held}
