@@ -58,6 +58,20 @@ module _ (text : List ℕ) (i m : ℕ) (inside : i + m ≤ length text) where
       ap (λ (k : ℕ). drop k (drop to b)) (add-sub-cancel-left to m) ∙ drop-drop m to b ∙ ap (λ (k : ℕ). drop (to + k) b) (sym part-long) in
       ap₂ (λ (s t : List ℕ). take to b ++ (s ++ t)) same later ∙ sym (append-assoc (take to b) part (drop (to + length part) b))
 
+  -- this part and the n bytes after it are one part
+  pub part-then : (b : List ℕ) (at n : ℕ) → at + length text ≤ length b
+      → pasted (pasted b (at + i) (take m (drop i text))) (at + (i + m)) (take n (drop (i + m) text))
+      ≡ pasted b (at + i) (take (m + n) (drop i text))
+  part-then b at n room =
+      let part : List ℕ = take m (drop i text) in
+      let next : List ℕ = take n (drop (i + m) text) in
+      let wide : length part ≡ m = part-long in
+      let then : at + (i + m) ≡ at + i + length part = omega arith in
+      let both : take (m + n) (drop i text) ≡ part ++ next = take-add m n (drop i text) ∙ ap (λ (t : List ℕ). part ++ take n t) (drop-drop m i text) in
+      ap (λ (k : ℕ). pasted (pasted b (at + i) part) k next) then
+      ∙ pasted-after b (at + i) part (omega arith) next
+      ∙ ap (pasted b (at + i)) (sym both)
+
   -- where the first n bytes stand already, and the part begins among them or just after them, all up to its end stand
   pub part-over : (b : List ℕ) (at n : ℕ) → at + length text ≤ length b → i ≤ n → n ≤ i + m
       → pasted (pasted b at (take n text)) (at + i) (take m (drop i text)) ≡ pasted b at (take (i + m) text)

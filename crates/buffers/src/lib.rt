@@ -1,4 +1,4 @@
 // Bytes written over those of a lent buffer.
 pub mod answers;
 pub mod given;
-mod parts;
+pub mod parts;

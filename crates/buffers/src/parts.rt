@@ -67,7 +67,7 @@ fn copy16(from: &[u8], to: &mut [u8])
 }
 
 // The 8 bytes of the text from i on.
-fn put8(text: &[u8], i: usize, buffer: &mut [u8], at: usize)
+pub fn put8(text: &[u8], i: usize, buffer: &mut [u8], at: usize)
     requires { ⌜ (i + 8 ≤ length (now text)) × (at + length (now text) ≤ length (now buffer)) ⌝ }
     ensures { λ r. ⌜ now (buffer .exit) ≡ pasted (now (buffer .entry)) (at + i) (take 8 (drop i (now (text .entry)))) ⌝ }
 {
@@ -76,12 +76,21 @@ fn put8(text: &[u8], i: usize, buffer: &mut [u8], at: usize)
 }
 
 // The 16 bytes of the text from i on.
-fn put16(text: &[u8], i: usize, buffer: &mut [u8], at: usize)
+pub fn put16(text: &[u8], i: usize, buffer: &mut [u8], at: usize)
     requires { ⌜ (i + 16 ≤ length (now text)) × (at + length (now text) ≤ length (now buffer)) ⌝ }
     ensures { λ r. ⌜ now (buffer .exit) ≡ pasted (now (buffer .entry)) (at + i) (take 16 (drop i (now (text .entry)))) ⌝ }
 {
     let to = at + i;
     copy16(&text[i..i + 16], &mut buffer[to..to + 16])
+}
+
+// The 32 bytes of the text from i on.
+pub fn put32(text: &[u8], i: usize, buffer: &mut [u8], at: usize)
+    requires { ⌜ (i + 32 ≤ length (now text)) × (at + length (now text) ≤ length (now buffer)) ⌝ }
+    ensures { λ r. ⌜ now (buffer .exit) ≡ pasted (now (buffer .entry)) (at + i) (take 32 (drop i (now (text .entry)))) ⌝ }
+{
+    put16(text, i, buffer, at);
+    put16(text, i + 16, buffer, at)
 }
 
 // The whole text: under 16 bytes two parts of 8, from 16 on parts of 16.

@@ -10,6 +10,8 @@ pub mod Answered
 pub mod Giving
 pub mod Nth
 pub mod ByMap
-pub mod Remembering
+pub mod HeldTags
+pub mod CompleteTags
 pub mod MadeMap
 pub mod EveryRow
+pub mod FirstBytes

@@ -66,5 +66,8 @@ module _ (run : List ℕ) (w : ℕ) (whole : IsRun run w) where
   pub row-part : (at : ℕ) → take (at + w - at) (drop at run) ≡ take w (drop at run)
   row-part at = rw add-sub-cancel-left
 
+  pub row-long : (at : ℕ) → Rest run w at → at < length run → length (take (at + w - at) (drop at run)) ≡ w
+  row-long at r h = ap length (row-part at) ∙ row-wide at r h
+
   pub row-tagged : (at : ℕ) → Rest run w at → at < length run → 4 ≤ length (take (at + w - at) (drop at run))
-  row-tagged at r h = let l = row-wide at r h in let low = whole .wide in rw add-sub-cancel-left (omega arith)
+  row-tagged at r h = let l = row-long at r h in let low = whole .wide in omega arith

@@ -7,3 +7,4 @@ pub mod Masked
 pub mod Mapped
 pub mod Scan
 pub mod Slots
+pub mod Words

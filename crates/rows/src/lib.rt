@@ -1,14 +1,15 @@
 // A table's rows under a session: reads, reads by a map, updates and masked reads. Every call checks the image, the session and the table's shape.
 pub mod answers;
+mod copying;
 mod few;
 mod mapped;
 mod masking;
 mod offsets;
 mod reading;
-mod remembered;
 mod run;
 mod scan;
 mod slots;
+mod tags;
 mod updating;
 
 ghost use mathlib.Core.Path.{_≡_};

@@ -1,55 +1,71 @@
-// Answers by tag that a call remembers while it goes over a table. Each entry that stands here is right, and nothing more is claimed: a tag that is
-// not found is asked of the image. So which tags are kept, and where, is a matter of speed alone.
-ghost use Prim.Native.Nat.{_/_, _%_, _<_};
+// The tags of which rows are handed out, found once for a whole table, so that a row is asked without the image.
+ghost use Prim.Native.Nat.{_≤_, _<_};
 ghost use mathlib.Core.Path.{_≡_};
-ghost use lib.Dec.{eqb};
+ghost use mathlib.Core.Bool.{true};
 ghost use lib.ListN.{length};
-ghost use Rattle.rows.specs.Slots.{slotCount};
+ghost use Rattle.rows.specs.Slots.{slotCount, ownSlot, heldFrom, held, Added};
 
-// 2,928 own slots and 48 spare ones. They stand on the stack of a read or an update, which may take 16 KiB.
+// 2,880 own slots and 96 after them. They stand on the stack of a read or an update, which may take 16 KiB.
 pub const COUNT: usize = 2976;
 
-// An entry is twice a tag, and 1 more where rows of the tag are handed out. One below 2 is free: it tells of tag 0, which no label carries.
+// An entry is a tag, or 0 where the slot is free: no label carries tag 0.
 pub type Slots = [u32; COUNT];
 
-// The tag's own slot. The last 48 are nobody's own: with them a search for a tag needs no turn back to the first slot.
+// The tag's own slot. The last 96 are nobody's own: with them a search for a tag needs no turn back to the first slot.
 fn slot_of(tag: u32) -> usize
-    ensures { λ r. ⌜ r < 2928 ⌝ }
+    ensures { λ r. ⌜ (r ≡ ownSlot tag) × (r < 2880) ⌝ }
 {
-    ((tag as u64) * 2654435769 % 4294967296 * 2928 / 4294967296) as usize
+    ((tag as u64) * 2654435769 % 4294967296 * 2880 / 4294967296) as usize
 }
 
-// From the tag's own slot on the first that holds the tag or is free; its own where 48 hold others.
-pub fn seek(slots: &Slots, tag: u32) -> usize
-    ensures { λ r. ⌜ r < slotCount ⌝ }
+// Is the tag in one of the 95 slots from `from` on, before a free one?
+fn has_later(slots: &Slots, from: usize, tag: u32) -> bool
+    requires { ⌜ from ≤ 2880 ⌝ }
+    ensures { λ r. ⌜ r ≡ heldFrom 95 (now (slots .entry)) from tag ⌝ }
 {
-    let own = slot_of(tag);
-    let end = own + 48;
-    let mut slot = own;
+    let end = from + 95;
+    let mut slot = from;
     while slot < end {
         let entry = slots[slot];
-        if entry / 2 == tag {
-            return slot;
+        if entry == 0 {
+            return false;
         }
-        if entry < 2 {
-            return slot;
+        if entry == tag {
+            return true;
         }
         slot += 1;
     }
-    own
+    false
 }
 
-// One of the last 48, for a tag that no label carries. There such tags stand in the way of no label's: a table may be full of them.
-pub fn spare_of(tag: u32) -> usize
-    ensures { λ r. ⌜ r < slotCount ⌝ }
+// Is the tag held? Mostly its own slot tells.
+pub fn has(slots: &Slots, tag: u32) -> bool
+    ensures { λ r. ⌜ r ≡ held (now (slots .entry)) tag ⌝ }
 {
-    2928 + (tag % 48) as usize
+    let slot = slot_of(tag);
+    let entry = slots[slot];
+    if entry == tag {
+        return tag != 0;
+    }
+    if entry == 0 {
+        return false;
+    }
+    has_later(slots, slot + 1, tag)
 }
 
-// The entry for a tag that leaves room for the answer.
-pub fn entry_of(tag: u32, answer: bool) -> u32
-    requires { ⌜ tag < 2147483648 ⌝ }
-    ensures { λ r. ⌜ (r / 2 ≡ tag) × (eqb (r % 2) 1 ≡ answer) ⌝ }
+// Puts the tag in the first free slot of the 96 from its own on. No where none of them is free.
+pub fn add(slots: &mut Slots, tag: u32) -> bool
+    requires { ⌜ (0 < tag) × (length (now slots) ≡ slotCount) ⌝ }
+    ensures { λ r. ⌜ (r ≡ true → Added tag (now (slots .entry)) (now (slots .exit))) ⌝ }
 {
-    2 * tag + answer as u32
+    let mut slot = slot_of(tag);
+    let end = slot + 96;
+    while slot < end {
+        if slots[slot] == 0 {
+            slots[slot] = tag;
+            return true;
+        }
+        slot += 1;
+    }
+    false
 }

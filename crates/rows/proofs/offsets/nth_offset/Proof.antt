@@ -29,7 +29,10 @@ returns-2 : tie.Need-returns-2
 returns-2 c = search needs
 
 nth-of-many-requires : tie.Need-nth-of-many-requires
-nth-of-many-requires c κs = search needs
+nth-of-many-requires c κs =
+    let hidden = c .before in
+    let asked = hidden .before in
+    (asked .before .before .before .pre, sym (asked .unknown-read .ensures) ∙ hidden .if1 .left)
 
 returns-3 : tie.Need-returns-3
 returns-3 c = search needs
