@@ -1,4 +1,4 @@
-// A text of 8 bytes or more, written over those of a buffer in parts of 8 or of 16 bytes: for 10 bytes that takes 13 instructions, where one byte after
+// A text of 8 bytes or more, written over those of a buffer in parts of 8, 16 or 32 bytes: for 10 bytes that takes 13 instructions, where one byte after
 // the other takes 53. The last part ends where the text ends: what it writes again are the bytes that stand there already.
 ghost use Prim.Native.Nat.{_+_, _≤_};
 ghost use mathlib.Core.Path.{_≡_};
@@ -84,7 +84,7 @@ pub fn put16(text: &[u8], i: usize, buffer: &mut [u8], at: usize)
     copy16(&text[i..i + 16], &mut buffer[to..to + 16])
 }
 
-// The 32 bytes of the text from i on.
+// The 32 bytes of the text from i on: the compiler moves 16 at once.
 pub fn put32(text: &[u8], i: usize, buffer: &mut [u8], at: usize)
     requires { ⌜ (i + 32 ≤ length (now text)) × (at + length (now text) ≤ length (now buffer)) ⌝ }
     ensures { λ r. ⌜ now (buffer .exit) ≡ pasted (now (buffer .entry)) (at + i) (take 32 (drop i (now (text .entry)))) ⌝ }

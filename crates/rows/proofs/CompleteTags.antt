@@ -1,13 +1,13 @@
 -- Slots filled with the tags that a map hands out. Assumes nothing.
 use Prim.Native.Nat.{ℕ, zero, suc, _+_, _≤_, _<_}
 use mathlib.Core.Path.{_≡_, refl, sym, ap, _∙_}
-use mathlib.Core.Bool.{Bool, true, false, true≢false, false≢true, cond}
+use mathlib.Core.Bool.{Bool, true, false, false≢true, cond}
 use mathlib.Core.List.{List}
-use mathlib.Core.Logic.{_⊎_, inl, inr, ⊎-elim}
+use mathlib.Core.Logic.{⊎-elim}
 use native.Mathlib.Omega.{arith}
 use borrow.Author.Tests.{lt-ltb, ltb-true}
 use lib.Dec.{ltb}
-use lib.ListN.{length, getD, replicate, length-replicate}
+use lib.ListN.{getD, replicate, length-replicate}
 use Rattle.fields.proofs.Both.{same-truth, below-or}
 use Rattle.header.specs.Layout.{labels, labelRecord}
 use Rattle.records.specs.Fields.{tagOf}
@@ -18,7 +18,7 @@ use Rattle.access.specs.Verdicts.{knownTag}
 use Rattle.maps.specs.Map.{bitOf}
 use Rattle.rows.specs.Table.{rowTag}
 use Rattle.rows.specs.Mapped.{tagMapped, rowMapped}
-use Rattle.rows.specs.Slots.{slotCount, ownSlot, heldFrom, held, rowHeld, Added, Holding, Complete}
+use Rattle.rows.specs.Slots.{slotCount, ownSlot, held, rowHeld, Added, Holding, Complete}
 use Rattle.rows.proofs.HeldTags.{held-means}
 
 abbrev zeros : ℕ → List ℕ

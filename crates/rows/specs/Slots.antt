@@ -16,7 +16,7 @@ use Rattle.rows.specs.Mapped.{tagMapped}
 abbrev pub slotCount : ℕ
 slotCount = 2976
 
--- where a tag is looked for first: a product's middle bits, which spread the tags over 2,880 slots
+-- where a tag is looked for first: the product modulo 2 ^ 32 spreads the tags, and is scaled down to 2,880 slots
 unfoldable pub ownSlot : ℕ → ℕ
 ownSlot tag = tag * 2654435769 % 4294967296 * 2880 / 4294967296
 

@@ -1,4 +1,4 @@
-// Reading a few rows by a map: each row's tag is asked of the image, and nothing is remembered. Slots would cost more than they save.
+// Reading a few rows by a map: each row's tag is asked of the image. To find all tags first would cost more than it saves.
 ghost use mathlib.Core.Path.{_≡_};
 ghost use lib.Dec.{leb};
 ghost use lib.ListN.{length};

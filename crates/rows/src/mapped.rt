@@ -52,7 +52,7 @@ fn mapped_fits(slots: &Slots, run: &[u8], width: usize, room: usize) -> bool
     mapped_length(slots, run, width) <= room
 }
 
-// Writes rows of 8 bytes or more to the front of the buffer, and tells where they end. The 8 bytes that hold a row's tag are read once.
+// Writes them to the front of the buffer, where rows have 8 bytes or more, and tells where they end. The 8 bytes that hold a row's tag are read once.
 fn copy_rest(slots: &Slots, run: &[u8], width: usize, buffer: &mut [u8]) -> usize
     requires { ⌜ IsRun (now run) width × (8 ≤ width) ⌝ }
     requires { ⌜ length (keptBytes (rowHeld (now slots)) (now run) width) ≤ length (now buffer) ⌝ }
@@ -73,7 +73,7 @@ fn copy_rest(slots: &Slots, run: &[u8], width: usize, buffer: &mut [u8]) -> usiz
     to
 }
 
-// The same for rows of any width; those under 8 bytes are copied byte by byte.
+// The same for rows of any width.
 fn copy_tiny(slots: &Slots, run: &[u8], width: usize, buffer: &mut [u8]) -> usize
     requires { ⌜ IsRun (now run) width ⌝ }
     requires { ⌜ length (keptBytes (rowHeld (now slots)) (now run) width) ≤ length (now buffer) ⌝ }
@@ -92,6 +92,7 @@ fn copy_tiny(slots: &Slots, run: &[u8], width: usize, buffer: &mut [u8]) -> usiz
     to
 }
 
+// The same by the width.
 fn copy_mapped(slots: &Slots, run: &[u8], width: usize, buffer: &mut [u8]) -> usize
     requires { ⌜ IsRun (now run) width ⌝ }
     requires { ⌜ length (keptBytes (rowHeld (now slots)) (now run) width) ≤ length (now buffer) ⌝ }

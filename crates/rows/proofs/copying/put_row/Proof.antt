@@ -47,7 +47,7 @@ put-word-requires c κs =
 
 -- ---- the first eight bytes
 abbrev start-of : tie.After-slice-known2 Inv-loop μ-loop → tie.Start Inv-loop μ-loop
-start-of c = c .before .before .before .before .before .before
+start-of c = let put = c .before .before in put .before .before .before .before
 
 abbrev buffer-of : tie.After-slice-known2 Inv-loop μ-loop → List ℕ
 buffer-of c =
@@ -72,7 +72,8 @@ put8-requires c κs =
     let start = start-of word in
     (omega (arith, start .pre .0 .0), begun-room (first-put word) (start .pre .0 .1))
 
-short-put : (c : tie.After-put8 Inv-loop μ-loop) → Stands (start-of (c .before .before .before)) (c .put8 .last .1 .1 .0) (length (start-of (c .before .before .before) .args .text .now) - 8 + 8)
+short-put : (c : tie.After-put8 Inv-loop μ-loop)
+    → (let start = start-of (c .before .before .before) in Stands start (c .put8 .last .1 .1 .0) (length (start .args .text .now) - 8 + 8))
 short-put c =
     let word = c .before .before .before in
     let start = start-of word in
@@ -102,8 +103,8 @@ put16-requires c κs =
 
 -- the ways through the middle part and around it meet
 middle-put : (c : tie.Joined3 Inv-loop μ-loop)
-    → (let start = start-of (c .before .before .before) in
-    let n = length (start .args .text .now) in Nearly (start .args .buffer .now) (start .args .at) (start .args .text .now) (c .if3 .buffer) (n - 16) (n - 16 + 16))
+    → (let a = start-of (c .before .before .before) .args in
+    let last = length (a .text .now) - 16 in Nearly (a .buffer .now) (a .at) (a .text .now) (c .if3 .buffer) last (last + 16))
 middle-put c =
     let word = c .before .before .before in
     let start = start-of word in
@@ -172,7 +173,8 @@ put32-requires-2 c κs =
     (omega (arith, many .if2 .left), begun-room (second-put put) (start-of (many .before .before) .pre .0 .1))
 
 long-put : (c : tie.After-put322 Inv-loop μ-loop)
-    → (let start = start-of (c .before .before .before .before .before .before .before .before .before) in
+    → (let first = c .before .before .before .before in
+    let start = start-of (first .before .before .before .before .before) in
     Stands start (c .put322 .last .1 .1 .0) (length (start .args .text .now) - 32 + 32))
 long-put c =
     let put = c .before .before .before .before in
@@ -190,7 +192,8 @@ same-length-3 c = long-put (c .before .before) .long
 returns-3 : tie.Need-returns-3 Inv-loop μ-loop
 returns-3 c =
     let put = c .before .before in
-    let start = start-of (put .before .before .before .before .before .before .before .before .before) in
+    let first = put .before .before .before .before in
+    let start = start-of (first .before .before .before .before .before) in
     begun-end _ _ _ (start .pre .0 .1) _ _ (long-put put) (omega arith)
 
 -- ---- more: the loop begins with the buffer in which the first eight bytes stand
@@ -235,7 +238,8 @@ put32-requires-4 c κs =
     (omega (arith, many .if2 .left), begun-room (again .loop .inv .1) (room-then (many .before .before)))
 
 last-put : (c : tie.After-put324 Inv-loop μ-loop)
-    → (let word = c .before .before .before .before .before .before .before in
+    → (let again = c .before .before .before in
+    let word = again .before .before .before .before in
     let a = start-of word .args in Begun (buffer-of word) (a .at) (a .text .now) (c .put324 .last .1 .1 .0) (length (a .text .now) - 32 + 32))
 last-put c =
     let left = c .before .before in
@@ -248,12 +252,14 @@ last-put c =
 same-length-4 : tie.Need-same-length-4 Inv-loop μ-loop
 same-length-4 c =
     let put = c .before .before in
-    last-put put .long ∙ first-put (put .before .before .before .before .before .before .before) .long
+    let again = put .before .before .before in
+    last-put put .long ∙ first-put (again .before .before .before .before) .long
 
 returns-4 : tie.Need-returns-4 Inv-loop μ-loop
 returns-4 c =
     let put = c .before .before in
-    let word = put .before .before .before .before .before .before .before in
+    let again = put .before .before .before in
+    let word = again .before .before .before .before in
     let start = start-of word in
     let row = begun-end _ _ _ (room-then word) _ _ (last-put put) (omega arith) in
     begun-whole _ _ _ (start .pre .0 .1) _ _ (start .pre .0 .0) (first-put word) _ row

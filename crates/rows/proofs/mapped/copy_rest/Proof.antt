@@ -1,9 +1,11 @@
 use Prim.Native.Nat.{ℕ, _+_, _-_, _≤_}
-use mathlib.Core.Path.{refl, sym, ap, _∙_}
+use mathlib.Core.Path.{_≡_, refl, sym, ap, _∙_}
+use mathlib.Core.List.{List}
 use native.Mathlib.Nat.{zero-add}
 use native.Mathlib.Omega.{arith}
 use borrow.Author.Needs.{needs}
 use lib.ListN.{length, take, drop}
+use Rattle.buffers.specs.Pasting.{Written}
 use Rattle.buffers.proofs.Left.{Left, left-start, left-room, left-turn, left-end, written-none}
 use Rattle.fields.specs.Bytes.{AreBytes}
 use Rattle.rows.specs.Scan.{rowBytes, keptBytes}
@@ -54,46 +56,57 @@ cast-has c = search needs
 has-requires : tie.Need-has-requires Inv-loop μ-loop
 has-requires c κs = search needs
 
--- the bytes of the row are bytes
-row-bytes : (turn : tie.In-loop Inv-loop μ-loop)
-    → AreBytes (take (turn .before .loop .at + turn .before .before .before .before .args .width - turn .before .loop .at) (drop (turn .before .loop .at) (turn .before .before .before .before .args .run .now)))
+-- ---- the row of a turn
+abbrev start-of : tie.In-loop Inv-loop μ-loop → tie.Start Inv-loop μ-loop
+start-of turn = turn .before .before .before .before
+
+abbrev row-of : tie.In-loop Inv-loop μ-loop → List ℕ
+row-of turn =
+    let a = start-of turn .args in
+    let at = turn .before .loop .at in
+    take (at + a .width - at) (drop at (a .run .now))
+
+-- its bytes are bytes
+row-bytes : (turn : tie.In-loop Inv-loop μ-loop) → AreBytes (row-of turn)
 row-bytes turn =
     let known = turn .before .before .before in
     let a = known .before .args in
     let at = turn .before .loop .at in
     part-bytes (a .run .now) (λ k. omega (arith, known .shared-slice-known .given k)) at (at + a .width - at)
 
--- a row that is handed out has room
-room-of : (passed : tie.Then1 Inv-loop μ-loop)
-    → (let turn = passed .before .before .before .before in turn .before .loop .to + turn .before .before .before .before .args .width ≤ length (turn .before .loop .buffer))
-room-of passed =
-    let asked = passed .before in
+-- what is asked is whether its tag is held
+row-asked : (asked : tie.After-has Inv-loop μ-loop)
+    → (let turn = asked .before .before .before in asked .has .result ≡ rowHeld (start-of turn .args .slots .now) (row-of turn))
+row-asked asked =
     let number = asked .before in
     let turn = number .before .before in
-    let start = turn .before .before .before .before in
-    let a = start .args in
-    let at = turn .before .loop .at in
-    let test = rowHeld (a .slots .now) in
-    let row = take (at + a .width - at) (drop at (a .run .now)) in
+    asked .has .ensures ∙ ap (held (start-of turn .args .slots .now)) (tag-read (row-of turn) (row-bytes turn) _ (number .number8 .ensures))
+
+-- where it is, there is room for the row
+row-room : (passed : tie.Then1 Inv-loop μ-loop)
+    → (let turn = passed .before .before .before .before in turn .before .loop .to + start-of turn .args .width ≤ length (turn .before .loop .buffer))
+row-room passed =
+    let asked = passed .before in
+    let turn = asked .before .before .before in
+    let start = start-of turn in
+    let test = rowHeld (start .args .slots .now) in
     let inv = turn .before .loop .inv in
     let step = part-step test _ _ (start .pre .0 .0) _ (inv .0) (turn .loop-test .taken) in
-    let handed = sym (asked .has .ensures ∙ ap (held (a .slots .now)) (tag-read row (row-bytes turn) _ (number .number8 .ensures))) ∙ passed .if1 .taken in
-    let room = left-room _ _ _ _ _ _ (inv .1) (rowBytes test row) _ step (rw zero-add (start .pre .1)) in
-    let long = adds-width test _ _ (start .pre .0 .0) _ (inv .0) (turn .loop-test .taken) handed in
-    rw long at room
+    let room = left-room _ _ _ _ _ _ (inv .1) (rowBytes test (row-of turn)) _ step (rw zero-add (start .pre .1)) in
+    rw (adds-width test _ _ (start .pre .0 .0) _ (inv .0) (turn .loop-test .taken) (sym (row-asked asked) ∙ passed .if1 .taken)) at room
 
 put-row-requires : tie.Need-put-row-requires Inv-loop μ-loop
 put-row-requires c κs =
     let passed = c .before in
     let number = passed .before .before in
     let turn = number .before .before in
-    let start = turn .before .before .before .before in
+    let start = start-of turn in
     let long = row-long _ _ (start .pre .0 .0) _ (turn .before .loop .inv .0) (turn .loop-test .taken) in
     let low = start .pre .0 .1 in
-    ((rw long low, rw long (room-of passed)), number .number8 .ensures)
+    ((rw long low, rw long (row-room passed)), number .number8 .ensures)
 
 add-to : tie.Need-add-to Inv-loop μ-loop
-add-to c = omega (arith, room-of (c .before .before .before .before))
+add-to c = omega (arith, row-room (c .before .before .before .before))
 
 loop-less : tie.Need-loop-less Inv-loop μ-loop
 loop-less c =
@@ -107,21 +120,19 @@ loop-again c =
     let put = c .before .before in
     let passed = put .before .before in
     let asked = passed .before in
-    let number = asked .before in
-    let turn = number .before .before in
-    let start = turn .before .before .before .before in
-    let a = start .args in
-    let at = turn .before .loop .at in
-    let test = rowHeld (a .slots .now) in
-    let row = take (at + a .width - at) (drop at (a .run .now)) in
-    let bytes = row-bytes turn in
+    let turn = asked .before .before .before in
+    let start = start-of turn in
+    let test = rowHeld (start .args .slots .now) in
+    let row = row-of turn in
     let inv = turn .before .loop .inv in
     let whole = start .pre .0 .0 in
     let step = part-step test _ _ whole _ (inv .0) (turn .loop-test .taken) in
     let long = row-long _ _ whole _ (inv .0) (turn .loop-test .taken) in
-    let all = adds-all test row (sym (asked .has .ensures ∙ ap (held (a .slots .now)) (tag-read row bytes _ (number .number8 .ensures))) ∙ passed .if1 .taken) in (
+    let all = adds-all test row (sym (row-asked asked) ∙ passed .if1 .taken) in
+    let written : Written (turn .before .loop .buffer) (turn .before .loop .to) row _ _ =
+    record { bytes = put .put-row .ensures; stop = ap (λ (n : ℕ). turn .before .loop .to + n) (sym long) } in (
       rest-next _ _ whole _ (inv .0) (turn .loop-test .taken),
-      left-turn _ _ _ _ _ _ (inv .1) (rowBytes test row) _ step _ _ (rw zero-add (start .pre .1)) (rw all (record { bytes = put .put-row .ensures; stop = ap (λ (n : ℕ). turn .before .loop .to + n) (sym long) })),
+      left-turn _ _ _ _ _ _ (inv .1) (rowBytes test row) _ step _ _ (rw zero-add (start .pre .1)) (rw all written),
     )
 
 loop-less-2 : tie.Need-loop-less-2 Inv-loop μ-loop
@@ -133,18 +144,14 @@ loop-less-2 c =
 loop-again-2 : tie.Need-loop-again-2 Inv-loop μ-loop
 loop-again-2 c =
     let asked = c .before in
-    let number = asked .before in
-    let turn = number .before .before in
-    let start = turn .before .before .before .before in
-    let a = start .args in
-    let at = turn .before .loop .at in
-    let test = rowHeld (a .slots .now) in
-    let row = take (at + a .width - at) (drop at (a .run .now)) in
-    let bytes = row-bytes turn in
+    let turn = asked .before .before .before in
+    let start = start-of turn in
+    let test = rowHeld (start .args .slots .now) in
+    let row = row-of turn in
     let inv = turn .before .loop .inv in
     let whole = start .pre .0 .0 in
     let step = part-step test _ _ whole _ (inv .0) (turn .loop-test .taken) in
-    let none = adds-none test row (sym (asked .has .ensures ∙ ap (held (a .slots .now)) (tag-read row bytes _ (number .number8 .ensures))) ∙ c .if1 .left) in (
+    let none = adds-none test row (sym (row-asked asked) ∙ c .if1 .left) in (
       rest-next _ _ whole _ (inv .0) (turn .loop-test .taken),
       left-turn _ _ _ _ _ _ (inv .1) (rowBytes test row) _ step _ _ (rw zero-add (start .pre .1)) (written-none _ _ _ none),
     )

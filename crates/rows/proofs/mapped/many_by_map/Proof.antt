@@ -48,7 +48,9 @@ returns-2 c =
 copy-mapped-requires : tie.Need-copy-mapped-requires
 copy-mapped-requires c κs =
     let fit = c .before .before in
-    let start = fit .before .before .before .before .before .before .before .before .before .before in
+    let filled = fit .before .before .before in
+    let fresh = filled .before .before in
+    let start = fresh .before .before .before .before .before in
     (start .pre .whole, leb-true _ _ (sym (fit .before .mapped-fits .ensures) ∙ not-false _ (fit .if2 .left)))
 
 div-t14 : tie.Need-div-t14
@@ -63,7 +65,8 @@ returns-3 c =
     let fit = copied .before .before .before in
     let counted = fit .before in
     let filled = counted .before .before in
-    let start = filled .before .before .before .before .before .before .before in
+    let fresh = filled .before .before in
+    let start = fresh .before .before .before .before .before in
     let a = start .args in
     let whole = start .pre .whole in
     let low = whole .wide in

@@ -49,7 +49,8 @@ nth-mapped-requires c κs = search needs
 returns-2 : tie.Need-returns-2
 returns-2 c =
     let filled = c .before .before in
-    let put = filled .before .before .before .before .before .before in
+    let fresh = filled .before .before in
+    let put = fresh .before .before .before .before in
     let start = put .before .before .before .before in
     let a = start .args in
     let complete = filled .before .fill .ensures (not-false _ (filled .if1 .left)) in

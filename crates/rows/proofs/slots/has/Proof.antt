@@ -42,14 +42,15 @@ has-later-requires c κs = search needs
 returns-3 : tie.Need-returns-3
 returns-3 c =
     let free = c .before in
-    let found = free .before .before .before in
+    let other = free .before in
+    let found = other .before .before in
     let a = found .before .args in
     let slots = a .slots .now in
     let is = found .slot-of .ensures .0 in
+    let entry = own-entry slots _ _ is in
     let next : found .slot-of .result + 1 ≡ suc (ownSlot (a .tag)) = add-one _ ∙ ap suc is in
     c .has-later .ensures ∙ ap (λ (s : ℕ). heldFrom 95 slots s (a .tag)) next
-    ∙ sym
-    (held-next slots (ownSlot (a .tag)) (a .tag) 95 (λ e. free .if2 .left (sym (own-entry (a .slots .now) _ _ is) ∙ e)) (λ e. free .before .if1 .left (sym (own-entry (a .slots .now) _ _ is) ∙ e)))
+    ∙ sym (held-next slots (ownSlot (a .tag)) (a .tag) 95 (λ e. free .if2 .left (sym entry ∙ e)) (λ e. other .if1 .left (sym entry ∙ e)))
 
 pub has-spec : {M : Type 1} → statement M
 has-spec =

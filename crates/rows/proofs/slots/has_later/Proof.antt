@@ -1,5 +1,5 @@
 use Prim.Native.Nat.{_-_, _≤_}
-use mathlib.Core.Path.{_≡_, refl, sym, _∙_}
+use mathlib.Core.Path.{_≡_, sym, _∙_}
 use native.Mathlib.Nat.{add-sub-cancel-left}
 use native.Mathlib.Omega.{arith}
 use borrow.Author.Needs.{needs}
@@ -30,7 +30,10 @@ returns : tie.Need-returns Inv-loop μ-loop
 returns c = sym (held-free _ _ _ _ (c .if1 .taken)) ∙ c .before .before .before .loop .inv .1
 
 returns-2 : tie.Need-returns-2 Inv-loop μ-loop
-returns-2 c = sym (search-found _ _ _ _ (c .before .before .before .loop-test .taken) (c .before .if1 .left) (c .if2 .taken)) ∙ c .before .before .before .before .loop .inv .1
+returns-2 c =
+    let some = c .before in
+    let turn = some .before .before in
+    sym (search-found _ _ _ _ (turn .loop-test .taken) (some .if1 .left) (c .if2 .taken)) ∙ turn .before .loop .inv .1
 
 add-slot : tie.Need-add-slot Inv-loop μ-loop
 add-slot c = omega arith
@@ -39,7 +42,10 @@ loop-less : tie.Need-loop-less Inv-loop μ-loop
 loop-less c = omega arith
 
 loop-again : tie.Need-loop-again Inv-loop μ-loop
-loop-again c = (omega arith, sym (search-on _ _ _ _ (c .before .before .before .loop-test .taken) (c .before .if1 .left) (c .if2 .left)) ∙ c .before .before .before .before .loop .inv .1)
+loop-again c =
+    let some = c .before in
+    let turn = some .before .before in
+    (omega arith, sym (search-on _ _ _ _ (turn .loop-test .taken) (some .if1 .left) (c .if2 .left)) ∙ turn .before .loop .inv .1)
 
 returns-3 : tie.Need-returns-3 Inv-loop μ-loop
 returns-3 c = sym (search-end _ _ _ _ (c .loop-test .left)) ∙ c .before .loop .inv .1
