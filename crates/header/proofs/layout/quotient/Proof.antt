@@ -1,8 +1,18 @@
+use Prim.Native.Nat.{ℕ, _/_}
+use mathlib.Core.Path.{sym, ap}
 use native.Mathlib.Nat.{div-le-self}
 use native.Mathlib.Omega.{arith}
 use borrow.Author.Needs.{needs}
 use Rattle.header.proofs.layout.quotient.Statement.{statement}
 use Rattle.header.proofs.layout.quotient.Tie as tie
+
+returns : tie.Need-returns
+returns c = ap (λ (n : ℕ). c .before .args .i / n) (sym (c .if1 .taken))
+
+returns-2 : tie.Need-returns-2
+returns-2 c =
+    let start = c .before .before in
+    ap (λ (n : ℕ). start .args .i / n) (sym (c .if2 .taken))
 
 cast-short : tie.Need-cast-short
 cast-short c = search needs
@@ -14,18 +24,20 @@ div-result : tie.Need-div-result
 div-result c = search needs
 
 cast-result : tie.Need-cast-result
-cast-result c = omega (arith, div-le-self (c .before .args .i) (c .before .args .capacity))
+cast-result c =
+    let start = c .before .before .before in
+    omega (arith, div-le-self (start .args .i) (start .args .capacity))
 
-returns : tie.Need-returns
-returns c = search needs
+returns-3 : tie.Need-returns-3
+returns-3 c = search needs
 
 div-result-2 : tie.Need-div-result-2
 div-result-2 c = search needs
 
-returns-2 : tie.Need-returns-2
-returns-2 c = search needs
+returns-4 : tie.Need-returns-4
+returns-4 c = search needs
 
 pub quotient-spec : {M : Type 1} → statement M
 quotient-spec =
     tie.close
-    (tie.spec cast-short cast-divisor div-result cast-result returns div-result-2 returns-2)
+    (tie.spec returns returns-2 cast-short cast-divisor div-result cast-result returns-3 div-result-2 returns-4)
