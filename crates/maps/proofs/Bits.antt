@@ -20,6 +20,7 @@ use Rattle.header.specs.Limits.{Counted}
 use Rattle.header.proofs.Editions.{counted-labels}
 use Rattle.access.specs.Rights.{Rights}
 use Rattle.maps.specs.Map.{bitOf, readsRecord, mapLength, mapByte, mapOf, mapRule}
+use Rattle.maps.specs.Words.{mapWord}
 
 module _ (im : List ℕ) where
   -- as few bytes as hold a bit for each label record
@@ -49,24 +50,24 @@ module _ (im : List ℕ) (rights : Rights) where
   unfolding readsRecord
   past-last p h = rw (le-ltb p (labels im) h)
 
-  -- so a byte has all its bits once the records are at their end
-  pub byte-upto : (k n : ℕ) → n ≤ 8 → (n < 8 → labels im ≤ 8 * k + n)
-      → collect (λ i. readsRecord im rights (8 * k + i)) n ≡ mapByte im rights k
-  unfolding mapByte
-  byte-upto k n small end = sym (spare (8 - n) (omega arith)) ∙ ap (collect f) all
+  -- so a word has all its bits once the records are at their end
+  pub word-upto : (k n : ℕ) → n ≤ 64 → (n < 64 → labels im ≤ 64 * k + n)
+      → collect (λ i. readsRecord im rights (64 * k + i)) n ≡ mapWord im rights k
+  unfolding mapWord
+  word-upto k n small end = sym (spare (64 - n) (omega arith)) ∙ ap (collect f) all
     where
       f : ℕ → Bool
-      f i = readsRecord im rights (8 * k + i)
+      f i = readsRecord im rights (64 * k + i)
 
-      all : n + (8 - n) ≡ 8
+      all : n + (64 - n) ≡ 64
       all = omega arith
 
-      spare : (d : ℕ) → n + d ≤ 8 → collect f (n + d) ≡ collect f n
+      spare : (d : ℕ) → n + d ≤ 64 → collect f (n + d) ≡ collect f n
       spare zero h = ap (collect f) (add-zero n)
       spare (suc d) h =
-          let last : labels im ≤ 8 * k + (n + d) = omega (arith, end (omega arith)) in
+          let last : labels im ≤ 64 * k + (n + d) = omega (arith, end (omega arith)) in
           let next : n + suc d ≡ n + d + 1 = omega arith in
-          ap (collect f) next ∙ collect-pass f (n + d) (past-last (8 * k + (n + d)) last) ∙ spare d (omega arith)
+          ap (collect f) next ∙ collect-pass f (n + d) (past-last (64 * k + (n + d)) last) ∙ spare d (omega arith)
 
   -- every byte of it is a byte
   pub map-small : (k : ℕ) → byteAt (mapOf im rights) k < 256

@@ -1,5 +1,5 @@
 // Maps for the crates above, once the image is known to be accepted.
-ghost use Prim.Native.Nat.{_*_, _+_, _<_, _≤_};
+ghost use Prim.Native.Nat.{_*_, _<_, _≤_};
 ghost use mathlib.Core.Path.{_≡_};
 ghost use lib.ListN.{length};
 ghost use Rattle.buffers.specs.Filling.{writtenTo};
@@ -7,16 +7,14 @@ ghost use Rattle.buffers.specs.Pasting.{Written};
 ghost use Rattle.header.specs.Limits.{Counted};
 ghost use Rattle.access.specs.Rights.{rightsOf};
 ghost use Rattle.maps.specs.Map.{bitOf, mapLength, mapOf, mapRule};
-use crate::byte::map_byte;
+use crate::judging::judge_asked;
+use crate::making::put_asked;
+use crate::whole::is_whole;
 use crate::whole::put_whole;
 use access::rights::View;
 use access::verdicts::reads_all;
 use buffers::answers::Filled;
-use fields::names::same_name;
-use header::edition::edition_of;
 use header::layout;
-use header::layout::Kind;
-use header::walk;
 use refusals::Refusal;
 use sets::word;
 
@@ -34,25 +32,6 @@ pub fn bit_of(bits: &[u8], p: usize) -> bool
     ensures { λ r. ⌜ r ≡ bitOf (now (bits .entry)) p ⌝ }
 {
     word::has(bits[p / 8] as u64, p % 8)
-}
-
-// Writes the map to the front of the buffer, and tells its length, which is `count`. Every label is asked.
-fn put_asked(image: &[u8], view: View, count: usize, buffer: &mut [u8]) -> usize
-    requires { ⌜ Counted (now image) × (mapLength (now image) ≤ length (now buffer)) ⌝ }
-    requires { ⌜ count ≡ mapLength (now image) ⌝ }
-    ensures { λ r. ⌜ Written (now (buffer .entry)) 0 (mapOf (now (image .entry)) (rightsOf view)) (now (buffer .exit)) r ⌝ }
-{
-    let shape = layout::shape_of(image, Kind::Label);
-    let edition = edition_of(image);
-    let mut here = walk::record_at(shape, 0);
-    let mut k = 0;
-    while k < count {
-        let byte = map_byte(image, view, shape, edition, k, here);
-        buffer[k] = byte.bits;
-        here = byte.next;
-        k += 1;
-    }
-    k
 }
 
 // Writes the map to the front of the buffer, and tells its length. Where the answer is yes to every label, none is asked. The length is worked out
@@ -80,7 +59,7 @@ pub(crate) fn write_map(image: &[u8], view: View, buffer: &mut [u8]) -> Filled
     Filled::Done(length)
 }
 
-// Are those bytes the map? It is made and compared: no map is longer than 210 bytes.
+// Are those bytes the map? They are compared where they stand, with no map made.
 pub fn is_map(image: &[u8], view: View, bits: &[u8]) -> bool
     requires { ⌜ Counted (now image) ⌝ }
     ensures { λ r. ⌜ r ≡ mapRule (now (image .entry)) (rightsOf view) (now (bits .entry)) ⌝ }
@@ -89,7 +68,9 @@ pub fn is_map(image: &[u8], view: View, bits: &[u8]) -> bool
     if bits.len() != count {
         return false;
     }
-    let mut made = [0u8; 210];
-    let end = put_map(image, view, &mut made);
-    same_name(bits, &made[0..end])
+    let whole = reads_all(view);
+    if whole {
+        return is_whole(layout::labels(image), bits);
+    }
+    judge_asked(image, view, count, bits)
 }

@@ -1,8 +1,10 @@
 // Maps of sessions: one bit for each label record, made for a session, and judged if made elsewhere. Every call checks the image and the
 // session.
-mod byte;
 pub mod given;
+mod judging;
+mod making;
 mod whole;
+mod words;
 
 ghost use mathlib.Core.Path.{_≡_};
 ghost use Rattle.sessions.specs.Session.{sessionOf};

@@ -4,7 +4,8 @@ ghost use Prim.Native.Nat.{_+_, _/_, _≤_};
 ghost use mathlib.Core.Path.{_≡_};
 ghost use lib.ListN.{length};
 ghost use Rattle.buffers.specs.Pasting.{Written};
-ghost use Rattle.maps.specs.Whole.{wholeMap};
+ghost use Rattle.fields.specs.Names.{sameBytes};
+ghost use Rattle.maps.specs.Whole.{allSet, wholeMap};
 use sets::word;
 
 // Writes the map of so many labels to the front of the buffer, and tells `count`, which is its length. Eight labels fill a byte: each full byte is
@@ -26,4 +27,34 @@ pub(crate) fn put_whole(labels: usize, count: usize, buffer: &mut [u8]) -> usize
     let last = word::all_below(left) as u8;
     buffer[k] = last;
     count
+}
+
+// Is every byte 255? There is one way out, at the end: so the loop becomes vector code.
+fn all_set(bits: &[u8]) -> bool
+    ensures { λ r. ⌜ r ≡ allSet (now (bits .entry)) ⌝ }
+{
+    let mut seen: u8 = 255;
+    let mut i = 0;
+    while i < bits.len() {
+        seen = seen & bits[i];
+        i += 1;
+    }
+    seen == 255
+}
+
+// Are those bytes, as many as the map of so many labels has, that map?
+pub(crate) fn is_whole(labels: usize, bits: &[u8]) -> bool
+    requires { ⌜ length (now bits) ≡ (labels + 7) / 8 ⌝ }
+    ensures { λ r. ⌜ r ≡ sameBytes (now (bits .entry)) (wholeMap labels) ⌝ }
+{
+    let full = labels / 8;
+    let rest = labels % 8;
+    if !all_set(&bits[0..full]) {
+        return false;
+    }
+    if rest == 0 {
+        return true;
+    }
+    let last = word::all_below(rest) as u8;
+    bits[full] == last
 }

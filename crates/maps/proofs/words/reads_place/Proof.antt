@@ -1,4 +1,3 @@
-use mathlib.Core.Path.{_≡_}
 use native.Mathlib.Omega.{arith}
 use borrow.Author.Tests.{lt-ltb}
 use borrow.Author.Needs.{needs}
@@ -6,8 +5,8 @@ use Rattle.header.specs.Layout.{editionOf}
 use Rattle.records.proofs.Rooms.{label-room}
 use Rattle.labels.specs.Label.{labelAt}
 use Rattle.maps.specs.Map.{readsRecord}
-use Rattle.maps.proofs.byte.reads_place.Statement.{statement}
-use Rattle.maps.proofs.byte.reads_place.Tie as tie
+use Rattle.maps.proofs.words.reads_place.Statement.{statement}
+use Rattle.maps.proofs.words.reads_place.Tie as tie
 
 placed-part-requires : tie.Need-placed-part-requires
 placed-part-requires c κs = search needs

@@ -6,22 +6,21 @@ use mathlib.Core.List.{List}
 use native.Mathlib.Nat.{add-zero}
 use native.Mathlib.Omega.{arith}
 use borrow.Author.Needs.{needs}
-use lib.Pow.{pow-mono}
 use Rattle.sets.specs.Sets.{one, union, collect}
-use Rattle.sets.proofs.Has.{collect-below, collect-put, collect-pass}
+use Rattle.sets.proofs.Has.{collect-put, collect-pass}
 use Rattle.header.specs.declared.layout.Kind.the-variants.{Label}
 use Rattle.header.specs.declared.layout.Shape.{Shape}
 use Rattle.header.specs.Layout.{labels, Shaped, Standing}
 use Rattle.header.proofs.Inside.{record-upto}
 use Rattle.access.specs.Rights.{Rights, rightsOf}
 use Rattle.maps.specs.Map.{readsRecord}
-use Rattle.maps.proofs.Bits.{byte-upto}
-use Rattle.maps.proofs.byte.map_byte.Statement.{statement}
-use Rattle.maps.proofs.byte.map_byte.Tie as tie
+use Rattle.maps.proofs.Bits.{word-upto}
+use Rattle.maps.proofs.words.map_word.Statement.{statement}
+use Rattle.maps.proofs.words.map_word.Tie as tie
 
--- what bit i of byte k tells
+-- what bit i of word k tells
 abbrev told : List ℕ → Rights → ℕ → ℕ → Bool
-told im rights k i = readsRecord im rights (8 * k + i)
+told im rights k i = readsRecord im rights (64 * k + i)
 
 -- the shape counts the labels
 count-is : {im : List ℕ} {shape : Shape} → Shaped im Label shape → shape .count ≡ labels im
@@ -64,7 +63,7 @@ reads-place-requires c κs =
     let long = c .before .before in
     let start = long .before .before .before in
     let a = start .args in
-    let inside : 8 * a .k + c .before .loop .i < labels (a .image .now) =
+    let inside : 64 * a .k + c .before .loop .i < labels (a .image .now) =
     omega (arith, count-is (start .pre .0 .1 .0), start .pre .1 .0, long .lower .ensures, c .loop-test .taken) in
     (start .pre .0, (inside, c .before .loop .inv .1 .0 .begins))
 
@@ -80,12 +79,12 @@ next-record-requires c κs =
     let start = long .before .before .before in
     let a = start .args in
     let shaped = start .pre .0 .1 .0 in
-    let inside : 8 * a .k + turn .before .loop .i ≤ labels (a .image .now) =
+    let inside : 64 * a .k + turn .before .loop .i ≤ labels (a .image .now) =
     omega (arith, count-is shaped, start .pre .1 .0, long .lower .ensures, turn .loop-test .taken) in (
       shaped .roomy,
       (
         turn .before .loop .inv .1 .0,
-        rw (shaped .is) (omega (arith, record-upto _ (start .pre .0 .0 .fitted) Label (8 * a .k + turn .before .loop .i) inside)),
+        rw (shaped .is) (omega (arith, record-upto _ (start .pre .0 .0 .fitted) Label (64 * a .k + turn .before .loop .i) inside)),
       ),
     )
 
@@ -102,7 +101,7 @@ loop-again c =
     let a = turn .before .before .before .before .before .args in
     let f = told (a .image .now) (rightsOf (a .view)) (a .k) in
     let asked = sym (c .before .before .reads-place .ensures) in
-    let next : 8 * a .k + l .i + 1 ≡ 8 * a .k + (l .i + 1) = omega arith in (
+    let next : 64 * a .k + l .i + 1 ≡ 64 * a .k + (l .i + 1) = omega arith in (
       omega (arith, turn .loop-test .taken),
       (
         subst (λ (n : ℕ). Standing (a .shape) n (c .next-record .result)) next (c .next-record .ensures),
@@ -113,15 +112,6 @@ loop-again c =
       ),
     )
 
-cast-bits : tie.Need-cast-bits Inv-loop μ-loop
-cast-bits c =
-    let l = c .before .loop in
-    let long = c .before .before in
-    let a = long .before .before .before .args in
-    let small : l .i ≤ 8 = omega (arith, l .inv .0, long .lower .ensures) in
-    let below = collect-below (told (a .image .now) (rightsOf (a .view)) (a .k)) (l .i) in
-    record { fits = rw (l .inv .1 .1) (omega (arith, below, pow-mono small)) }
-
 returns : tie.Need-returns Inv-loop μ-loop
 returns c =
     let l = c .before .loop in
@@ -129,16 +119,16 @@ returns c =
     let start = long .before .before .before in
     let a = start .args in
     let n = labels (a .image .now) in
-    let end : l .i ≡ min 8 (n - 8 * a .k) = omega (arith, count-is (start .pre .0 .1 .0), l .inv .0, long .lower .ensures, c .loop-test .left) in
-    let small : l .i ≤ 8 = omega arith in
-    let all : l .i < 8 → n ≤ 8 * a .k + l .i = λ h. omega arith in
-    let next : 8 * a .k + l .i ≡ min (8 * a .k + 8) n = omega (arith, start .pre .1 .0) in (
-      l .inv .1 .1 ∙ byte-upto (a .image .now) (rightsOf (a .view)) (a .k) (l .i) small all,
+    let end : l .i ≡ min 64 (n - 64 * a .k) = omega (arith, count-is (start .pre .0 .1 .0), l .inv .0, long .lower .ensures, c .loop-test .left) in
+    let small : l .i ≤ 64 = omega arith in
+    let all : l .i < 64 → n ≤ 64 * a .k + l .i = λ h. omega arith in
+    let next : 64 * a .k + l .i ≡ min (64 * a .k + 64) n = omega (arith, start .pre .1 .0) in (
+      l .inv .1 .1 ∙ word-upto (a .image .now) (rightsOf (a .view)) (a .k) (l .i) small all,
       subst (λ (m : ℕ). Standing (a .shape) m (l .here)) next (l .inv .1 .0),
     )
 
-pub map-byte-spec : {M : Type 1} → statement M
-map-byte-spec =
+pub map-word-spec : {M : Type 1} → statement M
+map-word-spec =
     tie.close
     (tie.spec
     Inv-loop
@@ -154,5 +144,4 @@ map-byte-spec =
     add-i
     loop-less
     loop-again
-    cast-bits
     returns)

@@ -1,11 +1,12 @@
-// A byte of a map: the bits of eight label records, or of those that are left.
-ghost use Prim.Native.Nat.{_*_, _+_, _<_, _≤_, min};
+// A word of a map: the bits of 64 label records, or of those that are left. Maps are made, and judged, a word at a time.
+ghost use Prim.Native.Nat.{_*_, _+_, _<_, min};
 ghost use mathlib.Core.Path.{_≡_};
 ghost use Rattle.header.specs.declared.layout.Kind.the-variants.{Label};
 ghost use Rattle.header.specs.Layout.{editionOf, labels, Shaped, recordOffset, Standing};
 ghost use Rattle.header.specs.Limits.{Counted};
 ghost use Rattle.access.specs.Rights.{rightsOf};
-ghost use Rattle.maps.specs.Map.{readsRecord, mapByte};
+ghost use Rattle.maps.specs.Map.{readsRecord};
+ghost use Rattle.maps.specs.Words.{mapWord};
 use access::record::reads_record;
 use access::rights::View;
 use header::contents::lower;
@@ -17,9 +18,9 @@ use header::walk;
 use header::walk::RecordAt;
 use sets::word;
 
-// A byte, and where the walk over the label records stands after it.
-pub struct Byte {
-    pub bits: u8,
+// A word, and where the walk over the label records stands after it.
+pub struct Word {
+    pub bits: u64,
     pub next: RecordAt,
 }
 
@@ -44,21 +45,21 @@ fn reads_place(
     )
 }
 
-// Byte k: bit i tells of the record at place 8 k + i. The walk goes on from where the byte before left it, so that nothing is divided here.
-pub fn map_byte(
+// Word k: bit i tells of the record at place 64 k + i. The walk goes on from where the word before left it, so that nothing is divided here.
+pub(crate) fn map_word(
     image: &[u8],
     view: View,
     shape: Shape,
     edition: Edition,
     k: usize,
     start: RecordAt,
-) -> Byte
+) -> Word
     requires { ⌜ Counted (now image) × (Shaped (now image) Label shape × (edition ≡ editionOf (now image))) ⌝ }
-    requires { ⌜ (8 * k < labels (now image)) × Standing shape (8 * k) start ⌝ }
-    ensures { λ r. ⌜ (r .bits ≡ mapByte (now (image .entry)) (rightsOf view) k) × Standing shape (min (8 * k + 8) (labels (now (image .entry)))) (r .next) ⌝ }
+    requires { ⌜ (64 * k < labels (now image)) × Standing shape (64 * k) start ⌝ }
+    ensures { λ r. ⌜ (r .bits ≡ mapWord (now (image .entry)) (rightsOf view) k) × Standing shape (min (64 * k + 64) (labels (now (image .entry)))) (r .next) ⌝ }
 {
-    let first = 8 * k;
-    let count = lower(8, shape.count - first);
+    let first = 64 * k;
+    let count = lower(64, shape.count - first);
     let mut here = start;
     let mut set = 0u64;
     let mut i = 0;
@@ -70,6 +71,8 @@ pub fn map_byte(
         here = walk::next_record(shape, here, p);
         i += 1;
     }
-    let bits = set as u8;
-    Byte { bits, next: here }
+    Word {
+        bits: set,
+        next: here,
+    }
 }
