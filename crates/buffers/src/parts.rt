@@ -93,6 +93,20 @@ pub fn put32(text: &[u8], i: usize, buffer: &mut [u8], at: usize)
     put16(text, i + 16, buffer, at)
 }
 
+// A long text, in parts of 32 bytes.
+pub(crate) fn put_long(text: &[u8], buffer: &mut [u8], at: usize)
+    requires { ⌜ (32 ≤ length (now text)) × (at + length (now text) ≤ length (now buffer)) ⌝ }
+    ensures { λ r. ⌜ now (buffer .exit) ≡ pasted (now (buffer .entry)) at (now (text .entry)) ⌝ }
+{
+    let last = text.len() - 32;
+    let mut i = 0;
+    while i < last {
+        put32(text, i, buffer, at);
+        i += 32;
+    }
+    put32(text, last, buffer, at);
+}
+
 // The whole text: under 16 bytes two parts of 8, from 16 on parts of 16.
 pub(crate) fn put_parts(text: &[u8], buffer: &mut [u8], at: usize)
     requires { ⌜ (8 ≤ length (now text)) × (at + length (now text) ≤ length (now buffer)) ⌝ }
