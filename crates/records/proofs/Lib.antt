@@ -7,7 +7,9 @@ pub mod MeaningHeader
 pub mod MeaningLabels
 pub mod MeaningUsers
 pub mod Marks
+pub mod NameWords
 pub mod Parts
+pub mod ComponentRuns
 pub mod Rising
 pub mod Rooms
 pub mod Running

@@ -1,4 +1,4 @@
--- The filter of names: what marking a key does, that equal names have one key, and what a name that is not marked tells. Assumes nothing.
+-- The filter of names: what marking a key does, and what a name that is not marked tells. Assumes nothing.
 use Prim.Native.Nat.{ℕ, _+_, _-_, _/_, _≤_, _<_}
 use mathlib.Core.Path.{_≡_, refl, sym, ap, _∙_}
 use mathlib.Core.Bool.{Bool, true, false, true≢false}
@@ -8,22 +8,20 @@ use native.Mathlib.Nat.{zero-add, eq-or-lt-of-le}
 use native.Mathlib.Omega.{arith}
 use borrow.Author.Tests.{eqb-true, eqb-false}
 use lib.Dec.{eqb}
-use lib.ListN.{length, getD, set, List·getD-eq-default}
+use lib.ListN.{length, getD, set}
 use lib.Seq.{getD-set-same, getD-set-other}
-use Rattle.fields.specs.Bytes.{byteAt, part, number2, number4, number8}
-use Rattle.fields.specs.Names.{nameIn, nameRule}
-use Rattle.fields.proofs.Both.{below-or}
-use Rattle.fields.proofs.Laws.{part-byte, part-short}
-use Rattle.fields.proofs.Meaning.{NameKept, name-means, name-holds}
+use Rattle.fields.specs.Names.{nameRule}
+use Rattle.fields.proofs.Meaning.{name-holds}
 use Rattle.sets.specs.Sets.{union, within}
 use Rattle.sets.proofs.Within.{within-trans, within-union-left, within-union-right}
 use Rattle.header.specs.declared.edition.Edition.{Edition}
 use Rattle.header.specs.declared.counts.Counts.{Counts}
 use Rattle.header.specs.Layout.{classFirst, classAt}
-use Rattle.records.specs.Fields.{componentNameField, componentName}
+use Rattle.records.specs.Fields.{componentNameField}
 use Rattle.records.specs.Rules.{recordIn, runRecords, classStart, componentShape, newNameRule}
 use Rattle.records.specs.Fresh.{nameKey, wordOfKey, bitsOfKey, marked, MarkedToo, NamesKept, Marked, HoldsFrom}
 use Rattle.records.proofs.MeaningComponents.{class-between, component-shape-means, new-name-holds}
+use Rattle.records.proofs.NameWords.{same-key}
 use Rattle.records.proofs.Parts.{run-record}
 
 -- ---- the bits of a key are set in its word
@@ -49,49 +47,6 @@ module _ (filter : List ℕ) (key : ℕ) (room : wordOfKey key < length filter) 
 
   pub mark-too : MarkedToo key filter withMark
   mark-too = record { here = mark-here; still = mark-still }
-
--- ---- equal names have one key
--- the 30 bytes after the length are the name and then zeros
-padded : (field : List ℕ) → NameKept field → (i : ℕ) → i < 30 → byteAt field (1 + i) ≡ byteAt (nameIn field) i
-unfolding nameIn
-padded field k i h =
-    ⊎-elim (λ l. sym (part-byte field 1 (byteAt field 0) i l))
-    (λ l. k .rest (1 + i) (omega arith) (omega arith)
-    ∙ sym (List·getD-eq-default (part field 1 (byteAt field 0)) 0 (omega (arith, part-short field 1 (byteAt field 0)))))
-    (below-or i (byteAt field 0))
-
-module _ (a b : List ℕ) where
-  same-word : (k : ℕ) → ((i : ℕ) → k ≤ i → i < k + 8 → byteAt a i ≡ byteAt b i) → number8 a k ≡ number8 b k
-  unfolding number8 number4 number2
-  same-word k f =
-      rw (
-        f k (omega arith) (omega arith),
-        f (k + 1) (omega arith) (omega arith),
-        f (k + 2) (omega arith) (omega arith),
-        f (k + 2 + 1) (omega arith) (omega arith),
-        f (k + 4) (omega arith) (omega arith),
-        f (k + 4 + 1) (omega arith) (omega arith),
-        f (k + 4 + 2) (omega arith) (omega arith),
-        f (k + 4 + 2 + 1) (omega arith) (omega arith),
-      )
-
-  same-bytes : nameRule (componentNameField a) ≡ true → nameRule (componentNameField b) ≡ true → componentName a ≡ componentName b
-      → (i : ℕ) → 2 ≤ i → i < 32 → byteAt a i ≡ byteAt b i
-  same-bytes p q e i low high =
-      let j : ℕ = i - 2 in
-      let at : 1 + (1 + j) ≡ i = omega arith in
-      let of : (rec : List ℕ) → nameRule (componentNameField rec) ≡ true → byteAt rec i ≡ byteAt (componentName rec) j =
-      λ rec r. ap (byteAt rec) (sym at) ∙ sym (part-byte rec 1 31 (1 + j) (omega arith))
-      ∙ padded (componentNameField rec) (name-means _ r) j (omega arith) in
-      of a p ∙ ap (λ (name : List ℕ). byteAt name j) e ∙ sym (of b q)
-
-  pub same-key : nameRule (componentNameField a) ≡ true → nameRule (componentNameField b) ≡ true → componentName a ≡ componentName b
-      → nameKey a ≡ nameKey b
-  unfolding nameKey
-  same-key p q e =
-      let word : (k : ℕ) → 2 ≤ k → k + 8 ≤ 32 → number8 a k ≡ number8 b k =
-      λ k low high. same-word k (λ i l h. same-bytes p q e i (omega arith) (omega arith)) in
-      rw (word 2 (omega arith) (omega arith), word 10 (omega arith) (omega arith), word 18 (omega arith) (omega arith), word 24 (omega arith) (omega arith))
 
 -- a component that keeps its rule has a name that keeps the rule of its field
 pub shape-named : (edition : Edition) (class count : ℕ) (rec : List ℕ) → componentShape edition class count rec ≡ true

@@ -1,6 +1,7 @@
 -- A component's name is new: by a search of its class up to it, and in a run of records. Assumes nothing.
 use Prim.Native.Nat.{ℕ, suc, _+_, _-_, _*_, _/_, _≤_, _<_}
 use mathlib.Core.Path.{_≡_, sym, ap, _∙_}
+use mathlib.Core.Bool.{Bool}
 use mathlib.Core.List.{List}
 use native.Mathlib.Nat.{zero-add, add-zero, add-sub-of-le, mul-comm, mul-suc, mul-div-right, le-div-iff-mul-le}
 use native.Mathlib.Omega.{arith}
@@ -10,10 +11,10 @@ use Rattle.fields.specs.Scan.{firstBad}
 use Rattle.fields.proofs.Scan.{bad-shift, bad-same-on, list-length, list-at}
 use Rattle.header.specs.declared.layout.Kind.the-variants.{Component}
 use Rattle.header.specs.declared.counts.Counts.{Counts}
-use Rattle.header.specs.Layout.{countOf, recordsOf}
+use Rattle.header.specs.Layout.{countOf, recordAt, recordsOf}
 use Rattle.header.proofs.Inside.{record-of}
 use Rattle.records.specs.Fields.{componentName}
-use Rattle.records.specs.Rules.{recordIn, runRecord, runRecords, classStart, otherName, runNamed, othersNamed, newNameRule}
+use Rattle.records.specs.Rules.{recordIn, runRecord, runRecords, classStart, otherName, newNameRule}
 
 -- a name is new where a search of the class up to it finds none before it
 pub fresh-by : (n : Counts) (records : List (List ℕ)) (i start r : ℕ) → start ≡ classStart n i → start ≤ i
@@ -22,21 +23,20 @@ pub fresh-by : (n : Counts) (records : List (List ℕ)) (i start r : ℕ) → st
 unfolding newNameRule
 fresh-by n records i start r e low found = rw (found, ← e, add-sub-of-le low)
 
--- ---- a search for a name in a run of n component records, which are those of other places from `from` on
+-- ---- a search of a run of n component records, which are those of other places from `from` on
 pub run-bad : (run : List ℕ) (n from : ℕ) (other : ℕ → List ℕ) → length run ≡ 40 * n
-    → ((q : ℕ) → q < n → runRecord 40 run q ≡ other (from + q)) → (name : List ℕ)
-    → from + firstBad (runNamed run name) (length run / 40) 0 ≡ firstBad (λ j. otherName name (other j)) n from
-run-bad run n from other long same name =
+    → ((q : ℕ) → q < n → runRecord 40 run q ≡ other (from + q)) → (rule : List ℕ → Bool)
+    → from + firstBad (λ q. rule (runRecord 40 run q)) (length run / 40) 0 ≡ firstBad (λ j. rule (other j)) n from
+run-bad run n from other long same rule =
     let count : length run / 40 ≡ n = ap (λ (k : ℕ). k / 40) long ∙ mul-div-right n (omega arith) in
-    let alike = bad-same-on (runNamed run name) (λ q. otherName name (other (from + q))) n 0 (λ q low high. ap (otherName name) (same q (omega arith))) in
-    ap (λ (k : ℕ). from + firstBad (runNamed run name) k 0) count ∙ ap (λ (k : ℕ). from + k) alike
-    ∙ sym (bad-shift (λ j. otherName name (other j)) from n 0) ∙ ap (firstBad (λ j. otherName name (other j)) n) (add-zero from)
+    let alike = bad-same-on (λ q. rule (runRecord 40 run q)) (λ q. rule (other (from + q))) n 0 (λ q low high. ap rule (same q (omega arith))) in
+    ap (λ (k : ℕ). from + firstBad (λ q. rule (runRecord 40 run q)) k 0) count ∙ ap (λ (k : ℕ). from + k) alike
+    ∙ sym (bad-shift (λ j. rule (other j)) from n 0) ∙ ap (firstBad (λ j. rule (other j)) n) (add-zero from)
 
 -- ---- the same searches by the list of the records: of an image, and of a run
-pub listed : (im name : List ℕ) (n k : ℕ) → k + n ≤ countOf im Component
-    → firstBad (othersNamed im name) n k ≡ firstBad (λ j. otherName name (recordIn (recordsOf im Component) j)) n k
-listed im name n k h =
-    bad-same-on _ _ n k (λ i low high. ap (otherName name) (sym (record-of im Component i (omega arith))))
+pub listed : (im : List ℕ) (rule : List ℕ → Bool) (n k : ℕ) → k + n ≤ countOf im Component
+    → firstBad (λ j. rule (recordAt im Component j)) n k ≡ firstBad (λ j. rule (recordIn (recordsOf im Component) j)) n k
+listed im rule n k h = bad-same-on _ _ n k (λ i low high. ap rule (sym (record-of im Component i (omega arith))))
 
 module _ (size : ℕ) (run : List ℕ) where
   pub run-count : length (runRecords size run) ≡ length run / size

@@ -1,8 +1,9 @@
 -- The filter by which a component's name is known to be new in its class, and what holds of it between two places.
 use Prim.Native.Nat.{ℕ, _+_, _-_, _*_, _/_, _%_, _^_, _≤_, _<_}
 use mathlib.Core.Path.{_≡_}
-use mathlib.Core.Bool.{Bool, true}
+use mathlib.Core.Bool.{Bool, true, _&&_}
 use mathlib.Core.List.{List}
+use lib.Dec.{eqb}
 use lib.ListN.{length, getD}
 use Rattle.fields.specs.Bytes.{number8}
 use Rattle.fields.specs.Names.{nameRule}
@@ -10,6 +11,7 @@ use Rattle.sets.specs.Sets.{none, one, union, within}
 use Rattle.header.specs.declared.layout.Kind.the-variants.{Component}
 use Rattle.header.specs.declared.counts.Counts.{Counts}
 use Rattle.header.specs.Layout.{Fitted, recordsOf}
+use Rattle.records.specs.declared.fresh.Field.{Field}
 use Rattle.records.specs.declared.fresh.Source.{Source}
 use Rattle.records.specs.declared.fresh.Source.the-variants.{Image, Run}
 use Rattle.records.specs.Fields.{componentNameField}
@@ -47,6 +49,16 @@ marked filter key = within (bitsOfKey key) (getD filter (wordOfKey key) 0)
 pub record MarkedToo (key : ℕ) (before after : List ℕ) : Type 0 where
   pub here : marked after key ≡ true
   pub still : (other : ℕ) → marked before other ≡ true → marked after other ≡ true
+
+-- ---- the words of a name's field
+-- the same four words, as code keeps those of one record
+abbrev pub fieldOf : List ℕ → Field
+fieldOf rec = record { a = number8 rec 2; b = number8 rec 10; c = number8 rec 18; d = number8 rec 24 }
+
+-- the record has these words: the 30 bytes of its name's field are equal to those of the record that they are from
+unfoldable pub alike : Field → List ℕ → Bool
+alike field rec =
+    eqb (number8 rec 24) (field .d) && eqb (number8 rec 18) (field .c) && eqb (number8 rec 10) (field .b) && eqb (number8 rec 2) (field .a)
 
 -- ---- component records, of an image or of a run
 abbrev pub componentsIn : Source → List ℕ → List (List ℕ)

@@ -1,21 +1,25 @@
 // Inside a class the names of components differ, by a filter of bits. Each name that was passed has set two bits of one word, by a key that is
 // worked out of its 30 bytes. So a name of which a bit is not set has not been passed: equal names that keep the rule of their field are 30
 // equal bytes, the unused ones being zero, and have one key. Only where both bits are set, by the same name or by others, all names of the
-// class before it are asked. The filter is cleared where a class begins; nothing but speed hangs on that.
-ghost use Prim.Native.Nat.{_+_, _-_, _%_, _≤_, _<_};
+// class before it are asked, their 30 bytes as four words. The filter is cleared where a class begins; nothing but speed hangs on that.
+ghost use Prim.Native.Nat.{_+_, _-_, _/_, _%_, _≤_, _<_};
 ghost use mathlib.Core.Path.{_≡_};
+ghost use mathlib.Core.Bool.{true};
 ghost use lib.ListN.{length};
-ghost use Rattle.fields.specs.Scan.{firstBad};
+ghost use Rattle.fields.specs.Names.{nameRule};
+ghost use Rattle.fields.specs.Scan.{firstBad, firstWhere};
 ghost use Rattle.header.specs.declared.layout.Kind.the-variants.{Component};
-ghost use Rattle.records.specs.Rules.{recordIn, runRecords, otherName, newNameRule, freshRule};
-ghost use Rattle.records.specs.Fresh.{nameKey, marked, MarkedToo, componentsIn, Whole, NamesKept, Marked, HoldsFrom};
+ghost use Rattle.header.specs.Layout.{countOf, recordAt, Fitted};
+ghost use Rattle.records.specs.Fields.{componentNameField, componentName};
+ghost use Rattle.records.specs.Rules.{recordIn, runRecord, otherName, newNameRule, freshRule};
+ghost use Rattle.records.specs.Fresh.{nameKey, marked, MarkedToo, fieldOf, alike, componentsIn, Whole, NamesKept, Marked, HoldsFrom};
 use crate::components::class_start;
-use crate::components::first_in_run;
-use crate::components::first_named;
-use fields::names::Letters;
-use fields::names::name_in;
 use fields::numbers::number8;
+use header::contents::lower;
 use header::counts::Counts;
+use header::layout;
+use header::layout::Kind;
+use header::walk;
 use sets::word;
 use std::num::wrapping_add_u64;
 
@@ -61,23 +65,93 @@ fn mark(seen: &mut [u64], rec: &[u8]) -> bool
     word::within(bits, old)
 }
 
-// The first place from `start` up to `end` whose component has that name; `end` where none has. First of a run, then of an image or a run.
-fn same_in_run(run: &[u8], start: usize, end: usize, name: &[u8]) -> usize
-    requires { ⌜ (length (now run) % 40 ≡ 0) × ((end ≤ length (runRecords 40 (now run))) × (start ≤ end)) ⌝ }
-    ensures { λ r. ⌜ r ≡ firstBad (λ j. otherName (now (name .entry)) (recordIn (runRecords 40 (now (run .entry))) j)) (end - start) start ⌝ }
-{
-    let first = 40 * start;
-    let last = first + 40 * (end - start);
-    start + first_in_run(&run[first..last], Letters::Exact, name)
+// The 30 bytes of a name's field as words, from bytes 2, 10, 18 and 24 of the record on; the last two overlap.
+struct Field {
+    a: u64,
+    b: u64,
+    c: u64,
+    d: u64,
 }
 
-fn first_same(source: Source, records: &[u8], start: usize, end: usize, name: &[u8]) -> usize
-    requires { ⌜ Whole source (now records) × ((end ≤ length (componentsIn source (now records))) × (start ≤ end)) ⌝ }
-    ensures { λ r. ⌜ r ≡ firstBad (λ j. otherName (now (name .entry)) (recordIn (componentsIn source (now (records .entry))) j)) (end - start) start ⌝ }
+fn field_of(rec: &[u8]) -> Field
+    requires { ⌜ 32 ≤ length (now rec) ⌝ }
+    ensures { λ r. ⌜ r ≡ fieldOf (now (rec .entry)) ⌝ }
 {
+    Field {
+        a: number8(rec, 2),
+        b: number8(rec, 10),
+        c: number8(rec, 18),
+        d: number8(rec, 24),
+    }
+}
+
+// Does the record have these words? The last is asked first: of names that begin alike it is the one that mostly differs.
+fn is_alike(field: Field, rec: &[u8]) -> bool
+    requires { ⌜ 32 ≤ length (now rec) ⌝ }
+    ensures { λ r. ⌜ r ≡ alike field (now (rec .entry)) ⌝ }
+{
+    if number8(rec, 24) != field.d {
+        return false;
+    }
+    if number8(rec, 18) != field.c {
+        return false;
+    }
+    if number8(rec, 10) != field.b {
+        return false;
+    }
+    number8(rec, 2) == field.a
+}
+
+// The place of the first record of a run that has these words; their number where none has. The place is worked out where the loop ends, so that
+// it carries no count.
+fn first_alike(run: &[u8], field: Field) -> usize
+    requires { ⌜ length (now run) % 40 ≡ 0 ⌝ }
+    ensures { λ r. ⌜ r ≡ firstWhere (λ j. alike field (runRecord 40 (now (run .entry)) j)) (length (now (run .entry)) / 40) 0 ⌝ }
+{
+    let mut at = 0;
+    while at < run.len() {
+        if is_alike(field, &run[at..at + 40]) {
+            return at / 40;
+        }
+        at += 40;
+    }
+    at / 40
+}
+
+// The first place from `start` up to `end` whose component has these words; `end` where none has. The records of a block are a run.
+fn alike_in_image(image: &[u8], start: usize, end: usize, field: Field) -> usize
+    requires { ⌜ Fitted (now image) × ((end ≤ countOf (now image) Component) × (start ≤ end)) ⌝ }
+    ensures { λ r. ⌜ r ≡ firstWhere (λ j. alike field (recordAt (now (image .entry)) Component j)) (end - start) start ⌝ }
+{
+    let shape = layout::shape_of(image, Kind::Component);
+    let mut here = walk::record_at(shape, start);
+    let mut from = start;
+    while from < end {
+        let to = lower(end, from + here.left);
+        let first = here.at;
+        let last = first + 40 * (to - from);
+        let j = from + first_alike(&image[first..last], field);
+        if j < to {
+            return j;
+        }
+        here = walk::next_block(shape, here, from);
+        from = to;
+    }
+    from
+}
+
+// The first place from `start` up to `end` whose component has the name of the record; `end` where none has. Every name up to there keeps the rule of
+// its field, and so does the record's: equal names are equal words.
+fn first_same(source: Source, records: &[u8], start: usize, end: usize, rec: &[u8]) -> usize
+    requires { ⌜ Whole source (now records) × ((end ≤ length (componentsIn source (now records))) × (start ≤ end)) ⌝ }
+    requires { ⌜ (32 ≤ length (now rec)) × (nameRule (componentNameField (now rec)) ≡ true) ⌝ }
+    requires { ⌜ NamesKept (componentsIn source (now records)) end ⌝ }
+    ensures { λ r. ⌜ r ≡ firstBad (λ j. otherName (componentName (now (rec .entry))) (recordIn (componentsIn source (now (records .entry))) j)) (end - start) start ⌝ }
+{
+    let field = field_of(rec);
     match source {
-        Source::Image => first_named(records, start, end, Letters::Exact, name),
-        Source::Run => same_in_run(records, start, end, name),
+        Source::Image => alike_in_image(records, start, end, field),
+        Source::Run => start + first_alike(&records[40 * start..40 * end], field),
     }
 }
 
@@ -103,7 +177,7 @@ fn is_fresh(
     if !mark(seen, rec) {
         return true;
     }
-    first_same(source, records, start, i, name_in(&rec[1..32])) == i
+    first_same(source, records, start, i, rec) == i
 }
 
 // The first of the places from `from` up to `to` whose component has the name of one before it in its class; `to` where there is none. The run

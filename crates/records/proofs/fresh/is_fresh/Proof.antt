@@ -2,6 +2,7 @@ use Prim.Native.Nat.{ℕ, _-_}
 use mathlib.Core.Path.{sym, ap, _∙_}
 use mathlib.Core.List.{List}
 use mathlib.Core.Logic.{⊎-elim}
+use native.Mathlib.Omega.{arith}
 use borrow.Author.Tests.{not-true}
 use Rattle.fields.specs.Scan.{firstBad}
 use Rattle.records.specs.Fields.{componentName}
@@ -43,47 +44,32 @@ returns c =
     let unset = sym (told .0 ∙ ap (λ (rec : List ℕ). marked (asked .before .before .if1 .seen) (nameKey rec)) is) ∙ not-true _ (c .if2 .taken) in
     (sym (new-unmarked _ _ _ _ (start .pre .1 .1 .0) yet unset), marked-next _ _ _ _ _ yet (rw is at (told .1)))
 
-sub-name-in : tie.Need-sub-name-in
-sub-name-in c = search needs
-
-part-name-in-start : tie.Need-part-name-in-start
-part-name-in-start c = search needs
-
-part-name-in-end : tie.Need-part-name-in-end
-part-name-in-end c = search needs
-
-name-in-requires : tie.Need-name-in-requires
-name-in-requires c κs = search needs
-
 first-same-requires : tie.Need-first-same-requires
-first-same-requires c κs = search needs
+first-same-requires c κs =
+    let asked = c .before in
+    let begun = asked .before .before .before in
+    let start = begun .before .before .before in
+    let p = start .pre in
+    let named = p .1 .1 .0 .each (start .args .i) (omega arith) in (
+      (p .0 .0, (omega arith, begun .class-start .ensures .1)),
+      ((omega arith, rw (p .1 .0 .0) named), record { each = λ j h. p .1 .1 .0 .each j (omega arith) }),
+    )
 
 returns-2 : tie.Need-returns-2
 returns-2 c =
-    let named = c .before in
-    let asked = named .before .before .before in
+    let asked = c .before .before in
     let begun = asked .before .before .before in
     let start = begun .before .before .before in
     let a = start .args in
     let records = componentsIn (a .source) (a .records .now) in
     let is = start .pre .1 .0 .0 in
+    let from = begun .class-start .result in
     let found = c .first-same .ensures
-    ∙ ap (λ (name : List ℕ). firstBad (λ j. otherName name (recordIn records j)) (a .i - begun .class-start .result) (begun .class-start .result))
-    (named .name-in .ensures ∙ ap componentName is) in (
+    ∙ ap (λ (rec : List ℕ). firstBad (λ j. otherName (componentName rec) (recordIn records j)) (a .i - from) from) is in (
       fresh-by (a .counts) records (a .i) _ _ (begun .class-start .ensures .0) (begun .class-start .ensures .1) found,
       marked-next _ _ _ _ _ (marked-yet asked) (rw is at (asked .mark .ensures .1)),
     )
 
 pub is-fresh-spec : {M : Type 1} → statement M
 is-fresh-spec =
-    tie.close
-    (tie.spec
-    class-start-requires
-    mark-requires
-    returns
-    sub-name-in
-    part-name-in-start
-    part-name-in-end
-    name-in-requires
-    first-same-requires
-    returns-2)
+    tie.close (tie.spec class-start-requires mark-requires returns first-same-requires returns-2)
