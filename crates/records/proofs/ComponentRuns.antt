@@ -27,6 +27,12 @@ module _ (bytes : List ℕ) (first n : ℕ) where
   pub run-whole : first + 40 * n ≤ length bytes → length runAt % 40 ≡ 0
   run-whole h = ap (λ (k : ℕ). k % 40) (part-length bytes first (40 * n) h) ∙ mul-mod-right 40 n
 
+-- from its first byte up to its last, of the records from `start` up to `end`
+pub upto-taken : (bytes : List ℕ) (start end : ℕ) → take (40 * end - 40 * start) (drop (40 * start) bytes) ≡ runAt bytes (40 * start) (end - start)
+upto-taken bytes start end =
+    let long : 40 * end - 40 * start ≡ 40 * (end - start) = omega arith in
+    ap (λ (n : ℕ). take n (drop (40 * start) bytes)) long
+
 -- in one block of an image
 module _ (im : List ℕ) (first from to : ℕ) (fit : Fitted im) (few : to ≤ countOf im Component) (some : from < to)
     (one : OneBlock im Component first from to) where
@@ -58,12 +64,6 @@ module _ (bytes : List ℕ) (start end : ℕ) (low : start ≤ end) (whole : len
 
   pub run-inside : 40 * start + 40 * (end - start) ≤ length bytes
   run-inside = let h = upto in omega arith
-
-  -- as code takes it, from its first byte up to its last
-  pub upto-taken : take (40 * end - 40 * start) (drop (40 * start) bytes) ≡ runAt bytes (40 * start) (end - start)
-  upto-taken =
-      let long : 40 * end - 40 * start ≡ 40 * (end - start) = omega arith in
-      ap (λ (n : ℕ). take n (drop (40 * start) bytes)) long
 
   part-is : (q : ℕ) → q < end - start → runRecord 40 (runAt bytes (40 * start) (end - start)) q ≡ recordIn (runRecords 40 bytes) (start + q)
   part-is q h =

@@ -15,3 +15,4 @@ pub mod Rooms
 pub mod Running
 pub mod SetWords
 pub mod LabelTests
+pub mod ComponentTests

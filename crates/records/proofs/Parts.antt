@@ -23,15 +23,20 @@ pub fresh-by : (n : Counts) (records : List (List ℕ)) (i start r : ℕ) → st
 unfolding newNameRule
 fresh-by n records i start r e low found = rw (found, ← e, add-sub-of-le low)
 
+-- a search of n places that are others from `from` on
+pub bad-placed : (f rule : ℕ → Bool) (n from : ℕ) → ((q : ℕ) → q < n → f q ≡ rule (from + q)) → from + firstBad f n 0 ≡ firstBad rule n from
+bad-placed f rule n from same =
+    ap (λ (k : ℕ). from + k) (bad-same-on f (λ q. rule (from + q)) n 0 (λ q low high. same q (omega arith)))
+    ∙ sym (bad-shift rule from n 0) ∙ ap (firstBad rule n) (add-zero from)
+
 -- ---- a search of a run of n component records, which are those of other places from `from` on
 pub run-bad : (run : List ℕ) (n from : ℕ) (other : ℕ → List ℕ) → length run ≡ 40 * n
     → ((q : ℕ) → q < n → runRecord 40 run q ≡ other (from + q)) → (rule : List ℕ → Bool)
     → from + firstBad (λ q. rule (runRecord 40 run q)) (length run / 40) 0 ≡ firstBad (λ j. rule (other j)) n from
 run-bad run n from other long same rule =
     let count : length run / 40 ≡ n = ap (λ (k : ℕ). k / 40) long ∙ mul-div-right n (omega arith) in
-    let alike = bad-same-on (λ q. rule (runRecord 40 run q)) (λ q. rule (other (from + q))) n 0 (λ q low high. ap rule (same q (omega arith))) in
-    ap (λ (k : ℕ). from + firstBad (λ q. rule (runRecord 40 run q)) k 0) count ∙ ap (λ (k : ℕ). from + k) alike
-    ∙ sym (bad-shift (λ j. rule (other j)) from n 0) ∙ ap (firstBad (λ j. rule (other j)) n) (add-zero from)
+    ap (λ (k : ℕ). from + firstBad (λ q. rule (runRecord 40 run q)) k 0) count
+    ∙ bad-placed (λ q. rule (runRecord 40 run q)) (λ j. rule (other j)) n from (λ q h. ap rule (same q h))
 
 -- ---- the same searches by the list of the records: of an image, and of a run
 pub listed : (im : List ℕ) (rule : List ℕ → Bool) (n k : ℕ) → k + n ≤ countOf im Component

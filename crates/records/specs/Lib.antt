@@ -4,5 +4,6 @@ pub mod Users
 pub mod Existing
 pub mod Rules
 pub mod LabelRuns
+pub mod ComponentRuns
 pub mod Fresh
 pub mod Kinds

@@ -1,36 +1,24 @@
-// The rules of a component record.
+// What a component record holds, where a class begins, and searches for a name.
 ghost use Prim.Native.Nat.{_-_, _/_, _%_, _<_, _≤_};
 ghost use mathlib.Core.Path.{_≡_};
-ghost use lib.ListN.{length, drop};
-ghost use Rattle.fields.specs.Bytes.{allZero};
+ghost use lib.ListN.{length};
 ghost use Rattle.fields.specs.Names.{sameBytes, inLetters};
 ghost use Rattle.fields.specs.Scan.{firstBad};
 ghost use Rattle.header.specs.declared.layout.Kind.the-variants.{Component};
 ghost use Rattle.header.specs.Layout.{editionOf, countOf, recordSize, Fitted, recordAt, OneBlock};
-ghost use Rattle.records.specs.Fields.{componentNameLength, componentName, parentOf, componentEnd};
-ghost use Rattle.records.specs.Rules.{classStart, parentRule, parentCount, componentShape, runNamed, othersNamed, afterRule};
-use fields::name_field::name_ok;
+ghost use Rattle.records.specs.Fields.{componentNameLength, componentName, parentOf};
+ghost use Rattle.records.specs.Rules.{classStart, parentCount, runNamed, othersNamed};
 use fields::names;
 use fields::names::Letters;
 use fields::numbers::number2;
-use fields::numbers::number4;
 use header::contents::lower;
 use header::counts::Counts;
-use header::counts::class_at;
 use header::edition::Edition;
-use header::edition::by_edition;
 use header::edition::edition_of;
 use header::layout;
 use header::layout::Kind;
 use header::profile::Profile;
 use header::walk;
-
-// A level or a compartment has no parent; a group has none, or a group that exists.
-fn parent_ok(edition: Edition, class: u8, count: usize, parent: usize) -> bool
-    ensures { λ r. ⌜ r ≡ parentRule edition class count parent ⌝ }
-{
-    (parent == by_edition(edition, 255, 65535)) | ((class == 3) & (parent < count))
-}
 
 // The parent's place among groups, as the record has it.
 pub fn parent_in(edition: Edition, rec: &[u8]) -> usize
@@ -41,29 +29,6 @@ pub fn parent_in(edition: Edition, rec: &[u8]) -> usize
         Edition::One => rec[34] as usize,
         Edition::Two => number2(rec, 34) as usize,
     }
-}
-
-// The bytes after the parent's place are zero.
-fn rest_ok(edition: Edition, rec: &[u8]) -> bool
-    requires { ⌜ length (now rec) ≡ 40 ⌝ }
-    ensures { λ r. ⌜ r ≡ allZero (drop (componentEnd edition) (now (rec .entry))) ⌝ }
-{
-    match edition {
-        Edition::One => (rec[35] == 0) & (number4(rec, 36) == 0),
-        Edition::Two => number4(rec, 36) == 0,
-    }
-}
-
-// What a record must be whatever the others are.
-fn shape_ok(edition: Edition, rec: &[u8], class: u8, count: usize) -> bool
-    requires { ⌜ length (now rec) ≡ recordSize edition Component ⌝ }
-    ensures { λ r. ⌜ r ≡ componentShape edition class count (now (rec .entry)) ⌝ }
-{
-    (rec[0] == class)
-        & name_ok(rec[1], &rec[2..35])
-        & (number2(rec, 32) <= 9999)
-        & parent_ok(edition, class, count, parent_in(edition, rec))
-        & rest_ok(edition, rec)
 }
 
 pub fn component_name<'a>(image: &'a [u8], i: usize) -> &'a [u8]
@@ -172,7 +137,7 @@ pub fn first_named(image: &[u8], start: usize, end: usize, letters: Letters, nam
 }
 
 // The groups that may be a parent: in the release profile there is none.
-fn parent_count(counts: Counts) -> usize
+pub(crate) fn parent_count(counts: Counts) -> usize
     ensures { λ r. ⌜ r ≡ parentCount counts ⌝ }
 {
     let profile = counts.profile;
@@ -180,14 +145,4 @@ fn parent_count(counts: Counts) -> usize
         Profile::Tree => counts.groups,
         Profile::Release => 0,
     }
-}
-
-// The component at place i, and the record right before it; its name among all before it is asked by itself.
-pub fn component_ok(counts: Counts, i: usize, previous: &[u8], rec: &[u8]) -> bool
-    requires { ⌜ (length (now rec) ≡ 40) × (40 ≤ length (now previous)) ⌝ }
-    ensures { λ r. ⌜ r ≡ afterRule Component counts i (now (previous .entry)) (now (rec .entry)) ⌝ }
-{
-    let edition = counts.edition;
-    shape_ok(edition, rec, class_at(counts, i), parent_count(counts))
-        & ((i == class_start(counts, i)) | (number2(previous, 32) < number2(rec, 32)))
 }

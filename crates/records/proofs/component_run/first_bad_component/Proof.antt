@@ -1,110 +1,156 @@
-use Prim.Native.Nat.{ℕ, _+_, _*_, _-_, _≤_, _<_}
+use Prim.Native.Nat.{ℕ, _+_, _-_, _*_, _/_, _%_, _≤_, _<_}
 use mathlib.Core.Path.{_≡_, refl, sym, ap, subst, _∙_}
+use mathlib.Core.List.{List}
+use native.Mathlib.Nat.{add-zero, sub-zero}
 use native.Mathlib.Omega.{arith}
-use borrow.Author.Tests.{not-true, not-false}
 use borrow.Author.Needs.{needs}
-use lib.ListN.{length}
+use lib.ListN.{length, take, drop}
+use Rattle.fields.specs.Bytes.{AreBytes}
+use Rattle.fields.specs.Scan.{firstBad}
+use Rattle.fields.proofs.Scan.{loop-end, part-bad, part-good, bad-upto}
+use Rattle.header.specs.declared.counts.Counts.{Counts}
 use Rattle.header.specs.declared.layout.Kind.the-variants.{Component}
-use Rattle.records.specs.Rules.{runBefore, runRule}
-use Rattle.records.proofs.Running.{Walked, Turn, room, part-is, part-long, walk-start, walk-next, walk-bad, walk-end, before-is, before-long, run-rule}
+use Rattle.header.specs.Layout.{classAt}
+use Rattle.records.specs.declared.component_run.Asked.{Asked}
+use Rattle.records.specs.ComponentRuns.{askedOf, lowestForm, runAsked, ClassUpto}
+use Rattle.records.specs.Rules.{classStart, runBefore, runRule}
+use Rattle.records.proofs.ComponentRuns.{run-whole, upto-taken}
+use Rattle.records.proofs.ComponentTests.{low-first, class-bad}
 use Rattle.records.proofs.component_run.first_bad_component.Statement.{statement}
 use Rattle.records.proofs.component_run.first_bad_component.Tie as tie
 
 abbrev Inv-loop : tie.InvT-loop
-Inv-loop counts k previous run at₀ j₀ at j = Walked (runRule Component counts k previous run) 40 run at j
+Inv-loop counts k previous run n last low₀ j₀ low j =
+    (j ≤ n) × ((j < n → low ≡ lowestForm counts (k + j) (runBefore 40 previous run j))
+    × (firstBad (runRule Component counts k previous run) (n - j) j ≡ firstBad (runRule Component counts k previous run) n 0))
 
 abbrev μ-loop : tie.MeasureT-loop
-μ-loop counts k previous run at₀ j₀ at j = length run - at
+μ-loop counts k previous run n last low₀ j₀ low j = n - j
 
-turn-at : (c : tie.In-loop Inv-loop μ-loop) → Turn 40 (c .before .before .before .before .args .run .now) (c .before .loop .at) (c .before .loop .j)
-turn-at c =
-    record {
-      some = omega arith;
-      whole = c .before .before .before .before .pre .0;
-      stands = c .before .loop .inv .stands;
-      more = c .loop-test .taken;
-    }
+-- the place that is found among the records from place j up to `to`, which are of one class
+module _ (n : Counts) (k : ℕ) (previous run : List ℕ) (j last r low : ℕ) (class : ClassUpto n (k + j) last r) (ends : last ≡ k + length run / 40) where
+  inside : 40 * (r - k) ≤ length run
+  inside = omega (arith, class .upto)
 
--- what is asked there is the rule of the run
-rule-asked : (c : tie.After-component-ok Inv-loop μ-loop)
-    → let turn = c .before .before .before in
-    let a = turn .before .before .before .before .args in
-    c .component-ok .result ≡ runRule Component (a .counts) (a .k) (a .previous .now) (a .run .now) (turn .before .loop .j)
-rule-asked c =
-    let turn = c .before .before .before in
-    let l = turn .before .loop in
-    let before = c .before .record-before .ensures ∙ before-is 40 _ _ _ _ (omega arith) (l .inv .stands) in
-    c .component-ok .ensures ∙ run-rule Component _ 40 _ (l .j) _ _ _ _ refl before (part-is (turn-at turn))
+  in-class : (asked : Asked) → asked ≡ askedOf n (classAt n (k + j)) → low ≡ lowestForm n (k + j) (runBefore 40 previous run j) → AreBytes run
+      → let part = take (40 * (r - k) - 40 * j) (drop (40 * j) run) in
+      j + firstBad (runAsked asked low part) (length part / 40) 0 ≡ firstBad (runRule Component n k previous run) (r - k - j) j
+  in-class asked is first bytes =
+      let upto : j ≤ r - k = omega (arith, class .more) in
+      rw (is, upto-taken run j (r - k))
+      (class-bad n k previous run j (r - k) low upto inside (λ i a b. class .same i a (omega (arith, class .more))) first bytes)
+
+found-in : (c : tie.After-first-bad-in-class Inv-loop μ-loop)
+    → let told = c .before .before .before in
+    let l = told .before .before .loop in
+    let a = told .before .before .before .before .before .before .args in
+    l .j + c .first-bad-in-class .result
+    ≡ firstBad (runRule Component (a .counts) (a .k) (a .previous .now) (a .run .now)) (told .class-upto .result - a .k - l .j) (l .j)
+found-in c =
+    let asked = c .before .before in
+    let told = asked .before in
+    let l = told .before .before .loop in
+    let begun = told .before .before .before in
+    let a = begun .before .before .before .args in
+    ap (λ (m : ℕ). l .j + m) (c .first-bad-in-class .ensures)
+    ∙ in-class (a .counts) (a .k) (a .previous .now) (a .run .now) (l .j) _ _ _ (told .class-upto .ensures) refl _ (asked .asked-at .ensures)
+    (l .inv .1 .0 (told .before .loop-test .taken)) (λ i. begun .before .shared-slice-known2 .given i .fits)
+
+add-last : tie.Need-add-last Inv-loop μ-loop
+add-last c = omega (arith, c .before .before .pre .1 .1)
+
+lowest-form-requires : tie.Need-lowest-form-requires Inv-loop μ-loop
+lowest-form-requires c κs = search needs
 
 loop-holds : tie.Need-loop-holds Inv-loop μ-loop
-loop-holds c = walk-start _ 40 _
+loop-holds c =
+    let a = c .before .before .before .args in (
+      omega arith,
+      (
+        (λ h. c .lowest-form .ensures ∙ ap (λ (i : ℕ). lowestForm (a .counts) i (a .previous .now)) (sym (add-zero (a .k)))),
+        rw sub-zero,
+      ),
+    )
 
-add-rec : tie.Need-add-rec Inv-loop μ-loop
-add-rec c = omega (arith, room (turn-at c))
+add-i : tie.Need-add-i Inv-loop μ-loop
+add-i c =
+    let start = c .before .before .before .before .before in
+    omega (arith, start .pre .1 .1, c .loop-test .taken)
 
-sub-rec : tie.Need-sub-rec Inv-loop μ-loop
-sub-rec c = omega arith
+class-upto-requires : tie.Need-class-upto-requires Inv-loop μ-loop
+class-upto-requires c κs = omega (arith, c .loop-test .taken)
 
-part-rec-start : tie.Need-part-rec-start Inv-loop μ-loop
-part-rec-start c = omega arith
+sub-to : tie.Need-sub-to Inv-loop μ-loop
+sub-to c = omega (arith, c .class-upto .ensures .more)
 
-part-rec-end : tie.Need-part-rec-end Inv-loop μ-loop
-part-rec-end c = omega (arith, room (turn-at c))
+asked-at-requires : tie.Need-asked-at-requires Inv-loop μ-loop
+asked-at-requires c κs = search needs
 
-record-before-requires : tie.Need-record-before-requires Inv-loop μ-loop
-record-before-requires c κs =
-    let l = c .before .before .loop in
-    l .inv .inside
+mul-first-bad-in-class : tie.Need-mul-first-bad-in-class Inv-loop μ-loop
+mul-first-bad-in-class c = omega (arith, c .before .before .loop-test .taken)
 
-add-component-ok : tie.Need-add-component-ok Inv-loop μ-loop
-add-component-ok c =
-    let turn = c .before .before in
-    let l = turn .before .loop in
-    let start = turn .before .before .before .before in
-    omega (arith, start .pre .1 .1, l .inv .stands, l .inv .inside)
+mul-first-bad-in-class-2 : tie.Need-mul-first-bad-in-class-2 Inv-loop μ-loop
+mul-first-bad-in-class-2 c = omega (arith, c .before .class-upto .ensures .upto)
 
-component-ok-requires : tie.Need-component-ok-requires Inv-loop μ-loop
-component-ok-requires c κs =
-    let turn = c .before .before in
-    let l = turn .before .loop in
-    let start = turn .before .before .before .before in
-    let a = start .args in
-    let is = c .record-before .ensures ∙ before-is 40 _ _ _ _ (omega arith) (l .inv .stands) in
-    let long = before-long 40 40 (a .previous .now) (a .run .now) (l .j) (omega arith) (start .pre .1 .0) (omega (arith, l .inv .stands, l .inv .inside)) in
-    (part-long (turn-at turn), rw is long)
+sub-first-bad-in-class : tie.Need-sub-first-bad-in-class Inv-loop μ-loop
+sub-first-bad-in-class c = omega (arith, c .before .class-upto .ensures .more)
+
+part-first-bad-in-class-start : tie.Need-part-first-bad-in-class-start Inv-loop μ-loop
+part-first-bad-in-class-start c = omega (arith, c .before .class-upto .ensures .more)
+
+part-first-bad-in-class-end : tie.Need-part-first-bad-in-class-end Inv-loop μ-loop
+part-first-bad-in-class-end c = omega (arith, c .before .class-upto .ensures .upto)
+
+first-bad-in-class-requires : tie.Need-first-bad-in-class-requires Inv-loop μ-loop
+first-bad-in-class-requires c κs =
+    let told = c .before .before in
+    let l = told .before .before .loop in
+    let a = told .before .before .before .before .before .before .args in
+    let to : ℕ = told .class-upto .result - a .k in
+    let upto : 40 * l .j + 40 * (to - l .j) ≤ length (a .run .now) = omega (arith, told .class-upto .ensures .more, told .class-upto .ensures .upto) in
+    ap (λ (s : List ℕ). length s % 40) (upto-taken (a .run .now) (l .j) to) ∙ run-whole _ _ _ upto
+
+add-bad : tie.Need-add-bad Inv-loop μ-loop
+add-bad c =
+    let told = c .before .before .before in
+    let l = told .before .before .loop in
+    let a = told .before .before .before .before .before .before .args in
+    let rule = runRule Component (a .counts) (a .k) (a .previous .now) (a .run .now) in
+    omega (arith, found-in c, bad-upto rule (told .class-upto .result - a .k - l .j) (l .j), told .class-upto .ensures .upto)
 
 returns : tie.Need-returns Inv-loop μ-loop
 returns c =
     let asked = c .before in
-    let turn = asked .before .before .before in
-    walk-bad (turn-at turn) _ (turn .before .loop .inv .left) (sym (rule-asked asked) ∙ not-true _ (c .if1 .taken))
-
-add-at : tie.Need-add-at Inv-loop μ-loop
-add-at c =
-    let turn = c .before .before .before .before in
-    omega (arith, room (turn-at turn))
-
-add-j : tie.Need-add-j Inv-loop μ-loop
-add-j c =
-    let l = c .before .before .before .before .before .loop in
-    omega (arith, l .inv .stands, l .inv .inside)
+    let told = asked .before .before .before in
+    let l = told .before .before .loop in
+    let a = told .before .before .before .before .before .before .args in
+    let to : ℕ = told .class-upto .result - a .k in
+    let low : l .j ≤ to = omega (arith, told .class-upto .ensures .more) in
+    let high : to ≤ length (a .run .now) / 40 = omega (arith, told .class-upto .ensures .upto) in
+    part-bad _ _ _ _ _ _ low high (l .inv .1 .1) (found-in asked) (c .if1 .taken)
 
 loop-less : tie.Need-loop-less Inv-loop μ-loop
 loop-less c =
-    let turn = c .before .before .before .before in
-    omega (arith, turn .loop-test .taken)
+    let told = c .before .before .before .before in
+    omega (arith, told .class-upto .ensures .more, told .before .loop-test .taken)
 
 loop-again : tie.Need-loop-again Inv-loop μ-loop
 loop-again c =
     let asked = c .before in
-    let turn = asked .before .before .before in
-    walk-next (turn-at turn) _ (turn .before .loop .inv .left) (sym (rule-asked asked) ∙ not-false _ (c .if1 .left))
+    let told = asked .before .before .before in
+    let l = told .before .before .loop in
+    let a = told .before .before .before .before .before .before .args in
+    let class = told .class-upto .ensures in
+    let to : ℕ = told .class-upto .result - a .k in
+    let low : l .j ≤ to = omega (arith, class .more) in
+    let high : to ≤ length (a .run .now) / 40 = omega (arith, class .upto) in
+    let at : told .class-upto .result ≡ a .k + to = omega (arith, class .more) in
+    let begins : to < length (a .run .now) / 40 → a .k + to ≡ classStart (a .counts) (a .k + to) =
+    λ h. subst (λ (i : ℕ). i ≡ classStart (a .counts) i) at (class .begins (omega arith)) in
+    (high, ((λ h. low-first _ _ _ (begins h)), part-good _ _ _ _ _ _ low high (l .inv .1 .1) (found-in asked) (c .if1 .left)))
 
 returns-2 : tie.Need-returns-2 Inv-loop μ-loop
-returns-2 c =
-    let l = c .before .loop in
-    let start = c .before .before .before .before in
-    walk-end _ 40 (start .args .run .now) (l .at) (l .j) (omega arith) (start .pre .0) (l .inv) (c .loop-test .left)
+returns-2 c = loop-end _ _ _ _ (c .loop-test .left) (c .before .loop .inv .1 .1)
 
 pub first-bad-component-spec : {M : Type 1} → statement M
 first-bad-component-spec =
@@ -112,17 +158,21 @@ first-bad-component-spec =
     (tie.spec
     Inv-loop
     μ-loop
+    add-last
+    lowest-form-requires
     loop-holds
-    add-rec
-    sub-rec
-    part-rec-start
-    part-rec-end
-    record-before-requires
-    add-component-ok
-    component-ok-requires
+    add-i
+    class-upto-requires
+    sub-to
+    asked-at-requires
+    mul-first-bad-in-class
+    mul-first-bad-in-class-2
+    sub-first-bad-in-class
+    part-first-bad-in-class-start
+    part-first-bad-in-class-end
+    first-bad-in-class-requires
+    add-bad
     returns
-    add-at
-    add-j
     loop-less
     loop-again
     returns-2)

@@ -29,7 +29,7 @@ module _ (bytes rec : List ℕ) (start end : ℕ) (low : start ≤ end) (field :
       start + firstWhere (λ j. alike field (runRecord 40 run j)) (length run / 40) 0
       ≡ firstBad (λ j. otherName (componentName rec) (recordIn (runRecords 40 bytes) j)) (end - start) start
   in-run whole few kept =
-      rw (is, upto-taken bytes start end low whole few)
+      rw (is, upto-taken bytes start end)
       (part-bad bytes start end low whole few (λ r. not (alike (fieldOf rec) r)) ∙ search-same (runRecords 40 bytes) rec start end low named kept)
 
   in-image : end ≤ countOf bytes Component → NamesKept (recordsOf bytes Component) end
@@ -100,10 +100,7 @@ first-alike-requires c κs =
     let told = c .before in
     let start = told .before .before .before .before .before in
     let a = start .args in
-    let p = start .pre .0 in
-    let is = told .enum-told2 .given .1 in
-    ap (λ (s : List ℕ). length s % 40) (upto-taken (a .records .now) (a .start) (a .end) (p .1 .1) (rw is at (p .0)) (rw is at (p .1 .0)))
-    ∙ run-whole _ _ _ (inside-at told)
+    ap (λ (s : List ℕ). length s % 40) (upto-taken (a .records .now) (a .start) (a .end)) ∙ run-whole _ _ _ (inside-at told)
 
 add-result : tie.Need-add-result
 add-result c =
