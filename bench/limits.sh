@@ -7,9 +7,8 @@ cd "$(dirname "$0")"
 unset BRAWNESK_LIB_DIR
 
 # A call as the bench program names it, with @ and its image if that isn't the largest of edition 1; what is counted: the whole
-# call, its share for each row, how many times another call it is, or the bytes of its stack; and the limit. Two limits only keep what
-# was reached: check@worst, whose names also end alike, and set-label-longest, for whose text there is no mark. A mapped read compares
-# the map, which a plain one only makes: up to 153 instructions of millions (docs/BENCHMARKS.md).
+# call, its share for each row, how many times another call it is, how many times the plain Rust version's it is, or the bytes of its
+# stack; and the limit. One limit only keeps what was reached: set-label-longest, for whose text there is no mark.
 limits='
 check                whole    190000
 check@parent-higher  check    1.2
@@ -17,7 +16,7 @@ check@parent-lower   check    1.2
 check@wide           check    1.2
 check@release        check    1.2
 check@begin-alike    check    2
-check@worst          check    2.3
+check@worst          check    2
 read-10              row      60
 read-64              row      90
 read-10-counted      row      130
@@ -31,8 +30,16 @@ rows-20              check    1.05
 write                check    2
 write@parent-higher  check@parent-higher  2
 write@parent-lower   check@parent-lower   2
-mapped-10            read-10  1.0002
-mapped-64            read-64  1.0002
+mapped-10            read-10  1
+mapped-64            read-64  1
+mapped-10@wide       read-10@wide     1
+mapped-10@release    read-10@release  1
+read-10              plain    1
+read-64              plain    1
+read-10-counted      plain    1
+read-64-counted      plain    1
+unknown-10           plain    1
+update-10            plain    1
 check                stack    4096
 write                stack    4096
 read-10              stack    16384
@@ -57,6 +64,7 @@ unit() {
     case "$2" in
     whole | stack) echo 1 ;;
     row) "$bench" rows "$1" ;;
+    plain) echo "${counts[plain-$1]}" ;;
     *) echo "${counts[ours-$2]}" ;;
     esac
 }
@@ -76,7 +84,11 @@ printf '%-20s %12s %12s %10s  %s\n' call measured figure limit of
 while read -r call what limit; do
     if [ -z "$call" ]; then continue; fi
     if [ "$what" != stack ]; then counted ours "$call"; fi
-    case "$what" in whole | row | stack) ;; *) counted ours "$what" ;; esac
+    case "$what" in
+    whole | row | stack) ;;
+    plain) counted plain "$call" ;;
+    *) counted ours "$what" ;;
+    esac
     value=$(measured "$call" "$what")
     divisor=$(unit "$call" "$what")
     figure=$(awk -v count="$value" -v divisor="$divisor" -v what="$what" \
