@@ -34,8 +34,7 @@ pub fn bit_of(bits: &[u8], p: usize) -> bool
     word::has(bits[p / 8] as u64, p % 8)
 }
 
-// Writes the map to the front of the buffer, and tells its length. Where the answer is yes to every label, none is asked. The length is worked out
-// before both ways: with a length of its own in each, the compiled loop over labels takes up to two instructions more for a byte.
+// Writes the map to the front of the buffer, and tells its length. Where the answer is yes to every label, none is asked.
 pub fn put_map(image: &[u8], view: View, buffer: &mut [u8]) -> usize
     requires { ⌜ Counted (now image) × (mapLength (now image) ≤ length (now buffer)) ⌝ }
     ensures { λ r. ⌜ Written (now (buffer .entry)) 0 (mapOf (now (image .entry)) (rightsOf view)) (now (buffer .exit)) r ⌝ }

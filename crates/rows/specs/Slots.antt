@@ -44,7 +44,7 @@ pub record Added (tag : ℕ) (before after : List ℕ) : Type 0 where
   pub stays : (other : ℕ) → held before other ≡ true → held after other ≡ true
   pub entries : (k : ℕ) → (getD after k 0 ≡ getD before k 0) ⊎ (getD after k 0 ≡ tag)
 
--- ---- what holds once the label records before p are gone through: only tags that are handed out are held, and of those records all of them
+-- ---- what holds once the label records before p are gone through: only tags that are handed out are held, and those of these records are all held
 pub record Holding (im bits : List ℕ) (p : ℕ) (slots : List ℕ) : Type 0 where
   pub long : length slots ≡ slotCount
   pub given : (k : ℕ) → (getD slots k 0 ≡ 0 → ⊥) → tagMapped im bits false (getD slots k 0) ≡ true

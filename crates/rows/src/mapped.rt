@@ -1,5 +1,5 @@
-// The rows of the run that an accepted table holds by a map. The tags that are handed out are found once; then the row's tag alone decides. These
-// functions have no rights, and so cannot ask a verdict.
+// Reading a table's rows by a map. The tags that are handed out are put into slots once; then a row's tag alone decides. These functions have no
+// rights, and so cannot ask a verdict.
 ghost use mathlib.Core.Path.{_≡_};
 ghost use lib.Dec.{leb};
 ghost use lib.ListN.{length};
@@ -23,7 +23,7 @@ use fields::numbers::number4;
 use fields::numbers::number8;
 use refusals::Refusal;
 
-// How many bytes the rows have that are handed out.
+// How many bytes the rows have whose tags are held.
 fn mapped_length(slots: &Slots, run: &[u8], width: usize) -> usize
     requires { ⌜ IsRun (now run) width ⌝ }
     ensures { λ r. ⌜ r ≡ length (keptBytes (rowHeld (now (slots .entry))) (now (run .entry)) width) ⌝ }
@@ -41,7 +41,7 @@ fn mapped_length(slots: &Slots, run: &[u8], width: usize) -> usize
     n
 }
 
-// Do that many bytes hold them? Where they hold the whole run, nothing has to be counted.
+// Do that many bytes hold these rows? Where they hold the whole run, nothing has to be counted.
 fn mapped_fits(slots: &Slots, run: &[u8], width: usize, room: usize) -> bool
     requires { ⌜ IsRun (now run) width ⌝ }
     ensures { λ r. ⌜ r ≡ leb (length (keptBytes (rowHeld (now (slots .entry))) (now (run .entry)) width)) room ⌝ }
@@ -52,8 +52,8 @@ fn mapped_fits(slots: &Slots, run: &[u8], width: usize, room: usize) -> bool
     mapped_length(slots, run, width) <= room
 }
 
-// Writes them to the front of the buffer, where rows have 8 bytes or more, and tells where they end. The 8 bytes that hold a row's tag are read once.
-fn copy_rest(slots: &Slots, run: &[u8], width: usize, buffer: &mut [u8]) -> usize
+// Writes these rows to the front of the buffer and tells where they end, for rows of 8 bytes or more: the first 8, with the tag, are read once.
+fn copy_wide(slots: &Slots, run: &[u8], width: usize, buffer: &mut [u8]) -> usize
     requires { ⌜ IsRun (now run) width × (8 ≤ width) ⌝ }
     requires { ⌜ length (keptBytes (rowHeld (now slots)) (now run) width) ≤ length (now buffer) ⌝ }
     ensures { λ r. ⌜ Written (now (buffer .entry)) 0 (keptBytes (rowHeld (now (slots .entry))) (now (run .entry)) width) (now (buffer .exit)) r ⌝ }
@@ -73,8 +73,8 @@ fn copy_rest(slots: &Slots, run: &[u8], width: usize, buffer: &mut [u8]) -> usiz
     to
 }
 
-// The same for rows of any width.
-fn copy_tiny(slots: &Slots, run: &[u8], width: usize, buffer: &mut [u8]) -> usize
+// Writes these rows to the front of the buffer and tells where they end, for rows of any width.
+fn copy_narrow(slots: &Slots, run: &[u8], width: usize, buffer: &mut [u8]) -> usize
     requires { ⌜ IsRun (now run) width ⌝ }
     requires { ⌜ length (keptBytes (rowHeld (now slots)) (now run) width) ≤ length (now buffer) ⌝ }
     ensures { λ r. ⌜ Written (now (buffer .entry)) 0 (keptBytes (rowHeld (now (slots .entry))) (now (run .entry)) width) (now (buffer .exit)) r ⌝ }
@@ -92,19 +92,19 @@ fn copy_tiny(slots: &Slots, run: &[u8], width: usize, buffer: &mut [u8]) -> usiz
     to
 }
 
-// The same by the width.
+// Writes these rows to the front of the buffer and tells where they end.
 fn copy_mapped(slots: &Slots, run: &[u8], width: usize, buffer: &mut [u8]) -> usize
     requires { ⌜ IsRun (now run) width ⌝ }
     requires { ⌜ length (keptBytes (rowHeld (now slots)) (now run) width) ≤ length (now buffer) ⌝ }
     ensures { λ r. ⌜ Written (now (buffer .entry)) 0 (keptBytes (rowHeld (now (slots .entry))) (now (run .entry)) width) (now (buffer .exit)) r ⌝ }
 {
     if width < 8 {
-        return copy_tiny(slots, run, width, buffer);
+        return copy_narrow(slots, run, width, buffer);
     }
-    copy_rest(slots, run, width, buffer)
+    copy_wide(slots, run, width, buffer)
 }
 
-// One array serves the counting and the copying. Where the tags find no slot, each row is asked.
+// One array serves the counting and the copying. Where a tag finds no slot, each row is asked.
 fn many_by_map(image: &[u8], bits: &[u8], run: &[u8], width: usize, buffer: &mut [u8]) -> RowsRead
     requires { ⌜ MappedRun (now image) (now bits) (now run) width ⌝ }
     ensures { λ r. ⌜ (r, now (buffer .exit)) ≡ handedOut (kept (rowMapped (now (image .entry)) (now (bits .entry)) false) (runRows (now (run .entry)) width)) (now (buffer .entry)) ⌝ }

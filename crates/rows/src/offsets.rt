@@ -28,8 +28,8 @@ fn nth_of_all(run: &[u8], width: usize, n: usize) -> usize
     run.len()
 }
 
-// A verdict is asked of each label once, as a map of the session. By it, the same rows count, where rows of unknown tags do not. Where the tags find no
-// slot, a verdict is asked of each row.
+// A verdict is asked of each label once, as a map of the session, for a session that reads no row of an unknown tag: by the map the same rows count.
+// Where a tag finds no slot, a verdict is asked of each row.
 fn nth_of_many(image: &[u8], view: View, run: &[u8], width: usize, n: usize) -> usize
     requires { ⌜ Usable (now image) (now run) width ⌝ }
     requires { ⌜ unknownRead (now image) (rightsOf view) ≡ false ⌝ }

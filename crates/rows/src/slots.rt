@@ -5,13 +5,14 @@ ghost use mathlib.Core.Bool.{true};
 ghost use lib.ListN.{length};
 ghost use Rattle.rows.specs.Slots.{slotCount, ownSlot, heldFrom, held, Added};
 
-// 2,880 own slots and 96 after them. They stand on the stack of a read or an update, which may take 16 KiB.
+// 2,880 own slots, and as many after them as a search that begins at the last of these needs. They stand on the stack of a read or an update, which
+// may take 16 KiB.
 pub const COUNT: usize = 2976;
 
 // An entry is a tag, or 0 where the slot is free: no label carries tag 0.
 pub type Slots = [u32; COUNT];
 
-// The tag's own slot. The last 96 are nobody's own: with them a search for a tag needs no turn back to the first slot.
+// The tag's own slot. The last slots are nobody's own: with them a search for a tag needs no turn back to the first slot.
 fn slot_of(tag: u32) -> usize
     ensures { λ r. ⌜ (r ≡ ownSlot tag) × (r < 2880) ⌝ }
 {
@@ -53,7 +54,7 @@ pub fn has(slots: &Slots, tag: u32) -> bool
     has_later(slots, slot + 1, tag)
 }
 
-// Puts the tag in the first free slot of the 96 from its own on. No where none of them is free.
+// Puts the tag in the first free slot of the 96 from its own on. No where none of them is free; nothing is claimed of a no, which costs speed alone.
 pub fn add(slots: &mut Slots, tag: u32) -> bool
     requires { ⌜ (0 < tag) × (length (now slots) ≡ slotCount) ⌝ }
     ensures { λ r. ⌜ (r ≡ true → Added tag (now (slots .entry)) (now (slots .exit))) ⌝ }

@@ -14,7 +14,7 @@ pub use edition::Edition;
 pub use partners::{partners, partners_table};
 pub use profile::{Profile, Variant};
 pub use random::{full, letters, random, random_with};
-pub use sample::sample;
+pub use sample::{label, sample};
 pub use set::Set;
 pub use sizes::Sizes;
 pub use trees::Tree;

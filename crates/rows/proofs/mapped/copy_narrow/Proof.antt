@@ -9,8 +9,8 @@ use Rattle.rows.specs.Scan.{rowBytes, keptBytes}
 use Rattle.rows.specs.Slots.{held, rowHeld}
 use Rattle.rows.proofs.Scanning.{Rest, rest-start, rest-room, rest-next, row-tagged}
 use Rattle.rows.proofs.Adding.{left-none, part-step, adds-all, adds-none}
-use Rattle.rows.proofs.mapped.copy_tiny.Statement.{statement}
-use Rattle.rows.proofs.mapped.copy_tiny.Tie as tie
+use Rattle.rows.proofs.mapped.copy_narrow.Statement.{statement}
+use Rattle.rows.proofs.mapped.copy_narrow.Tie as tie
 
 abbrev Inv-loop : tie.InvT-loop
 Inv-loop slots run width buffer₀ to₀ at₀ buffer to at =
@@ -122,8 +122,8 @@ returns c =
     left-end _ _ _ _ _ _ (c .before .loop .inv .1)
     (left-none _ _ _ (c .before .before .before .before .pre .0) _ (c .loop-test .left))
 
-pub copy-tiny-spec : {M : Type 1} → statement M
-copy-tiny-spec =
+pub copy-narrow-spec : {M : Type 1} → statement M
+copy-narrow-spec =
     tie.close
     (tie.spec
     Inv-loop

@@ -13,8 +13,8 @@ use Rattle.rows.specs.Slots.{held, rowHeld}
 use Rattle.rows.proofs.Scanning.{Rest, rest-start, rest-room, rest-next, row-long}
 use Rattle.rows.proofs.Adding.{left-none, part-step, adds-all, adds-none, adds-width}
 use Rattle.rows.proofs.FirstBytes.{part-bytes, tag-read}
-use Rattle.rows.proofs.mapped.copy_rest.Statement.{statement}
-use Rattle.rows.proofs.mapped.copy_rest.Tie as tie
+use Rattle.rows.proofs.mapped.copy_wide.Statement.{statement}
+use Rattle.rows.proofs.mapped.copy_wide.Tie as tie
 
 abbrev Inv-loop : tie.InvT-loop
 Inv-loop slots run width buffer₀ to₀ at₀ buffer to at =
@@ -164,8 +164,8 @@ returns c =
     left-end _ _ _ _ _ _ (c .before .loop .inv .1)
     (left-none _ _ _ (c .before .before .before .before .pre .0 .0) _ (c .loop-test .left))
 
-pub copy-rest-spec : {M : Type 1} → statement M
-copy-rest-spec =
+pub copy-wide-spec : {M : Type 1} → statement M
+copy-wide-spec =
     tie.close
     (tie.spec
     Inv-loop
