@@ -51,7 +51,7 @@ first-same-requires c κs =
     let start = begun .before .before .before in
     let p = start .pre in
     let named = p .1 .1 .0 .each (start .args .i) (omega arith) in (
-      (p .0 .0, (omega arith, begun .class-start .ensures .1)),
+      (p .0 .0, (omega arith, omega (arith, begun .class-start .ensures .1))),
       ((omega arith, rw (p .1 .0 .0) named), record { each = λ j h. p .1 .1 .0 .each j (omega arith) }),
     )
 
