@@ -43,31 +43,31 @@ module _ (n : Counts) where
       (λ l. let none : n .levels + n .compartments ≡ n .levels = omega arith in ap (classFirst n) (class-group n (n .levels) l) ∙ none)
       (below-or (n .levels) (n .levels + n .compartments))
 
-  module _ (i last : ℕ) (some : i < last) where
-    pub upto-level : i < n .levels → (r : ℕ) → r ≡ min last (n .levels) → ClassUpto n i last r
+  module _ (i left : ℕ) (some : 0 < left) where
+    pub upto-level : i < n .levels → (r : ℕ) → r ≡ min left (n .levels - i) → ClassUpto n i (i + left) (i + r)
     upto-level h r e =
         record {
           more = omega arith;
           upto = omega arith;
           same = λ j low high. class-level n j (omega arith) ∙ sym (class-level n i h);
-          begins = λ l. let q : r ≡ n .levels = omega arith in q ∙ sym (compartments-begin) ∙ ap (classStart n) (sym q);
+          begins = λ l. let q : i + r ≡ n .levels = omega arith in q ∙ sym compartments-begin ∙ ap (classStart n) (sym q);
         }
 
-    pub upto-compartment : n .levels ≤ i → i < n .levels + n .compartments → (r : ℕ) → r ≡ n .levels + min (last - n .levels) (n .compartments)
-        → ClassUpto n i last r
+    pub upto-compartment : n .levels ≤ i → i < n .levels + n .compartments → (r : ℕ) → r ≡ min left (n .compartments - (i - n .levels))
+        → ClassUpto n i (i + left) (i + r)
     upto-compartment g h r e =
         record {
           more = omega arith;
           upto = omega arith;
           same = λ j low high. class-compartment n j (omega arith) (omega arith) ∙ sym (class-compartment n i g h);
-          begins = λ l. let q : r ≡ n .levels + n .compartments = omega arith in q ∙ sym (groups-begin) ∙ ap (classStart n) (sym q);
+          begins = λ l. let q : i + r ≡ n .levels + n .compartments = omega arith in q ∙ sym groups-begin ∙ ap (classStart n) (sym q);
         }
 
-    pub upto-group : n .levels + n .compartments ≤ i → ClassUpto n i last last
+    pub upto-group : n .levels + n .compartments ≤ i → ClassUpto n i (i + left) (i + left)
     upto-group h =
         record {
-          more = some;
-          upto = le-refl last;
+          more = omega arith;
+          upto = le-refl (i + left);
           same = λ j low high. class-group n j (omega arith) ∙ sym (class-group n i h);
           begins = λ l. absurd (omega arith);
         }

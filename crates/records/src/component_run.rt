@@ -2,7 +2,7 @@
 // asked apart, by `fresh`. A run is asked class by class, so that what is the same for a class is worked out once. Of the record before only
 // the numeric form is asked, so the loop carries the lowest that the next may have. The parent's place and the unused bytes after it are one
 // number: it is that of no parent, or below the count of parents, exactly if the place is and they are zero.
-ghost use Prim.Native.Nat.{_/_, _%_, _≤_, _<_};
+ghost use Prim.Native.Nat.{_+_, _/_, _%_, _≤_, _<_};
 ghost use mathlib.Core.Path.{_≡_};
 ghost use lib.ListN.{length};
 ghost use Rattle.fields.specs.Scan.{firstBad};
@@ -102,18 +102,18 @@ fn first_bad_in_class(asked: Asked, first: u32, run: &[u8]) -> usize
     at / 40
 }
 
-// The end of the class at place i, but at most `last`.
-fn class_upto(counts: Counts, i: usize, last: usize) -> usize
-    requires { ⌜ i < last ⌝ }
-    ensures { λ r. ⌜ ClassUpto counts i last r ⌝ }
+// How many of the `left` places from i on are of the class at place i.
+fn class_left(counts: Counts, i: usize, left: usize) -> usize
+    requires { ⌜ 0 < left ⌝ }
+    ensures { λ r. ⌜ ClassUpto counts i (i + left) (i + r) ⌝ }
 {
     if i < counts.levels {
-        return lower(last, counts.levels);
+        return lower(left, counts.levels - i);
     }
     if i - counts.levels < counts.compartments {
-        return counts.levels + lower(last - counts.levels, counts.compartments);
+        return lower(left, counts.compartments - (i - counts.levels));
     }
-    last
+    left
 }
 
 // The first that breaks a rule; their number where none does. The first of the run is at place k. Only the first class of the run may have
@@ -123,12 +123,11 @@ pub fn first_bad_component<'a>(counts: Counts, k: usize, previous: &'a [u8], run
     ensures { λ r. ⌜ r ≡ firstBadOfRun Component counts k (now (previous .entry)) (now (run .entry)) ⌝ }
 {
     let n = run.len() / 40;
-    let last = k + n;
     let mut low = lowest_form(counts, k, previous);
     let mut j = 0;
     while j < n {
         let i = k + j;
-        let to = class_upto(counts, i, last) - k;
+        let to = j + class_left(counts, i, n - j);
         let bad = j + first_bad_in_class(asked_at(counts, i), low, &run[40 * j..40 * to]);
         if bad < to {
             return bad;
