@@ -4,12 +4,13 @@ use mathlib.Core.Path.{_≡_, sym, ap, _∙_}
 use mathlib.Core.Bool.{true, false}
 use mathlib.Core.List.{List}
 use mathlib.Core.Logic.{⊎-elim}
-use native.Mathlib.Nat.{sub-self, mul-zero, mul-suc, mul-div-right, eq-or-lt-of-le}
+use native.Mathlib.Nat.{mul-zero, mul-suc, mul-div-right, add-sub-cancel-left, eq-or-lt-of-le}
 use native.Mathlib.Omega.{arith}
 use borrow.Author.Tests.{eq-eqb, ne-eqb}
 use Rattle.fields.proofs.Both.{both, below-or}
 use Rattle.fields.proofs.Scan.{bad-from, bad-upto}
 use Rattle.header.specs.declared.layout.Kind.{Kind}
+use Rattle.header.specs.declared.layout.Kind.the-variants.{Component}
 use Rattle.header.specs.declared.layout.Shape.{Shape}
 use Rattle.header.specs.declared.layout.Contents.{Contents}
 use Rattle.header.specs.Layout.{blocksFor, blocksOf, firstBlock, shapeOf, Shaped, held, contentsOf}
@@ -26,21 +27,32 @@ pub record Walk (im : List ℕ) (kind : Kind) (shape : Shape) (b from : ℕ) (fi
   pub before : KeptUpto im kind b
   pub passed : from < shape .count → Passed im kind from filter
 
+-- one block more keeps its rule
+pub kept-next : (im : List ℕ) (kind : Kind) (b : ℕ) → KeptUpto im kind b → contentRule im b ≡ true → KeptUpto im kind (b + 1)
+kept-next im kind b kept here c low high =
+    let h : c ≤ b = omega arith in
+    ⊎-elim (λ e. rw e here) (λ m. kept c low m) (eq-or-lt-of-le h)
+
 module _ {im : List ℕ} {kind : Kind} {shape : Shape} (s : Shaped im kind shape) where
   first-is : shape .first ≡ firstBlock im kind
   first-is = ap (λ (x : Shape). x .first) (s .is)
 
-  pub walk-start : (filter : List ℕ) → Walk im kind shape (shape .first) 0 filter
-  walk-start filter =
+  -- it begins after blocks that keep their rule; of components at the first block, as no name is marked in the filter yet
+  pub walk-from : (filter : List ℕ) (fine : ℕ) → KeptUpto im kind (firstBlock im kind + fine) → (kind ≡ Component → fine ≡ 0)
+      → Walk im kind shape (shape .first + fine) (shape .capacity * fine) filter
+  walk-from filter fine kept first =
       record {
         low = omega arith;
-        stands = rw (sub-self, mul-zero);
-        before = λ c low high. absurd (omega (arith, first-is));
+        stands = rw add-sub-cancel-left;
+        before = rw first-is kept;
         passed = λ more. record {
-          names = λ e. record { each = λ j h. absurd (omega arith) };
-          marks = λ e. marked-first _ _ _;
+          names = λ e. record { each = λ j h. absurd (omega (arith, place e)) };
+          marks = λ e. rw (place e) (marked-first _ _ _);
         };
       }
+    where
+      place : kind ≡ Component → shape .capacity * fine ≡ 0
+      place e = rw (first e, mul-zero)
 
   module _ {b from : ℕ} {filter : List ℕ} (w : Walk im kind shape b from filter) where
     -- no block of the kind is left
@@ -112,7 +124,7 @@ module _ {im : List ℕ} {kind : Kind} {shape : Shape} (s : Shaped im kind shape
               content-bad : contentRule im b ≡ false
               content-bad = unfold contentRule in rw (laid, ne-eqb (firstBadRecord im b) (contentsOf im b .to) (omega (arith, found, to-is)))
 
-          kept-here : to ≤ i → contentRule im b ≡ true
+          pub kept-here : to ≤ i → contentRule im b ≡ true
           unfolding contentRule
           kept-here l =
               let upto : firstBadRecord im b ≡ contentsOf im b .to = omega (arith, found, to-is, found-high) in
@@ -128,6 +140,6 @@ module _ {im : List ℕ} {kind : Kind} {shape : Shape} (s : Shaped im kind shape
               record {
                 low = omega (arith, w .low);
                 stands = ap (λ (k : ℕ). k + shape .capacity) (w .stands) ∙ sym more-by;
-                before = λ c low high. let h : c ≤ b = omega arith in ⊎-elim (λ e. rw e (kept-here l)) (λ m. w .before c low m) (eq-or-lt-of-le h);
+                before = kept-next im kind b (w .before) (kept-here l);
                 passed = λ m. let e : to ≡ from + shape .capacity = omega arith in rw (← e) (passed end);
               }

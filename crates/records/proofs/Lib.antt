@@ -16,3 +16,5 @@ pub mod Running
 pub mod SetWords
 pub mod LabelTests
 pub mod ComponentTests
+pub mod FineLabels
+pub mod PassedLabels

@@ -5,5 +5,6 @@ pub mod Existing
 pub mod Rules
 pub mod LabelRuns
 pub mod ComponentRuns
+pub mod LabelBlocks
 pub mod Fresh
 pub mod Kinds

@@ -1,21 +1,22 @@
 // The blocks of one kind, one after the other, up to the first that breaks a rule. The walk works out the kind's shape once; from block to
 // block only sums are made.
-ghost use Prim.Native.Nat.{_-_, _*_, _≤_, _<_};
+ghost use Prim.Native.Nat.{_+_, _-_, _*_, _≤_, _<_};
 ghost use mathlib.Core.Path.{_≡_};
 ghost use lib.ListN.{length};
 ghost use Rattle.fields.specs.Scan.{firstBad};
 ghost use Rattle.header.specs.declared.layout.Kind.the-variants.{Component};
 ghost use Rattle.header.specs.declared.edition.Edition.the-variants.{One};
-ghost use Rattle.header.specs.Layout.{countsOf, recordSize, countOf, blocksNeeded, Fitted, recordsOf, Shaped, contentsOf};
+ghost use Rattle.header.specs.Layout.{countsOf, recordSize, countOf, firstBlock, blocksNeeded, Fitted, recordsOf, Shaped, contentsOf};
 ghost use Rattle.header.specs.Limits.{Counted};
 ghost use Rattle.records.specs.Existing.{Exist};
 ghost use Rattle.records.specs.Fresh.{NamesKept, HoldsFrom};
 ghost use Rattle.records.specs.Rules.{recordIn, freshRule, layoutRule, firstBadRecord};
-ghost use Rattle.records.specs.Kinds.{OfKind, RunOf, Passed, FoundIn};
+ghost use Rattle.records.specs.Kinds.{OfKind, RunOf, KeptUpto, Passed, FoundIn};
 use crate::existing::Existing;
 use crate::fresh::Filter;
 use crate::fresh::Source;
 use crate::fresh::first_stale;
+use crate::label_blocks::fine_label_blocks;
 use crate::runs::first_bad_after;
 use fields::numbers::all_zero;
 use header::contents::lower;
@@ -118,14 +119,29 @@ fn first_bad_held(
     first_known(image, counts, kind, seen, from, from + j, run)
 }
 
+// How many of the kind's first blocks are known to be fine; asked of labels alone, which have the most blocks.
+fn fine_blocks(image: &[u8], existing: Existing, shape: Shape, kind: Kind) -> usize
+    requires { ⌜ Counted (now image) × (Exist existing × (existing .counts ≡ countsOf (now image))) ⌝ }
+    requires { ⌜ Shaped (now image) kind shape ⌝ }
+    ensures { λ r. ⌜ KeptUpto (now (image .entry)) kind (firstBlock (now (image .entry)) kind + r) × (shape .capacity * r ≤ shape .count) ⌝ }
+    ensures { λ r. ⌜ (kind ≡ Component → r ≡ 0) ⌝ }
+{
+    match kind {
+        Kind::Component => 0,
+        Kind::Label => fine_label_blocks(image, existing, shape),
+        Kind::User => 0,
+    }
+}
+
 // The first block of the kind that breaks a rule, and which.
 pub fn first_bad_of_kind(image: &[u8], existing: Existing, kind: Kind, seen: &mut Filter) -> Found
     requires { ⌜ Counted (now image) × (Exist existing × (existing .counts ≡ countsOf (now image))) ⌝ }
     ensures { λ r. ⌜ FoundIn (now (image .entry)) kind r ⌝ }
 {
     let shape = layout::shape_of(image, kind);
-    let mut b = shape.first;
-    let mut from = 0;
+    let fine = fine_blocks(image, existing, shape, kind);
+    let mut b = shape.first + fine;
+    let mut from = shape.capacity * fine;
     while from < shape.count {
         let to = lower(shape.count, from + shape.capacity);
         let end = 4 + shape.size * (to - from);

@@ -5,6 +5,7 @@ pub mod existing;
 pub mod fresh;
 pub mod group_sets;
 pub mod kinds;
+pub mod label_blocks;
 pub mod label_run;
 pub mod labels;
 pub mod runs;
