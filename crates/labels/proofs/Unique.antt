@@ -1,6 +1,6 @@
 -- In an accepted image the names of a class differ, so that a component that has a name is the one that is found. Assumes nothing.
 use Prim.Native.Nat.{ℕ, zero-le, _+_, _≤_, _<_}
-use mathlib.Core.Path.{_≡_, refl, sym, _∙_}
+use mathlib.Core.Path.{_≡_, refl, sym, _∙_, subst}
 use mathlib.Core.Bool.{Bool, true, false, cond}
 use mathlib.Core.List.{List}
 use native.Mathlib.Omega.{arith}
@@ -14,10 +14,11 @@ use Rattle.image.specs.Check.{IsAccepted}
 use Rattle.image.specs.Lookup.{componentIndex}
 use Rattle.image.proofs.Placed.{placed-index}
 use Rattle.image.proofs.Policy.{components-apart}
+use Rattle.labels.specs.declared.names.Found.{Found}
 use Rattle.labels.specs.declared.names.Found.the-variants.{At}
 use Rattle.labels.specs.Parse.{matches, classCount, placeOfName}
 use Rattle.labels.specs.Lists.{foundOf}
-use Rattle.labels.specs.Hints.{HasName}
+use Rattle.labels.specs.Hints.{HasName, ToldOf}
 use Rattle.labels.proofs.Classes.{class-has}
 
 module _ (im : List ℕ) (class : ℕ) where
@@ -57,6 +58,13 @@ module _ (im : List ℕ) (acc : IsAccepted im) (class : ℕ) (low : 1 ≤ class)
       found-unique _ (classCount im class) 0 p zero-le (omega arith) (has h)
       (λ j from upto e. names-apart j (omega arith) (same-means _ _ e ∙ sym (same-means _ _ (has h))))
 
-  pub found-unique-at : (name : List ℕ) → HasName im class name p → At p ≡ foundOf im class name
+  found-unique-at : (name : List ℕ) → HasName im class name p → At p ≡ foundOf im class name
   unfolding foundOf
   found-unique-at name has = rw (place-unique name has, lt-ltb p (classCount im class) h)
+
+-- a place that hints tell is the one that is found
+pub told-at : (im : List ℕ) → IsAccepted im → (class : ℕ) → 1 ≤ class → class ≤ 3 → (name : List ℕ) (told : Found) (p : ℕ) → told ≡ At p
+    → ToldOf im class name told → At p ≡ foundOf im class name
+told-at im acc class low high name told p e holds =
+    let at = subst (λ (x : Found). ToldOf im class name x) e holds in
+    found-unique-at im acc class low high p (at .0) name (at .1)

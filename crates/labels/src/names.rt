@@ -7,7 +7,7 @@ ghost use Rattle.records.specs.Fields.{componentName};
 ghost use Rattle.image.specs.Check.{IsAccepted};
 ghost use Rattle.labels.specs.Parse.{matches, placeOfName};
 ghost use Rattle.labels.specs.Lists.{foundOf};
-ghost use Rattle.labels.specs.Hints.{HasName};
+ghost use Rattle.labels.specs.Hints.{ToldOf};
 use crate::hints::Hints;
 use crate::hints::name_number;
 use crate::hints::wide;
@@ -52,10 +52,10 @@ fn is_named(image: &[u8], i: usize, name: &[u8]) -> bool
     same_folded(components::component_name(image, i), name)
 }
 
-// A place of the class at which the hints tell the name and the component has it; the class's count where they tell none.
-fn hinted(image: &[u8], class: u8, hints: &Hints, name: &[u8]) -> usize
+// A place of the class at which the hints tell the name and the component has it. Where they tell none, nothing is known: the class may have the name.
+fn hinted(image: &[u8], class: u8, hints: &Hints, name: &[u8]) -> Found
     requires { ⌜ Counted (now image) ⌝ }
-    ensures { λ r. ⌜ HasName (now (image .entry)) class (now (name .entry)) r ⌝ }
+    ensures { λ r. ⌜ ToldOf (now (image .entry)) class (now (name .entry)) r ⌝ }
 {
     let count = layout::class_count(image, class);
     let start = layout::class_first(image, class);
@@ -65,12 +65,12 @@ fn hinted(image: &[u8], class: u8, hints: &Hints, name: &[u8]) -> usize
         let p = wide(hints[k]);
         if p < count {
             if is_named(image, start + p, name) {
-                return p;
+                return Found::At(p);
             }
         }
         k += 1;
     }
-    count
+    Found::Nothing
 }
 
 // The same as `find`. The names of a class differ, so that a component that has the name is the only one.
@@ -78,9 +78,9 @@ pub fn find_by(image: &[u8], class: u8, hints: &Hints, name: &[u8]) -> Found
     requires { ⌜ IsAccepted (now image) × ((1 ≤ class) × (class ≤ 3)) ⌝ }
     ensures { λ r. ⌜ r ≡ foundOf (now (image .entry)) class (now (name .entry)) ⌝ }
 {
-    let p = hinted(image, class, hints, name);
-    if p < layout::class_count(image, class) {
-        return Found::At(p);
-    }
-    find(image, class, name)
+    let told = hinted(image, class, hints, name);
+    let Found::At(p) = told else {
+        return find(image, class, name);
+    };
+    Found::At(p)
 }
