@@ -2,6 +2,7 @@
 pub mod Alphabet
 pub mod Reading
 pub mod Runs
+pub mod PartEnds
 pub mod Splitting
 pub mod Classes
 pub mod Unique

@@ -6,15 +6,16 @@ use mathlib.Core.List.{List, [], _∷_}
 use native.Mathlib.Nat.{add-zero, add-sub-cancel-left, le-refl}
 use native.Mathlib.Numerals.{add-one}
 use native.Mathlib.Omega.{arith}
-use borrow.Author.Tests.{eq-eqb, ne-eqb, lt-ltb, le-ltb, ltb-true, ltb-false}
+use borrow.Author.Tests.{eq-eqb, eqb-true, ne-eqb, lt-ltb, le-ltb, ltb-true, ltb-false, not-false}
 use lib.Dec.{eqb, ltb}
 use lib.ListN.{length, getD, take, drop, drop-of-length-le, length-drop}
 use lib.Seq.{drop-cons, drop-drop}
 use Rattle.labels.specs.Text.{onto, split}
-use Rattle.fields.specs.Scan.{everywhere}
-use Rattle.fields.proofs.Scan.{everywhere-at}
-use Rattle.fields.proofs.Everywhere.{everywhere-within}
+use Rattle.fields.specs.Scan.{firstBad, everywhere}
+use Rattle.fields.proofs.Scan.{bad-from, bad-at, good-before, everywhere-at}
+use Rattle.fields.proofs.Everywhere.{everywhere-holds, everywhere-within}
 use Rattle.labels.specs.Lists.{untilMark, lacksAt, afterMark}
+use Rattle.labels.proofs.PartEnds.{ends-inside}
 
 -- ---- the loop: what is left gives what the whole gives
 module _ (mark : ℕ) (s : List ℕ) (i w : ℕ) where
@@ -39,6 +40,19 @@ until-past mark s i w (suc n) h inv good =
     let other = everywhere-at (lacksAt mark s) (suc n) i (i + n) good (omega arith) (omega arith) in
     let e : i + suc n ≡ i + n + 1 = omega arith in
     rw e (until-step mark s (i + n) w (omega arith) before (λ q. true≢false (sym other ∙ rw (eq-eqb _ _ q))))
+
+-- one of n places that holds the mark ends the search
+pub until-within : (mark : ℕ) (s : List ℕ) (i w n : ℕ) → i + n ≤ length s → i + untilMark mark (drop i s) ≡ w
+    → everywhere (lacksAt mark s) n i ≡ false → firstBad (lacksAt mark s) n i ≡ w
+until-within mark s i w n h inv some =
+    let rule = lacksAt mark s in
+    let f = firstBad rule n i in
+    let low : i ≤ f = bad-from rule n i in
+    let high : f < i + n = ends-inside rule n i some in
+    let q : i + (f - i) ≡ f = omega arith in
+    let good = everywhere-holds rule (f - i) i (λ j a b. good-before rule n i j a (omega arith)) in
+    let past = rw q at (until-past mark s i w (f - i) (omega arith) inv good) in
+    until-stop mark s f w (omega arith) past (eqb-true _ _ (not-false _ (bad-at rule n i high)))
 
 -- ---- the first part ends at the first mark
 pub ltb-suc : (u n : ℕ) → ltb u n ≡ ltb (suc u) (suc n)

@@ -12,7 +12,8 @@ use crate::hints::Hints;
 use crate::hints::fill;
 use crate::names::Found;
 use crate::names::find_by;
-use crate::scan::past_parts;
+use crate::scan::mark_in_part;
+use crate::scan::part_lacks;
 use sets::groups::Groups;
 use sets::word;
 
@@ -44,12 +45,12 @@ fn list_read(names: Names, words: &[u64]) -> ListRead
     }
 }
 
-// The first place from `at` on that holds the mark; the text's length where none does.
-pub fn mark_from(text: &[u8], at: usize, mark: u8) -> usize
+// The same as `mark_from`, byte by byte, for the last bytes, which make no part.
+fn rest_mark(text: &[u8], at: usize, mark: u8) -> usize
     requires { ⌜ at ≤ length (now text) ⌝ }
     ensures { λ r. ⌜ (r ≡ at + untilMark mark (drop at (now (text .entry)))) × ((at ≤ r) × (r ≤ length (now (text .entry)))) ⌝ }
 {
-    let mut i = past_parts(text, at, mark);
+    let mut i = at;
     while i < text.len() {
         if text[i] == mark {
             return i;
@@ -57,6 +58,21 @@ pub fn mark_from(text: &[u8], at: usize, mark: u8) -> usize
         i += 1;
     }
     i
+}
+
+// The first place from `at` on that holds the mark; the text's length where none does.
+pub fn mark_from(text: &[u8], at: usize, mark: u8) -> usize
+    requires { ⌜ at ≤ length (now text) ⌝ }
+    ensures { λ r. ⌜ (r ≡ at + untilMark mark (drop at (now (text .entry)))) × ((at ≤ r) × (r ≤ length (now (text .entry)))) ⌝ }
+{
+    let mut i = at;
+    while 16 <= text.len() - i {
+        if !part_lacks(text, i, mark) {
+            return mark_in_part(text, i, mark);
+        }
+        i += 16;
+    }
+    rest_mark(text, i, mark)
 }
 
 // A list is one name, or one name, a comma and a list. `words` have the names before this one.

@@ -1,15 +1,18 @@
 // Passing over text by parts of 16 bytes, each looked at in a loop without a branch, so that it becomes vector code. Only a part in which the search
-// ends, and the last bytes, are then looked at one by one.
-ghost use Prim.Native.Nat.{_+_, _-_, _≤_};
+// ends, and the last bytes, are then looked at one by one. In such a part the search needs no test for the text's end.
+ghost use Prim.Native.Nat.{_+_, _≤_};
 ghost use mathlib.Core.Path.{_≡_};
-ghost use lib.ListN.{length, drop};
+ghost use mathlib.Core.Bool.{false};
+ghost use lib.ListN.{length};
 ghost use Rattle.fields.specs.Scan.{firstBad, everywhere};
 ghost use Rattle.labels.specs.Text.{textByte};
 ghost use Rattle.labels.specs.States.{textByteAt};
-ghost use Rattle.labels.specs.Lists.{untilMark, lacksAt};
+ghost use Rattle.labels.specs.Lists.{lacksAt};
+use fields::names::name_byte;
+use fields::names::small_letter;
 
 // Does none of the 16 bytes from i on hold the mark?
-fn part_lacks(text: &[u8], i: usize, mark: u8) -> bool
+pub fn part_lacks(text: &[u8], i: usize, mark: u8) -> bool
     requires { ⌜ i + 16 ≤ length (now text) ⌝ }
     ensures { λ r. ⌜ r ≡ everywhere (lacksAt mark (now (text .entry))) 16 i ⌝ }
 {
@@ -22,22 +25,26 @@ fn part_lacks(text: &[u8], i: usize, mark: u8) -> bool
     lacks
 }
 
-// A place from `at` on, before which no byte holds the mark.
-pub fn past_parts(text: &[u8], at: usize, mark: u8) -> usize
-    requires { ⌜ at ≤ length (now text) ⌝ }
-    ensures { λ r. ⌜ (r + untilMark mark (drop r (now (text .entry))) ≡ at + untilMark mark (drop at (now (text .entry)))) × ((at ≤ r) × (r ≤ length (now (text .entry)))) ⌝ }
+// The first of the 16 bytes from i on that holds the mark; one of them does.
+pub fn mark_in_part(text: &[u8], i: usize, mark: u8) -> usize
+    requires { ⌜ (i + 16 ≤ length (now text)) × (everywhere (lacksAt mark (now text)) 16 i ≡ false) ⌝ }
+    ensures { λ r. ⌜ r ≡ firstBad (lacksAt mark (now (text .entry))) 16 i ⌝ }
 {
-    let mut i = at;
-    while 16 <= text.len() - i {
-        if !part_lacks(text, i, mark) {
-            return i;
-        }
-        i += 16;
+    let mut k = i;
+    while text[k] != mark {
+        k += 1;
     }
-    i
+    k
 }
 
-// Is it a byte that a name in label text may have? The same as `text_byte`, without a branch; byte by byte that one is quicker, as it leaves early.
+// A byte that a name in label text may have: one that an image's name may have, or a small letter.
+pub fn text_byte(x: u8) -> bool
+    ensures { λ r. ⌜ r ≡ textByte x ⌝ }
+{
+    name_byte(x) | small_letter(x)
+}
+
+// The same without a branch; byte by byte `text_byte` is quicker, as it leaves early.
 fn in_text(x: u8) -> bool
     ensures { λ r. ⌜ r ≡ textByte x ⌝ }
 {
@@ -45,7 +52,7 @@ fn in_text(x: u8) -> bool
 }
 
 // Is each of the 16 bytes from i on one of a name?
-fn part_in_text(text: &[u8], i: usize) -> bool
+pub fn part_in_text(text: &[u8], i: usize) -> bool
     requires { ⌜ i + 16 ≤ length (now text) ⌝ }
     ensures { λ r. ⌜ r ≡ everywhere (textByteAt (now (text .entry))) 16 i ⌝ }
 {
@@ -58,17 +65,14 @@ fn part_in_text(text: &[u8], i: usize) -> bool
     named
 }
 
-// A place from `at` on, before which each byte is one of a name.
-pub fn past_text(text: &[u8], at: usize) -> usize
-    requires { ⌜ at ≤ length (now text) ⌝ }
-    ensures { λ r. ⌜ (firstBad (textByteAt (now (text .entry))) (length (now (text .entry)) - r) r ≡ firstBad (textByteAt (now (text .entry))) (length (now (text .entry)) - at) at) × (r ≤ length (now (text .entry))) ⌝ }
+// The first of the 16 bytes from i on that is of no name; one of them is.
+pub fn stop_in_part(text: &[u8], i: usize) -> usize
+    requires { ⌜ (i + 16 ≤ length (now text)) × (everywhere (textByteAt (now text)) 16 i ≡ false) ⌝ }
+    ensures { λ r. ⌜ r ≡ firstBad (textByteAt (now (text .entry))) 16 i ⌝ }
 {
-    let mut i = at;
-    while 16 <= text.len() - i {
-        if !part_in_text(text, i) {
-            return i;
-        }
-        i += 16;
+    let mut k = i;
+    while text_byte(text[k]) {
+        k += 1;
     }
-    i
+    k
 }

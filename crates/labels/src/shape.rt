@@ -3,12 +3,12 @@ ghost use Prim.Native.Nat.{_-_, _≤_};
 ghost use mathlib.Core.Path.{_≡_};
 ghost use lib.ListN.{length};
 ghost use Rattle.fields.specs.Scan.{firstBad};
-ghost use Rattle.labels.specs.Text.{textByte, shapeRule};
+ghost use Rattle.labels.specs.Text.{shapeRule};
 ghost use Rattle.labels.specs.States.{textByteAt, afterNameByte, afterComma, afterColon, afterByte, afterAll, endsWell};
 ghost use Rattle.labels.specs.declared.shape.State.the-variants.{Start};
-use crate::scan::past_text;
-use fields::names::name_byte;
-use fields::names::small_letter;
+use crate::scan::part_in_text;
+use crate::scan::stop_in_part;
+use crate::scan::text_byte;
 
 // How far a reading has come. A name begins at Start, Lists, FirstNext and Second; Level, First and InSecond stand inside one.
 pub enum State {
@@ -24,13 +24,6 @@ pub enum State {
     InSecond,
     // No text that begins so has the shape.
     Wrong,
-}
-
-// A byte that a name in label text may have: one that an image's name may have, or a small letter.
-fn text_byte(x: u8) -> bool
-    ensures { λ r. ⌜ r ≡ textByte x ⌝ }
-{
-    name_byte(x) | small_letter(x)
 }
 
 fn after_name_byte(state: State) -> State
@@ -111,12 +104,12 @@ fn ends_well(state: State) -> bool
     }
 }
 
-// The first place from `at` on whose byte is of no name; the text's length where there is none.
-fn name_end(text: &[u8], at: usize) -> usize
+// The same as `name_end`, byte by byte, for the last bytes, which make no part.
+fn rest_end(text: &[u8], at: usize) -> usize
     requires { ⌜ at ≤ length (now text) ⌝ }
     ensures { λ r. ⌜ r ≡ firstBad (textByteAt (now (text .entry))) (length (now (text .entry)) - at) at ⌝ }
 {
-    let mut i = past_text(text, at);
+    let mut i = at;
     while i < text.len() {
         if !text_byte(text[i]) {
             return i;
@@ -124,6 +117,21 @@ fn name_end(text: &[u8], at: usize) -> usize
         i += 1;
     }
     i
+}
+
+// The first place from `at` on whose byte is of no name; the text's length where there is none.
+fn name_end(text: &[u8], at: usize) -> usize
+    requires { ⌜ at ≤ length (now text) ⌝ }
+    ensures { λ r. ⌜ r ≡ firstBad (textByteAt (now (text .entry))) (length (now (text .entry)) - at) at ⌝ }
+{
+    let mut i = at;
+    while 16 <= text.len() - i {
+        if !part_in_text(text, i) {
+            return stop_in_part(text, i);
+        }
+        i += 16;
+    }
+    rest_end(text, i)
 }
 
 // A name's later bytes leave the state as its first one does, so they are passed over.

@@ -1,37 +1,38 @@
 use Prim.Native.Nat.{_-_, _≤_}
-use mathlib.Core.Path.{_≡_, sym, _∙_}
+use mathlib.Core.Path.{_≡_, refl, sym, _∙_}
 use native.Mathlib.Omega.{arith}
-use borrow.Author.Needs.{needs}
 use borrow.Author.Tests.{not-true, not-false}
 use lib.ListN.{length}
 use Rattle.fields.specs.Scan.{firstBad}
-use Rattle.fields.proofs.Scan.{loop-bad, loop-good, loop-end}
+use Rattle.fields.proofs.Everywhere.{everywhere-skip}
 use Rattle.labels.specs.States.{textByteAt}
+use Rattle.labels.proofs.PartEnds.{ends-search}
 use Rattle.labels.proofs.shape.name_end.Statement.{statement}
 use Rattle.labels.proofs.shape.name_end.Tie as tie
 
 abbrev Inv-loop : tie.InvT-loop
-Inv-loop text at i₀ i = (i ≤ length text) × (firstBad (textByteAt text) (length text - i) i ≡ firstBad (textByteAt text) (length text - at) at)
+Inv-loop text at i₀ i = (firstBad (textByteAt text) (length text - i) i ≡ firstBad (textByteAt text) (length text - at) at) × (i ≤ length text)
 
 abbrev μ-loop : tie.MeasureT-loop
 μ-loop text at i₀ i = length text - i
 
-past-text-requires : tie.Need-past-text-requires Inv-loop μ-loop
-past-text-requires c κs = search needs
-
 loop-holds : tie.Need-loop-holds Inv-loop μ-loop
-loop-holds c = let past = c .past-text .ensures in (past .1, past .0)
+loop-holds c = (refl, omega arith)
 
-shared-slice-read-text-byte : tie.Need-shared-slice-read-text-byte Inv-loop μ-loop
-shared-slice-read-text-byte c = omega arith
+sub-loop : tie.Need-sub-loop Inv-loop μ-loop
+sub-loop c = omega arith
 
-text-byte-requires : tie.Need-text-byte-requires Inv-loop μ-loop
-text-byte-requires c κs = search needs
+part-in-text-requires : tie.Need-part-in-text-requires Inv-loop μ-loop
+part-in-text-requires c κs = omega arith
+
+stop-in-part-requires : tie.Need-stop-in-part-requires Inv-loop μ-loop
+stop-in-part-requires c κs = (omega arith, sym (c .before .part-in-text .ensures) ∙ not-true _ (c .if1 .taken))
 
 returns : tie.Need-returns Inv-loop μ-loop
 returns c =
     let turn = c .before .before .before in
-    loop-bad _ _ _ _ (turn .loop-test .taken) (turn .before .loop .inv .1) (sym (c .before .text-byte .ensures) ∙ not-true _ (c .if1 .taken))
+    let ends = sym (c .before .before .part-in-text .ensures) ∙ not-true _ (c .before .if1 .taken) in
+    c .stop-in-part .ensures ∙ ends-search _ _ _ ends _ _ (omega arith) (turn .before .loop .inv .0)
 
 add-i : tie.Need-add-i Inv-loop μ-loop
 add-i c = omega arith
@@ -41,11 +42,15 @@ loop-less c = omega arith
 
 loop-again : tie.Need-loop-again Inv-loop μ-loop
 loop-again c =
-    let turn = c .before .before .before in
-    (omega arith, loop-good _ _ _ _ (turn .loop-test .taken) (turn .before .loop .inv .1) (sym (c .before .text-byte .ensures) ∙ not-false _ (c .if1 .left)))
+    let turn = c .before .before in
+    let named = sym (c .before .part-in-text .ensures) ∙ not-false _ (c .if1 .left) in
+    (everywhere-skip _ _ _ _ 16 (omega arith) (turn .before .loop .inv .0) named, omega arith)
+
+rest-end-requires : tie.Need-rest-end-requires Inv-loop μ-loop
+rest-end-requires c κs = omega arith
 
 returns-2 : tie.Need-returns-2 Inv-loop μ-loop
-returns-2 c = loop-end _ _ _ _ (c .loop-test .left) (c .before .loop .inv .1)
+returns-2 c = c .rest-end .ensures ∙ c .before .before .loop .inv .0
 
 pub name-end-spec : {M : Type 1} → statement M
 name-end-spec =
@@ -53,12 +58,13 @@ name-end-spec =
     (tie.spec
     Inv-loop
     μ-loop
-    past-text-requires
     loop-holds
-    shared-slice-read-text-byte
-    text-byte-requires
+    sub-loop
+    part-in-text-requires
+    stop-in-part-requires
     returns
     add-i
     loop-less
     loop-again
+    rest-end-requires
     returns-2)

@@ -1,7 +1,7 @@
 use borrow.Author.Needs.{needs}
 use Rattle.labels.specs.Text.{textByte}
-use Rattle.labels.proofs.shape.text_byte.Statement.{statement}
-use Rattle.labels.proofs.shape.text_byte.Tie as tie
+use Rattle.labels.proofs.scan.text_byte.Statement.{statement}
+use Rattle.labels.proofs.scan.text_byte.Tie as tie
 
 name-byte-requires : tie.Need-name-byte-requires
 name-byte-requires c κs = search needs
