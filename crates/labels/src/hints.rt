@@ -1,6 +1,6 @@
 // Where the names of a class probably stand. A list of many names first writes the place of every component down under a number made of its name,
 // so that a name is mostly found by one comparison. Nothing is claimed of these places: whoever reads one compares the name there.
-ghost use Prim.Native.Nat.{_+_, _<_, _≤_};
+ghost use Prim.Native.Nat.{_+_, _*_, _<_, _≤_};
 ghost use mathlib.Core.Path.{_≡_};
 ghost use lib.ListN.{length};
 ghost use Rattle.header.specs.Limits.{Counted};
@@ -45,6 +45,17 @@ fn letter(x: u8) -> usize
     (x % 32) as usize
 }
 
+// A sum of letters as a number below 1,021, by products, as a remainder by 1,021 takes longer. The sum's halves are added, so that every letter counts.
+// The first factor is 2^32 divided by the golden ratio, so that sums next to each other come to lie apart.
+fn scaled(sum: u64) -> usize
+    requires { ⌜ sum ≤ 8 * lettersOf8 ⌝ }
+    ensures { λ r. ⌜ r < 1021 ⌝ }
+{
+    let folded = (sum + sum / 4294967296) % 4294967296;
+    let spread = folded * 2654435769 % 4294967296;
+    (spread * 1021 / 4294967296) as usize
+}
+
 // The number of a name of fewer than 8 bytes.
 fn short_number(name: &[u8]) -> usize
     ensures { λ r. ⌜ r < 1021 ⌝ }
@@ -56,7 +67,7 @@ fn short_number(name: &[u8]) -> usize
     if n < 4 {
         return letter(name[0]) + 3 * letter(name[n / 2]) + 23 * letter(name[n - 1]);
     }
-    ((letters4(name, 0) + 2 * letters4(name, n - 4)) % 1021) as usize
+    scaled(letters4(name, 0) + 2 * letters4(name, n - 4))
 }
 
 // A number made of every byte of a name of at most 32 bytes.
@@ -70,7 +81,7 @@ pub fn name_number(name: &[u8]) -> usize
     let last = n - 8;
     let first_two = letters8(name, 0) + 2 * letters8(name, lower(8, last));
     let last_two = 4 * letters8(name, lower(16, last)) + letters8(name, last);
-    ((first_two + last_two) % 1021) as usize
+    scaled(first_two + last_two)
 }
 
 // Writes the place down at the first of four that holds 0, or at the last of them.
