@@ -7,8 +7,8 @@ cd "$(dirname "$0")"
 unset BRAWNESK_LIB_DIR
 
 # A call as the bench program names it, with @ and its image if that isn't the largest of edition 1; what is counted: the whole
-# call, its share for each row, how many times another call it is, how many times the plain Rust version's it is, or the bytes of its
-# stack; and the limit. One limit only keeps what was reached: set-label-longest, for whose text there is no mark.
+# call, its share for each row, what it takes for each label beyond a verdict of the same session, how many times another call it is, how
+# many times the plain Rust version's it is, or the bytes of its stack; and the limit.
 limits='
 check                whole    190000
 check@parent-higher  check    1.2
@@ -25,11 +25,16 @@ update-10            row      60
 update-64            row      60
 parse-longest        whole    243741
 print-longest        whole    203111
-set-label-longest    whole    245000
+set-label-longest    whole    222815
 rows-20              check    1.05
 write                check    2
 write@parent-higher  check@parent-higher  2
 write@parent-lower   check@parent-lower   2
+map@full+top         label    40
+judge-map@full+top   label    40
+map@wide+top         label    40
+judge-map@wide+top   label    40
+map@release+top      label    40
 mapped-10            read-10  1
 mapped-64            read-64  1
 mapped-10@wide       read-10@wide     1
@@ -64,18 +69,28 @@ unit() {
     case "$2" in
     whole | stack) echo 1 ;;
     row) "$bench" rows "$1" ;;
+    label) "$bench" maps | awk -v call="$1" '$1 == call { print $3 }' ;;
     plain) echo "${counts[plain-$1]}" ;;
     *) echo "${counts[ours-$2]}" ;;
     esac
 }
 
-# What is measured of a call: its instructions, or the bytes of its stack.
+# The call that a call on maps is held beside.
+beside() {
+    "$bench" maps | awk -v call="$1" '$1 == call { print $5 }'
+}
+
+# What is measured of a call: its instructions, those beyond the call that it is held beside, or the bytes of its stack.
 measured() {
-    if [ "$2" = stack ]; then
-        "$bench" ours "$1" stack
-    else
-        echo "${counts[ours-$1]}"
-    fi
+    case "$2" in
+    stack) "$bench" ours "$1" stack ;;
+    label)
+        local other
+        other=$(beside "$1")
+        echo $((${counts[ours-$1]} - ${counts[ours-$other]}))
+        ;;
+    *) echo "${counts[ours-$1]}" ;;
+    esac
 }
 
 lines=0
@@ -86,13 +101,14 @@ while read -r call what limit; do
     if [ "$what" != stack ]; then counted ours "$call"; fi
     case "$what" in
     whole | row | stack) ;;
+    label) counted ours "$(beside "$call")" ;;
     plain) counted plain "$call" ;;
     *) counted ours "$what" ;;
     esac
     value=$(measured "$call" "$what")
     divisor=$(unit "$call" "$what")
     figure=$(awk -v count="$value" -v divisor="$divisor" -v what="$what" \
-        'BEGIN { printf what == "whole" || what == "stack" ? "%d" : what == "row" ? "%.1f" : "%.4f", count / divisor }')
+        'BEGIN { printf what == "whole" || what == "stack" ? "%d" : what == "row" || what == "label" ? "%.1f" : "%.4f", count / divisor }')
     verdict=$(awk -v count="$value" -v divisor="$divisor" -v limit="$limit" \
         'BEGIN { print (count > limit * divisor + 0.000001 ? "PASSED OVER" : "ok") }')
     printf '%-20s %12s %12s %10s  %-9s %s\n' "$call" "$value" "$figure" "$limit" "$what" "$verdict"
