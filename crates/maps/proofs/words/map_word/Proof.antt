@@ -1,20 +1,24 @@
-use Prim.Native.Nat.{ℕ, _+_, _-_, _*_, _≤_, _<_, min}
+use Prim.Native.Nat.{ℕ, _+_, _-_, _*_, _^_, _≤_, _<_, min}
 use mathlib.Core.Path.{_≡_, refl, sym, ap, subst, _∙_}
 use mathlib.Core.Bool.{Bool}
-use mathlib.Core.Logic.{⊎-elim}
 use mathlib.Core.List.{List}
 use native.Mathlib.Nat.{add-zero}
 use native.Mathlib.Omega.{arith}
 use borrow.Author.Needs.{needs}
-use Rattle.sets.specs.Sets.{one, union, collect}
-use Rattle.sets.proofs.Has.{collect-put, collect-pass}
+use lib.ListN.{length, take, drop}
+use Rattle.fields.specs.Bytes.{part}
+use Rattle.sets.specs.Sets.{collect}
+use Rattle.header.specs.declared.edition.Edition.{Edition}
 use Rattle.header.specs.declared.layout.Kind.the-variants.{Label}
 use Rattle.header.specs.declared.layout.Shape.{Shape}
-use Rattle.header.specs.Layout.{labels, Shaped, Standing}
-use Rattle.header.proofs.Inside.{record-upto}
+use Rattle.header.specs.Layout.{recordSize, recordOffset, labels, Shaped, Standing}
+use Rattle.header.proofs.Inside.{slot-below, record-upto}
+use Rattle.labels.specs.Label.{recordLabel}
 use Rattle.access.specs.Rights.{Rights, rightsOf}
+use Rattle.access.specs.Verdicts.{readsLabel}
 use Rattle.maps.specs.Map.{readsRecord}
 use Rattle.maps.proofs.Bits.{word-upto}
+use Rattle.maps.proofs.Runs.{Run, run-joined, size-is, run-fits, run-whole, run-count, run-reads}
 use Rattle.maps.proofs.words.map_word.Statement.{statement}
 use Rattle.maps.proofs.words.map_word.Tie as tie
 
@@ -27,11 +31,45 @@ count-is : {im : List ℕ} {shape : Shape} → Shaped im Label shape → shape .
 count-is s = ap (λ (x : Shape). x .count) (s .is)
 
 abbrev Inv-loop : tie.InvT-loop
-Inv-loop image view shape edition k first count here₀ set₀ i₀ here set i =
-    (i ≤ count) × (Standing shape (first + i) here × (set ≡ collect (told image (rightsOf view) k) i))
+Inv-loop image view shape edition k first count here₀ bits₀ i₀ here bits i =
+    (i ≤ count) × (Standing shape (first + i) here × (bits ≡ collect (told image (rightsOf view) k) i))
 
 abbrev μ-loop : tie.MeasureT-loop
-μ-loop image view shape edition k first count here₀ set₀ i₀ here set i = count - i
+μ-loop image view shape edition k first count here₀ bits₀ i₀ here bits i = count - i
+
+-- the records that a turn takes
+run-at : (c : tie.After-lower2 Inv-loop μ-loop)
+    → let loop = c .before .before in
+    let a = loop .before .before .before .before .args in
+    Run (a .image .now) (a .shape) (64 * a .k + loop .loop .i) (c .lower2 .result)
+run-at c =
+    let turn = c .before in
+    let l = turn .before .loop in
+    let long = turn .before .before in
+    let start = long .before .before .before in
+    let a = start .args in
+    let shaped = start .pre .0 .1 .0 in
+    let stand = l .inv .1 .0 in
+    record {
+      fitted = start .pre .0 .0 .fitted;
+      shaped = shaped;
+      some = omega (arith, c .lower2 .ensures, turn .loop-test .taken, stand .more, slot-below (a .shape) (shaped .roomy) (64 * a .k + l .i));
+      near = omega (arith, c .lower2 .ensures, stand .more);
+      among = omega (arith, c .lower2 .ensures, count-is shaped, start .pre .1 .0, long .lower .ensures, turn .loop-test .taken);
+    }
+
+-- and they are no more than the word has left
+run-within : (c : tie.After-lower2 Inv-loop μ-loop) → c .before .before .loop .i + c .lower2 .result ≤ 64
+run-within c =
+    let turn = c .before in
+    omega (arith, c .lower2 .ensures, turn .before .before .lower .ensures, turn .loop-test .taken)
+
+-- the part that it takes of the image lies inside
+run-end : (c : tie.After-lower2 Inv-loop μ-loop)
+    → let loop = c .before .before in
+    let a = loop .before .before .before .before .args in
+    loop .loop .here .at + a .shape .size * c .lower2 .result ≤ length (a .image .now)
+run-end c = omega (arith, run-fits (run-at c), c .before .before .loop .inv .1 .0 .begins)
 
 mul-first : tie.Need-mul-first Inv-loop μ-loop
 mul-first c =
@@ -52,63 +90,98 @@ loop-holds c =
     let start = c .before .before .before in
     (omega arith, (rw add-zero (start .pre .1 .1), refl))
 
-add-p : tie.Need-add-p Inv-loop μ-loop
-add-p c =
-    let long = c .before .before in
-    let start = long .before .before .before in
-    omega (arith, count-is (start .pre .0 .1 .0), start .pre .0 .1 .0 .few, start .pre .1 .0, long .lower .ensures, c .loop-test .taken)
+sub-lower-2 : tie.Need-sub-lower-2 Inv-loop μ-loop
+sub-lower-2 c = omega arith
 
-reads-place-requires : tie.Need-reads-place-requires Inv-loop μ-loop
-reads-place-requires c κs =
-    let long = c .before .before in
-    let start = long .before .before .before in
-    let a = start .args in
-    let inside : 64 * a .k + c .before .loop .i < labels (a .image .now) =
-    omega (arith, count-is (start .pre .0 .1 .0), start .pre .1 .0, long .lower .ensures, c .loop-test .taken) in
-    (start .pre .0, (inside, c .before .loop .inv .1 .0 .begins))
+lower-requires-2 : tie.Need-lower-requires-2 Inv-loop μ-loop
+lower-requires-2 c κs = search needs
 
-with-requires : tie.Need-with-requires Inv-loop μ-loop
-with-requires c κs =
-    let turn = c .before .before in
-    omega (arith, turn .loop-test .taken, turn .before .before .lower .ensures)
+mul-end : tie.Need-mul-end Inv-loop μ-loop
+mul-end c = omega (arith, run-end (c .before))
 
-next-record-requires : tie.Need-next-record-requires Inv-loop μ-loop
-next-record-requires c κs =
-    let turn = c .before .before in
-    let long = turn .before .before in
-    let start = long .before .before .before in
-    let a = start .args in
-    let shaped = start .pre .0 .1 .0 in
-    let inside : 64 * a .k + turn .before .loop .i ≤ labels (a .image .now) =
-    omega (arith, count-is shaped, start .pre .1 .0, long .lower .ensures, turn .loop-test .taken) in (
-      shaped .roomy,
-      (
-        turn .before .loop .inv .1 .0,
-        rw (shaped .is) (omega (arith, record-upto _ (start .pre .0 .0 .fitted) Label (64 * a .k + turn .before .loop .i) inside)),
-      ),
+add-end : tie.Need-add-end Inv-loop μ-loop
+add-end c = omega (arith, run-end (c .before))
+
+sub-run-bits : tie.Need-sub-run-bits Inv-loop μ-loop
+sub-run-bits c = omega arith
+
+part-run-bits-start : tie.Need-part-run-bits-start Inv-loop μ-loop
+part-run-bits-start c = omega arith
+
+part-run-bits-end : tie.Need-part-run-bits-end Inv-loop μ-loop
+part-run-bits-end c = omega (arith, run-end (c .before))
+
+run-bits-requires : tie.Need-run-bits-requires Inv-loop μ-loop
+run-bits-requires c κs =
+    let taken = c .before .before in
+    let run = run-at taken in
+    let l = taken .before .before .loop in
+    let start = taken .before .before .before .before .before .before in
+    let begins = l .inv .1 .0 .begins in
+    let count = run-count run (l .here .at) begins in (
+      size-is run ∙ ap (λ (e : Edition). recordSize e Label) (sym (start .pre .0 .1 .1)),
+      (run-whole run (l .here .at) begins, omega (arith, count, run-within taken)),
     )
 
+shl-shifted : tie.Need-shl-shifted Inv-loop μ-loop
+shl-shifted c =
+    let taken = c .before .before .before in
+    omega (arith, run-within taken, run-at taken .some)
+
+union-requires : tie.Need-union-requires Inv-loop μ-loop
+union-requires c κs = search needs
+
+add-forward : tie.Need-add-forward Inv-loop μ-loop
+add-forward c =
+    let taken = c .before .before .before .before in
+    omega (arith, run-at taken .among, run-at taken .shaped .few, count-is (run-at taken .shaped))
+
+forward-requires : tie.Need-forward-requires Inv-loop μ-loop
+forward-requires c κs =
+    let taken = c .before .before .before .before in
+    let run = run-at taken in
+    let l = taken .before .before .loop in
+    let start = taken .before .before .before .before .before .before in
+    let a = start .args in
+    let inside : 64 * a .k + l .i ≤ labels (a .image .now) = omega (arith, run .among) in
+    let low : recordOffset (a .shape) (64 * a .k + l .i) < 2 ^ 63 =
+    rw (run .shaped .is) (omega (arith, record-upto _ (run .fitted) Label (64 * a .k + l .i) inside)) in
+    ((run .shaped .roomy, (l .inv .1 .0, low)), omega (arith, taken .lower2 .ensures))
+
 add-i : tie.Need-add-i Inv-loop μ-loop
-add-i c = omega arith
+add-i c =
+    let taken = c .before .before .before .before .before in
+    omega (arith, run-within taken)
 
 loop-less : tie.Need-loop-less Inv-loop μ-loop
-loop-less c = omega arith
+loop-less c =
+    let taken = c .before .before .before .before .before in
+    omega (arith, run-at taken .some, taken .before .loop-test .taken)
 
 loop-again : tie.Need-loop-again Inv-loop μ-loop
 loop-again c =
-    let turn = c .before .before .before in
-    let l = turn .before .loop in
-    let a = turn .before .before .before .before .before .args in
-    let f = told (a .image .now) (rightsOf (a .view)) (a .k) in
-    let asked = sym (c .before .before .reads-place .ensures) in
-    let next : 64 * a .k + l .i + 1 ≡ 64 * a .k + (l .i + 1) = omega arith in (
-      omega (arith, turn .loop-test .taken),
+    let asked = c .before .before in
+    let taken = asked .before .before .before in
+    let run = run-at taken in
+    let l = taken .before .before .loop in
+    let start = taken .before .before .before .before .before .before in
+    let a = start .args in
+    let im = a .image .now in
+    let n = taken .lower2 .result in
+    let f = told im (rightsOf (a .view)) (a .k) in
+    let read : ℕ → Bool = λ j. readsLabel (rightsOf (a .view)) (recordLabel (a .edition)
+    (part (take (l .here .at + a .shape .size * n - l .here .at) (drop (l .here .at) im)) (a .shape .size * j) (a .shape .size))) in
+    let same : (j : ℕ) → j < n → read j ≡ f (l .i + j) = λ j h.
+    let place : 64 * a .k + l .i + j ≡ 64 * a .k + (l .i + j) = omega arith in
+    run-reads run (l .here .at) (l .inv .1 .0 .begins) (a .edition) (start .pre .0 .1 .1) (rightsOf (a .view)) j h
+    ∙ ap (readsRecord im (rightsOf (a .view))) place in
+    let next : 64 * a .k + l .i + n ≡ 64 * a .k + (l .i + n) = omega arith in (
+      omega (arith, taken .lower2 .ensures, taken .before .loop-test .taken),
       (
-        subst (λ (n : ℕ). Standing (a .shape) n (c .next-record .result)) next (c .next-record .ensures),
-        ⊎-elim
-            (λ t. t .2 ∙ t .1 .ensures ∙ ap (λ (x : ℕ). union x (one (l .i))) (l .inv .1 .1) ∙ sym (collect-put f (l .i) (asked ∙ t .0 .taken)))
-            (λ e. e .1 ∙ l .inv .1 .1 ∙ sym (collect-pass f (l .i) (asked ∙ e .0 .left)))
-            (c .before .if1 .came),
+        subst (λ (m : ℕ). Standing (a .shape) m (c .forward .result)) next (c .forward .ensures),
+        c .before .union .ensures
+            ∙ run-joined f (l .i) read n _ _ _ (l .inv .1 .1) (asked .run-bits .ensures) (run-count run (l .here .at) (l .inv .1 .0 .begins)) same
+            (run-within taken),
       ),
     )
 
@@ -137,10 +210,18 @@ map-word-spec =
     sub-lower
     lower-requires
     loop-holds
-    add-p
-    reads-place-requires
-    with-requires
-    next-record-requires
+    sub-lower-2
+    lower-requires-2
+    mul-end
+    add-end
+    sub-run-bits
+    part-run-bits-start
+    part-run-bits-end
+    run-bits-requires
+    shl-shifted
+    union-requires
+    add-forward
+    forward-requires
     add-i
     loop-less
     loop-again
