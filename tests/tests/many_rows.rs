@@ -21,7 +21,7 @@ in_each_edition! {
     tags_that_find_no_slot
 }
 
-/// The row where the fast way begins.
+/// From so many rows on tags are put into slots.
 const MANY: usize = 256;
 
 /// Asks both. The answer and every lent byte have to be the model's.

@@ -88,7 +88,8 @@ fn last_of_block(existing: Existing, shape: Shape, before: u32, block: &[u8]) ->
     }
 }
 
-// How many of the first blocks of labels are full and fine, up to the first that is not.
+// So many of the first blocks of labels are full and fine, up to the first that is not. Only that these are fine is claimed: how many are passed is a
+// matter of speed alone.
 pub fn fine_label_blocks(image: &[u8], existing: Existing, shape: Shape) -> usize
     requires { ⌜ Counted (now image) × (Exist existing × (existing .counts ≡ countsOf (now image))) ⌝ }
     requires { ⌜ Shaped (now image) Label shape ⌝ }
