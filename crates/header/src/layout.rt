@@ -207,14 +207,25 @@ pub fn record_slot(shape: Shape, i: usize) -> usize
     i % shape.capacity
 }
 
-// i / capacity. By the number of labels in a block, 21 or 10, the compiler multiplies in place of dividing: a search for a tag asks it at every step. A
+// i / 21. Below 65,536 one multiplication and a shift tell it: 21 · 199,729 is 2^22 + 5. The compiler's own way for numbers of 16 bits takes three
+// times the steps.
+fn quotient_by_21(i: usize) -> usize
+    ensures { λ r. ⌜ r ≡ i / 21 ⌝ }
+{
+    if i < 65536 {
+        return i * 199729 / 4194304;
+    }
+    i / 21
+}
+
+// i / capacity. By the number of labels in a block, 21 or 10, one multiplies in place of dividing: a search for a tag asks it at every step. A
 // division of 32 bits is one instruction; the compiler puts a test and a second way around one of 64.
 fn quotient(i: usize, capacity: usize) -> usize
     requires { ⌜ (1 ≤ capacity) × (capacity ≤ 255) ⌝ }
     ensures { λ r. ⌜ r ≡ i / capacity ⌝ }
 {
     if capacity == 21 {
-        return i / 21;
+        return quotient_by_21(i);
     }
     if capacity == 10 {
         return i / 10;
