@@ -73,33 +73,33 @@ unfolding sessionLabelAnswer
 means-session-label im u new row k =
     rw (le-leb _ _ (k .minimum), le-leb _ _ (k .maximum), k .compartments, k .groups, means-inside (rightsAt im u new) row (k .inside))
 
--- the rules in turn, as `session_label_answer` asks them: the first that fails gives its refusal
-module _ (im : List ℕ) (u : ℕ) (new row : Marks) (level : Bool)
-    (l : level ≡ between (minimumLevel (userRecord im u)) (maximumLevel (userRecord im u)) (new .level)) where
+-- the rules in turn, as `session_label_answer` asks them of the user's record: the first that fails gives its refusal
+module _ (im : List ℕ) (u : ℕ) (new row : Marks) (rec : List ℕ) (user : rec ≡ userRecord im u) (level : Bool)
+    (l : level ≡ between (minimumLevel rec) (maximumLevel rec) (new .level)) where
   pub level-refused : not level ≡ true → Refused LevelNotAllowed ≡ sessionLabelAnswer im u new row
   unfolding sessionLabelAnswer
-  level-refused h = rw (sym l ∙ not-true level h)
+  level-refused h = rw (← user, sym l ∙ not-true level h)
 
-  module _ (met : not level ≡ false) (compartments : Bool) (c : compartments ≡ within (new .compartments) (readCompartments (userRecord im u))) where
+  module _ (met : not level ≡ false) (compartments : Bool) (c : compartments ≡ within (new .compartments) (readCompartments rec)) where
     pub compartments-refused : not compartments ≡ true → Refused CompartmentsNotAllowed ≡ sessionLabelAnswer im u new row
     unfolding sessionLabelAnswer
-    compartments-refused h = rw (sym l ∙ not-false level met, sym c ∙ not-true compartments h)
+    compartments-refused h = rw (← user, sym l ∙ not-false level met, sym c ∙ not-true compartments h)
 
-    module _ (met2 : not compartments ≡ false) (groups : Bool) (g : groups ≡ sessionGroupsRule im (userRecord im u) (new .groups)) where
+    module _ (met2 : not compartments ≡ false) (groups : Bool) (g : groups ≡ sessionGroupsRule im rec (new .groups)) where
       pub groups-refused : not groups ≡ true → Refused GroupsNotAllowed ≡ sessionLabelAnswer im u new row
       unfolding sessionLabelAnswer
-      groups-refused h = rw (sym l ∙ not-false level met, sym c ∙ not-false compartments met2, sym g ∙ not-true groups h)
+      groups-refused h = rw (← user, sym l ∙ not-false level met, sym c ∙ not-false compartments met2, sym g ∙ not-true groups h)
 
       module _ (met3 : not groups ≡ false) (rights : Rights) (found : rights ≡ rightsAt im u new) (inside : Bool) (i : inside ≡ rowInside rights row) where
         pub outside-refused : not inside ≡ true → Refused RowLabelOutside ≡ sessionLabelAnswer im u new row
         unfolding sessionLabelAnswer
         outside-refused h =
-            rw (sym l ∙ not-false level met, sym c ∙ not-false compartments met2, sym g ∙ not-false groups met3, ← found, sym i ∙ not-true inside h)
+            rw (← user, sym l ∙ not-false level met, sym c ∙ not-false compartments met2, sym g ∙ not-false groups met3, ← found, sym i ∙ not-true inside h)
 
         pub label-accepted : not inside ≡ false → Accepted ≡ sessionLabelAnswer im u new row
         unfolding sessionLabelAnswer
         label-accepted h =
-            rw (sym l ∙ not-false level met, sym c ∙ not-false compartments met2, sym g ∙ not-false groups met3, ← found, sym i ∙ not-false inside h)
+            rw (← user, sym l ∙ not-false level met, sym c ∙ not-false compartments met2, sym g ∙ not-false groups met3, ← found, sym i ∙ not-false inside h)
 
 -- ---- a new row label
 pub record RowLabelKept (rights : Rights) (new : Marks) : Type 0 where

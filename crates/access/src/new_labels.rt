@@ -1,9 +1,11 @@
 // The rules for a new session label and a new row label.
-ghost use Prim.Native.Nat.{_<_};
+ghost use Prim.Native.Nat.{_<_, _≤_};
 ghost use mathlib.Core.Path.{_≡_};
+ghost use lib.ListN.{length};
 ghost use Rattle.sets.specs.Sets.{within};
 ghost use Rattle.sets.specs.Groups.{placesOf};
-ghost use Rattle.header.specs.Layout.{users, userRecord};
+ghost use Rattle.header.specs.declared.layout.Kind.the-variants.{User};
+ghost use Rattle.header.specs.Layout.{editionOf, recordSize, users};
 ghost use Rattle.records.specs.Fields.{minimumLevel, maximumLevel, readCompartments};
 ghost use Rattle.header.specs.Limits.{Counted};
 ghost use Rattle.hierarchy.specs.Below.{Tabled};
@@ -12,7 +14,9 @@ ghost use Rattle.access.specs.Rights.{rightsOf, rightsAt, between};
 ghost use Rattle.access.specs.NewLabels.{sessionGroupsRule, rowGroupsRule, rowInside, sessionLabelAnswer, rowLabelAnswer};
 use crate::rights::View;
 use crate::rights::is_between;
+use header::edition::edition_of;
 use header::layout;
+use header::layout::Kind;
 use header::profile::Profile;
 use header::profile::profile_of;
 use hierarchy::group_rules;
@@ -47,29 +51,29 @@ fn row_inside(view: View, row: Label) -> bool
 }
 
 // Is the level between the user's minimum and maximum?
-fn level_ok(image: &[u8], u: usize, level: u8) -> bool
-    requires { ⌜ Counted (now image) × (u < users (now image)) ⌝ }
-    ensures { λ r. ⌜ r ≡ between (minimumLevel (userRecord (now (image .entry)) u)) (maximumLevel (userRecord (now (image .entry)) u)) level ⌝ }
+fn level_ok(rec: &[u8], level: u8) -> bool
+    requires { ⌜ 128 ≤ length (now rec) ⌝ }
+    ensures { λ r. ⌜ r ≡ between (minimumLevel (now (rec .entry))) (maximumLevel (now (rec .entry))) level ⌝ }
 {
-    let levels = users::user_levels(image, u);
+    let levels = users::levels_in(rec);
     is_between(levels.minimum, levels.maximum, level)
 }
 
 // May the user read all these compartments?
-fn compartments_ok(image: &[u8], u: usize, set: u64) -> bool
-    requires { ⌜ Counted (now image) × (u < users (now image)) ⌝ }
-    ensures { λ r. ⌜ r ≡ within set (readCompartments (userRecord (now (image .entry)) u)) ⌝ }
+fn compartments_ok(rec: &[u8], set: u64) -> bool
+    requires { ⌜ 128 ≤ length (now rec) ⌝ }
+    ensures { λ r. ⌜ r ≡ within set (readCompartments (now (rec .entry))) ⌝ }
 {
-    let compartments = users::compartment_sets(image, u);
+    let compartments = users::compartments_in(rec);
     word::within(set, compartments.read)
 }
 
 // Do all these groups lie below the user's read groups? In the release profile: do they exist and contain the read groups?
-fn groups_ok(image: &[u8], table: &Table, u: usize, set: Groups) -> bool
-    requires { ⌜ Counted (now image) × (Tabled (now image) (now table) × (u < users (now image))) ⌝ }
-    ensures { λ r. ⌜ r ≡ sessionGroupsRule (now (image .entry)) (userRecord (now (image .entry)) u) (placesOf set) ⌝ }
+fn groups_ok(image: &[u8], table: &Table, rec: &[u8], set: Groups) -> bool
+    requires { ⌜ Counted (now image) × (Tabled (now image) (now table) × (length (now rec) ≡ recordSize (editionOf (now image)) User)) ⌝ }
+    ensures { λ r. ⌜ r ≡ sessionGroupsRule (now (image .entry)) (now (rec .entry)) (placesOf set) ⌝ }
 {
-    let groups = users::group_sets(image, u);
+    let groups = users::sets_in(edition_of(image), rec);
     let all = Groups::all_below(layout::groups(image));
     match profile_of(image) {
         Profile::Tree => group_rules::lies_below(image, table, all, set, groups.read),
@@ -89,13 +93,14 @@ pub fn session_label_answer(
     requires { ⌜ (Counted (now image) × (Tabled (now image) (now table) × (u < users (now image)))) × (rightsOf view ≡ rightsAt (now image) u (marksOf new)) ⌝ }
     ensures { λ r. ⌜ r ≡ sessionLabelAnswer (now (image .entry)) u (marksOf new) (marksOf row) ⌝ }
 {
-    if !level_ok(image, u, new.level) {
+    let rec = layout::record_part(image, Kind::User, u);
+    if !level_ok(rec, new.level) {
         return Checked::Refused(Refusal::LevelNotAllowed);
     }
-    if !compartments_ok(image, u, new.compartments) {
+    if !compartments_ok(rec, new.compartments) {
         return Checked::Refused(Refusal::CompartmentsNotAllowed);
     }
-    if !groups_ok(image, table, u, new.groups) {
+    if !groups_ok(image, table, rec, new.groups) {
         return Checked::Refused(Refusal::GroupsNotAllowed);
     }
     if !row_inside(view, row) {

@@ -9,7 +9,9 @@ ghost use Rattle.hierarchy.specs.Below as hierarchy;
 ghost use Rattle.hierarchy.specs.Below.{Tabled};
 ghost use Rattle.labels.specs.Label.{marksOf};
 ghost use Rattle.access.specs.Rights.{rightsOf, rightsAt, between};
+use header::edition::edition_of;
 use header::layout;
+use header::layout::Kind;
 use header::profile::Profile;
 use header::profile::profile_of;
 use hierarchy::group_rules::reach;
@@ -57,9 +59,10 @@ pub fn rights_at(image: &[u8], table: &Table, u: usize, label: Label) -> View
     requires { ⌜ Counted (now image) × (Tabled (now image) (now table) × (u < users (now image))) ⌝ }
     ensures { λ r. ⌜ rightsOf r ≡ rightsAt (now (image .entry)) u (marksOf label) ⌝ }
 {
-    let levels = users::user_levels(image, u);
-    let compartments = users::compartment_sets(image, u);
-    let groups = users::group_sets(image, u);
+    let rec = layout::record_part(image, Kind::User, u);
+    let levels = users::levels_in(rec);
+    let compartments = users::compartments_in(rec);
+    let groups = users::sets_in(edition_of(image), rec);
     let reached = reach(image, table, label.groups);
     View {
         profile: profile_of(image),
@@ -70,6 +73,6 @@ pub fn rights_at(image: &[u8], table: &Table, u: usize, label: Label) -> View
         write_groups: write_groups_of(image, table, reached, groups.write),
         minimum: levels.minimum,
         maximum: levels.maximum,
-        privileges: users::privileges(image, u),
+        privileges: rec[31],
     }
 }

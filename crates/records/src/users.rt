@@ -5,7 +5,7 @@ ghost use mathlib.Core.Bool.{_&&_};
 ghost use lib.ListN.{length, drop};
 ghost use Rattle.fields.specs.Bytes.{part, allZero};
 ghost use Rattle.header.specs.declared.layout.Kind.the-variants.{User};
-ghost use Rattle.header.specs.Layout.{editionOf, users, recordSize, userRecord};
+ghost use Rattle.header.specs.Layout.{users, recordSize, userRecord};
 ghost use Rattle.records.specs.Fields as fields;
 ghost use Rattle.records.specs.Fields.{userName, userEnd};
 ghost use Rattle.records.specs.Users.{levelsOf, compartmentsOf, GroupsAre, fourWithin};
@@ -20,7 +20,6 @@ use fields::numbers::number4;
 use fields::numbers::number8;
 use header::edition::Edition;
 use header::edition::by_edition;
-use header::edition::edition_of;
 use header::layout;
 use header::layout::Kind;
 use header::profile::Profile;
@@ -51,11 +50,11 @@ pub struct Levels {
     pub row: u8,
 }
 
-pub fn user_levels(image: &[u8], u: usize) -> Levels
-    requires { ⌜ Counted (now image) × (u < users (now image)) ⌝ }
-    ensures { λ r. ⌜ r ≡ levelsOf (userRecord (now (image .entry)) u) ⌝ }
+// Those in a user's record.
+pub fn levels_in(rec: &[u8]) -> Levels
+    requires { ⌜ 128 ≤ length (now rec) ⌝ }
+    ensures { λ r. ⌜ r ≡ levelsOf (now (rec .entry)) ⌝ }
 {
-    let rec = layout::record_part(image, Kind::User, u);
     Levels {
         maximum: rec[32],
         minimum: rec[33],
@@ -72,11 +71,11 @@ pub struct CompartmentSets {
     pub row: u64,
 }
 
-pub fn compartment_sets(image: &[u8], u: usize) -> CompartmentSets
-    requires { ⌜ Counted (now image) × (u < users (now image)) ⌝ }
-    ensures { λ r. ⌜ r ≡ compartmentsOf (userRecord (now (image .entry)) u) ⌝ }
+// Those in a user's record.
+pub fn compartments_in(rec: &[u8]) -> CompartmentSets
+    requires { ⌜ 128 ≤ length (now rec) ⌝ }
+    ensures { λ r. ⌜ r ≡ compartmentsOf (now (rec .entry)) ⌝ }
 {
-    let rec = layout::record_part(image, Kind::User, u);
     CompartmentSets {
         read: number8(rec, 40),
         write: number8(rec, 48),
@@ -93,7 +92,7 @@ pub struct GroupSets {
     pub row: Groups,
 }
 
-// The four sets of groups in a user's record.
+// Those in a user's record.
 pub fn sets_in(edition: Edition, rec: &[u8]) -> GroupSets
     requires { ⌜ length (now rec) ≡ recordSize edition User ⌝ }
     ensures { λ r. ⌜ GroupsAre edition (now (rec .entry)) r ⌝ }
@@ -104,14 +103,6 @@ pub fn sets_in(edition: Edition, rec: &[u8]) -> GroupSets
         default: group_set(edition, rec, by_edition(edition, 88, 136)),
         row: group_set(edition, rec, by_edition(edition, 96, 168)),
     }
-}
-
-pub fn group_sets(image: &[u8], u: usize) -> GroupSets
-    requires { ⌜ Counted (now image) × (u < users (now image)) ⌝ }
-    ensures { λ r. ⌜ GroupsAre (editionOf (now (image .entry))) (userRecord (now (image .entry)) u) r ⌝ }
-{
-    let rec = layout::record_part(image, Kind::User, u);
-    sets_in(edition_of(image), rec)
 }
 
 fn levels_ok(rec: &[u8], count: usize) -> bool

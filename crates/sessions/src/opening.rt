@@ -7,7 +7,9 @@ ghost use Rattle.sessions.specs.Session.{sessionOf};
 ghost use Rattle.sessions.specs.Opening.{defaultSession, openAccepted, openingOf};
 use crate::answers::Opened;
 use crate::session::Session;
+use header::edition::edition_of;
 use header::layout;
+use header::layout::Kind;
 use image::given::user_of_name;
 use labels::label::Label;
 use records::users;
@@ -17,9 +19,10 @@ pub fn default_session(image: &[u8], u: usize) -> Session
     requires { ⌜ Counted (now image) × (u < users (now image)) ⌝ }
     ensures { λ r. ⌜ sessionOf r ≡ defaultSession (now (image .entry)) u ⌝ }
 {
-    let levels = users::user_levels(image, u);
-    let compartments = users::compartment_sets(image, u);
-    let groups = users::group_sets(image, u);
+    let rec = layout::record_part(image, Kind::User, u);
+    let levels = users::levels_in(rec);
+    let compartments = users::compartments_in(rec);
+    let groups = users::sets_in(edition_of(image), rec);
     let default_groups = groups.default;
     let row_groups = groups.row;
     let label = Label {

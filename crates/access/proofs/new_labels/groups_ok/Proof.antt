@@ -10,19 +10,24 @@ use Rattle.access.specs.NewLabels.{sessionGroupsRule}
 use Rattle.access.proofs.new_labels.groups_ok.Statement.{statement}
 use Rattle.access.proofs.new_labels.groups_ok.Tie as tie
 
-group-sets-requires : tie.Need-group-sets-requires
-group-sets-requires c κs = search needs
+edition-of-requires : tie.Need-edition-of-requires
+edition-of-requires c κs = header-inside _ (c .before .before .pre .0 .fitted)
+
+sets-in-requires : tie.Need-sets-in-requires
+sets-in-requires c κs =
+    let start = c .before .before .before in
+    rw (c .edition-of .ensures) (start .pre .1 .1)
 
 groups-requires : tie.Need-groups-requires
-groups-requires c κs = header-inside _ (c .before .before .pre .0 .fitted)
+groups-requires c κs = header-inside _ (c .before .before .before .before .pre .0 .fitted)
 
 all-below-requires : tie.Need-all-below-requires
 all-below-requires c κs =
-    let start = c .before .before .before in
+    let start = c .before .before .before .before .before in
     omega (arith, c .groups .ensures .0, counted-groups (start .args .image .now) (start .pre .0))
 
 profile-of-requires : tie.Need-profile-of-requires
-profile-of-requires c κs = header-inside _ (c .before .before .before .before .pre .0 .fitted)
+profile-of-requires c κs = header-inside _ (c .before .before .before .before .before .before .pre .0 .fitted)
 
 enum-told : tie.Need-enum-told
 enum-told c = search needs
@@ -31,7 +36,7 @@ lies-below-requires : tie.Need-lies-below-requires
 lies-below-requires c κs =
     let every = c .before .before .before in
     let counted = every .before in
-    let p = counted .before .before .before .pre in
+    let p = counted .before .before .before .before .before .pre in
     (p .0, (p .1 .0, every .all-below .ensures ∙ ap allBelow (counted .groups .ensures .0)))
 
 enum-told-2 : tie.Need-enum-told-2
@@ -50,7 +55,7 @@ returns c =
     let told = case .before .before in
     let sets = told .before .before .before in
     let tree = sym (told .profile-of .ensures) ∙ case .enum-told .given .1 in
-    rw (c .lies-below .ensures, sets .group-sets .ensures .read) (in-tree _ _ _ tree)
+    rw (c .lies-below .ensures, sets .sets-in .ensures .read, sets .before .edition-of .ensures) (in-tree _ _ _ tree)
 
 returns-2 : tie.Need-returns-2
 unfolding sessionGroupsRule
@@ -64,14 +69,16 @@ returns-2 c =
       c .before .within .ensures,
       c .within2 .ensures,
       every .all-below .ensures ∙ ap allBelow (every .before .groups .ensures .0),
-      sets .group-sets .ensures .read,
+      sets .sets-in .ensures .read,
+      sets .before .edition-of .ensures,
     )
 
 pub groups-ok-spec : {M : Type 1} → statement M
 groups-ok-spec =
     tie.close
     (tie.spec
-    group-sets-requires
+    edition-of-requires
+    sets-in-requires
     groups-requires
     all-below-requires
     profile-of-requires
