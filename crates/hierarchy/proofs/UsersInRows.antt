@@ -1,4 +1,4 @@
--- Users in rows, sixteen at once: the loop that passes over users, and the one that fills the rows. Assumes nothing.
+-- Users in rows, sixteen at once: the loop that passes over users, and those that fill the rows. Assumes nothing.
 use Prim.Native.Nat.{ℕ, _+_, _-_, _*_, _/_, _≤_, _<_}
 use mathlib.Core.Path.{_≡_, refl, sym, ap, _∙_, subst}
 use mathlib.Core.Bool.{Bool, true, false, cond}
@@ -9,24 +9,38 @@ use borrow.Author.Count.{below-more}
 use borrow.Author.Tests.{lt-ltb, le-ltb, ltb-true, ltb-false}
 use lib.Dec.{ltb}
 use lib.ListN.{length}
+use Rattle.fields.specs.Bytes.{number8}
 use Rattle.fields.proofs.Both.{parts}
+use Rattle.fields.proofs.Words.{Bytes, word-low}
 use Rattle.sets.specs.Sets.{none, allBelow, union, intersection, within}
 use Rattle.sets.specs.Groups.{placesOf}
 use Rattle.sets.proofs.Within.{within-trans, within-union-left, within-union-right, intersection-within-left, intersection-within-right}
 use Rattle.sets.proofs.Bounds.{within-below}
+use Rattle.sets.proofs.Words.{joined-alone}
 use Rattle.header.specs.declared.edition.Edition.{Edition}
+use Rattle.header.specs.declared.edition.Edition.the-variants.{One}
 use Rattle.records.specs.declared.users.GroupSets.{GroupSets}
-use Rattle.records.specs.Fields.{readGroups, writeGroups, defaultGroups, rowGroups}
+use Rattle.records.specs.Fields.{groupsAt, readGroups, writeGroups, defaultGroups, rowGroups}
 use Rattle.records.specs.Users.{GroupsAre}
 use Rattle.hierarchy.specs.declared.users.Users.{Users}
 use Rattle.hierarchy.specs.Forest.{Forest, belowIn, tableRoom}
 use Rattle.hierarchy.specs.Below.{belowSets, ofSets}
 use Rattle.hierarchy.specs.Users.{userIn}
 use Rattle.hierarchy.specs.SetRows.{setAt, UserPut, RowsFit}
-use Rattle.hierarchy.specs.UserRows.{userSet, SetsAre, plainSets, plainRule, PlainUpto, HoldsSet, Filled}
+use Rattle.hierarchy.specs.UserRows.{userSet, NoSets, SetsAre, plainSets, plainRule, PlainUpto, HoldsSet, Filled}
 use Rattle.hierarchy.proofs.Under.{below-self}
 
 -- ---- one user
+-- in edition 1 each set is a word of the record
+pub words-are : (rec : List ℕ) (sets : GroupSets) → Bytes rec → placesOf (sets .read) ≡ number8 rec 72 → placesOf (sets .write) ≡ number8 rec 80
+    → placesOf (sets .default) ≡ number8 rec 88 → placesOf (sets .row) ≡ number8 rec 96 → GroupsAre One rec sets
+unfolding groupsAt
+words-are rec sets small read write default row =
+    record { read = read ∙ alone 72; write = write ∙ alone 80; default = default ∙ alone 88; row = row ∙ alone 96 }
+  where
+    alone : (k : ℕ) → number8 rec k ≡ groupsAt One rec k
+    alone k = sym (joined-alone (number8 rec k) 0 (word-low rec small k))
+
 module _ (l : Users) (bytes : List ℕ) (u : ℕ) where
   pub user-there : (field : Edition → List ℕ → ℕ) → u < l .count → userSet l bytes field u ≡ field (l .edition) (userIn l bytes u)
   unfolding userSet
@@ -48,14 +62,13 @@ module _ (l : Users) (bytes : List ℕ) (u : ℕ) where
       field : (of : Edition → List ℕ → ℕ) → of (l .edition) rec ≡ userSet l bytes of u
       field of = ap (of (l .edition)) r ∙ sym (user-there of h)
 
-  pub sets-none : (sets : GroupSets) → l .count ≤ u → placesOf (sets .read) ≡ none → placesOf (sets .write) ≡ none → placesOf (sets .default) ≡ none
-      → placesOf (sets .row) ≡ none → SetsAre l bytes u sets
-  sets-none sets h read write default row =
+  pub sets-none : (sets : GroupSets) → l .count ≤ u → NoSets sets → SetsAre l bytes u sets
+  sets-none sets h empty =
       record {
-        read = read ∙ sym (user-none readGroups h);
-        write = write ∙ sym (user-none writeGroups h);
-        default = default ∙ sym (user-none defaultGroups h);
-        row = row ∙ sym (user-none rowGroups h);
+        read = empty .read ∙ sym (user-none readGroups h);
+        write = empty .write ∙ sym (user-none writeGroups h);
+        default = empty .default ∙ sym (user-none defaultGroups h);
+        row = empty .row ∙ sym (user-none rowGroups h);
       }
 
   -- the rule of a user who is there, by the values that code has for the sets
@@ -110,16 +123,21 @@ plain-next all l bytes from u sets so are e =
           (λ m. rw (← are .read, ← are .write, ← are .default, ← are .row) e) v high low;
     }
 
--- ---- filling the rows
-pub fill-none : (all : ℕ) (l : Users) (bytes : List ℕ) (from : ℕ) (rows : List ℕ) → length rows ≡ tableRoom → Filled all l bytes from 0 rows
-fill-none all l bytes from rows size =
-    record {
-      size = size;
-      read = λ i h. absurd (omega arith);
-      write = λ i h. absurd (omega arith);
-      default = λ i h. absurd (omega arith);
-      row = λ i h. absurd (omega arith);
-    }
+-- ---- filling the rows: what holds at each turn of the loops that do so
+abbrev pub Filling : (all : ℕ) (l : Users) (bytes : List ℕ) (from i : ℕ) (rows : List ℕ) → Type 0
+Filling all l bytes from i rows = (i ≤ 16) × Filled all l bytes from i rows
+
+pub fill-none : (all : ℕ) (l : Users) (bytes : List ℕ) (from : ℕ) (rows : List ℕ) → length rows ≡ tableRoom → Filling all l bytes from 0 rows
+fill-none all l bytes from rows size = (
+  omega arith,
+  record {
+    size = size;
+    read = λ i h. absurd (omega arith);
+    write = λ i h. absurd (omega arith);
+    default = λ i h. absurd (omega arith);
+    row = λ i h. absurd (omega arith);
+  },
+)
 
 -- the set at place b of `rows` is also that of the new rows
 kept : (all : ℕ) (rows new : List ℕ) (b s : ℕ) → setAt new b ≡ setAt rows b → HoldsSet all rows b s → HoldsSet all new b s
@@ -160,9 +178,9 @@ module _ (all : ℕ) (l : Users) (bytes : List ℕ) (from i : ℕ) (sets : Group
   first-stays : (k s : ℕ) → k < i → HoldsSet all rows k s → HoldsSet all new k s
   first-stays k s less was = kept all rows new k s (put .other k (omega arith) (omega arith) (omega arith) (omega arith) (omega arith)) was
 
-  pub fill-next : within (union (union (placesOf (sets .read)) (placesOf (sets .write))) (union (placesOf (sets .default)) (placesOf (sets .row)))) all ≡ true
+  next-filled : within (union (union (placesOf (sets .read)) (placesOf (sets .write))) (union (placesOf (sets .default)) (placesOf (sets .row)))) all ≡ true
       → Filled all l bytes from (i + 1) new
-  fill-next fit =
+  next-filled fit =
       let inside = all-within (placesOf (sets .read)) (placesOf (sets .write)) (placesOf (sets .default)) (placesOf (sets .row)) all fit in
       record {
         size = put .size;
@@ -179,6 +197,20 @@ module _ (all : ℕ) (l : Users) (bytes : List ℕ) (from i : ℕ) (sets : Group
             below-more (λ (k : ℕ). HoldsSet all new (48 + k) (userSet l bytes rowGroups (from + k))) i
             (λ k m. stays 48 k _ (omega arith) refl m (so .row k m)) (new-set all new (48 + i) _ _ (put .row) (are .row) (inside .1 .1));
       }
+
+-- one turn: the sets are those of the next user, they fit, and they are put
+pub fill-next : (all : ℕ) (l : Users) (bytes : List ℕ) (from i : ℕ) (sets : GroupSets) (rows new : List ℕ) (fits : Bool) → i < 16
+    → Filling all l bytes from i rows → SetsAre l bytes (from + i) sets
+    → fits ≡ ofSets (λ read write default row. within (union (union read write) (union default row)) all) sets → fits ≡ true → UserPut i sets rows new
+    → Filling all l bytes from (i + 1) new
+fill-next all l bytes from i sets rows new fits h so are is good put =
+    (omega arith, next-filled all l bytes from i sets rows new h (so .1) are put (sym is ∙ good))
+
+pub fill-end : (all : ℕ) (l : Users) (bytes : List ℕ) (from i : ℕ) (rows : List ℕ) → 16 ≤ i → Filling all l bytes from i rows
+    → Filled all l bytes from 16 rows
+fill-end all l bytes from i rows h so =
+    let end : i ≡ 16 = omega (arith, so .0) in
+    subst (λ (n : ℕ). Filled all l bytes from n rows) end (so .1)
 
 -- all sets are inside
 pub filled-fit : (all : ℕ) (l : Users) (bytes : List ℕ) (from count : ℕ) (rows : List ℕ) → all ≡ allBelow count → Filled all l bytes from 16 rows

@@ -27,6 +27,13 @@ pub record SetsAre (l : Users) (bytes : List ℕ) (u : ℕ) (sets : GroupSets) :
   pub default : placesOf (sets .default) ≡ userSet l bytes defaultGroups u
   pub row : placesOf (sets .row) ≡ userSet l bytes rowGroups u
 
+-- the four values are empty sets
+pub record NoSets (sets : GroupSets) : Type 0 where
+  pub read : placesOf (sets .read) ≡ none
+  pub write : placesOf (sets .write) ≡ none
+  pub default : placesOf (sets .default) ≡ none
+  pub row : placesOf (sets .row) ≡ none
+
 -- ---- sets that lie within one another as they stand, and have groups of `all` only
 unfoldable pub plainSets : (all read write default row : ℕ) → Bool
 plainSets all read write default row = within (union write default) read && within row (intersection default write) && within read all

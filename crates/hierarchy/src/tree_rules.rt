@@ -5,6 +5,7 @@ ghost use mathlib.Core.Path.{_≡_};
 ghost use mathlib.Core.Bool.{true};
 ghost use lib.ListN.{length};
 ghost use Rattle.sets.specs.Groups.{placesOf};
+ghost use Rattle.header.specs.declared.edition.Edition.the-variants.{One};
 ghost use Rattle.header.specs.declared.profile.Profile.the-variants.{Tree};
 ghost use Rattle.hierarchy.specs.Forest.{tableRoom, forestBy, OrderedBy};
 ghost use Rattle.hierarchy.specs.Below.{ofSets};
@@ -17,6 +18,8 @@ use crate::set_rows::sets_fit;
 use crate::table::Table;
 use crate::users::Users;
 use crate::users::sets_or_none;
+use crate::users::words_or_none;
+use header::edition::Edition;
 use header::profile::Profile;
 use records::users::GroupSets;
 use sets::groups::Groups;
@@ -51,7 +54,7 @@ fn first_not_plain(users: Users, bytes: &[u8], from: usize, all: Groups) -> usiz
 
 // Fills the rows with the sets of sixteen users from `from` on. Says no where one of these names a group that is not there; the rule of user
 // records leaves none of these where groups are asked. Nothing is claimed where it says no: then users are asked one after the other.
-fn fill_rows(users: Users, bytes: &[u8], from: usize, all: Groups, rows: &mut [u64]) -> bool
+fn fill_sets(users: Users, bytes: &[u8], from: usize, all: Groups, rows: &mut [u64]) -> bool
     requires { ⌜ Among users (now bytes) × ((from < 2 ^ 60) × (length (now rows) ≡ tableRoom)) ⌝ }
     ensures { λ r. ⌜ (r ≡ true → Filled (placesOf all) users (now (bytes .entry)) from 16 (now (rows .exit))) ⌝ }
 {
@@ -65,6 +68,36 @@ fn fill_rows(users: Users, bytes: &[u8], from: usize, all: Groups, rows: &mut [u
         i += 1;
     }
     true
+}
+
+// The same of edition 1, where a set is one word: a loop of its own, in which the compiler carries four words for a user's sets, and not sixteen.
+fn fill_words(users: Users, bytes: &[u8], from: usize, all: Groups, rows: &mut [u64]) -> bool
+    requires { ⌜ Among users (now bytes) × ((from < 2 ^ 60) × (length (now rows) ≡ tableRoom)) ⌝ }
+    requires { ⌜ users .edition ≡ One ⌝ }
+    ensures { λ r. ⌜ (r ≡ true → Filled (placesOf all) users (now (bytes .entry)) from 16 (now (rows .exit))) ⌝ }
+{
+    let mut i = 0;
+    while i < 16 {
+        let sets = words_or_none(users, bytes, from + i);
+        if !sets_fit(all, sets) {
+            return false;
+        }
+        put_user(rows, i, sets);
+        i += 1;
+    }
+    true
+}
+
+// Fills the rows by the edition, which is asked once for all sixteen users.
+fn fill_rows(users: Users, bytes: &[u8], from: usize, all: Groups, rows: &mut [u64]) -> bool
+    requires { ⌜ Among users (now bytes) × ((from < 2 ^ 60) × (length (now rows) ≡ tableRoom)) ⌝ }
+    ensures { λ r. ⌜ (r ≡ true → Filled (placesOf all) users (now (bytes .entry)) from 16 (now (rows .exit))) ⌝ }
+{
+    let edition = users.edition;
+    match edition {
+        Edition::One => fill_words(users, bytes, from, all, rows),
+        Edition::Two => fill_sets(users, bytes, from, all, rows),
+    }
 }
 
 // The lowest user whose groups break the rule of the tree; the number of users where there is none. The rows are room to work in.

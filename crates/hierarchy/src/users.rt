@@ -1,12 +1,16 @@
 // Where the records of users stand among bytes, and the sets of groups that they hold.
-ghost use Prim.Native.Nat.{_<_};
+ghost use Prim.Native.Nat.{_<_, _≤_};
 ghost use mathlib.Core.Path.{_≡_};
+ghost use lib.ListN.{length};
+ghost use Rattle.header.specs.declared.edition.Edition.the-variants.{One};
 ghost use Rattle.header.specs.declared.layout.Kind.the-variants.{User};
 ghost use Rattle.header.specs.Layout.{editionOf, recordSize, recordsOf};
 ghost use Rattle.header.specs.Limits.{Counted};
 ghost use Rattle.records.specs.Rules.{runRecords};
-ghost use Rattle.hierarchy.specs.Users.{Among, Held};
-ghost use Rattle.hierarchy.specs.UserRows.{SetsAre};
+ghost use Rattle.records.specs.Users.{GroupsAre};
+ghost use Rattle.hierarchy.specs.Users.{userIn, Among, Held};
+ghost use Rattle.hierarchy.specs.UserRows.{NoSets, SetsAre};
+use fields::numbers::number8;
 use header::edition::Edition;
 use header::edition::edition_of;
 use header::layout;
@@ -58,16 +62,19 @@ pub fn in_run(edition: Edition, run: &[u8]) -> Users
     }
 }
 
-// The sets of the user at place u; empty ones where there is none.
-pub(crate) fn sets_or_none(users: Users, bytes: &[u8], u: usize) -> GroupSets
-    requires { ⌜ Among users (now bytes) ⌝ }
-    ensures { λ r. ⌜ SetsAre users (now (bytes .entry)) u r ⌝ }
+// The record of the user at place u.
+fn user_record<'a>(users: Users, bytes: &'a [u8], u: usize) -> &'a [u8]
+    requires { ⌜ Among users (now bytes) × (u < users .count) ⌝ }
+    ensures { λ r. ⌜ (now r ≡ userIn users (now (bytes .entry)) u) × ((length (now r) ≡ recordSize (users .edition) User) × (128 ≤ length (now r))) ⌝ }
 {
-    if u < users.count {
-        let edition = users.edition;
-        let at = users.base + users.size * u + users.gap * (u / users.each);
-        return sets_in(edition, &bytes[at..at + users.size]);
-    }
+    let at = users.base + users.size * u + users.gap * (u / users.each);
+    &bytes[at..at + users.size]
+}
+
+// The sets where there is no user.
+fn no_sets() -> GroupSets
+    ensures { λ r. ⌜ NoSets r ⌝ }
+{
     let none = Groups::none();
     GroupSets {
         read: none,
@@ -75,4 +82,40 @@ pub(crate) fn sets_or_none(users: Users, bytes: &[u8], u: usize) -> GroupSets
         default: none,
         row: none,
     }
+}
+
+// The sets of the user at place u; empty ones where there is none.
+pub(crate) fn sets_or_none(users: Users, bytes: &[u8], u: usize) -> GroupSets
+    requires { ⌜ Among users (now bytes) ⌝ }
+    ensures { λ r. ⌜ SetsAre users (now (bytes .entry)) u r ⌝ }
+{
+    if u < users.count {
+        let edition = users.edition;
+        return sets_in(edition, user_record(users, bytes, u));
+    }
+    no_sets()
+}
+
+// The four sets of groups in a user's record of edition 1, where a set is one word.
+fn words_in(rec: &[u8]) -> GroupSets
+    requires { ⌜ 128 ≤ length (now rec) ⌝ }
+    ensures { λ r. ⌜ GroupsAre One (now (rec .entry)) r ⌝ }
+{
+    GroupSets {
+        read: Groups::of_word(number8(rec, 72)),
+        write: Groups::of_word(number8(rec, 80)),
+        default: Groups::of_word(number8(rec, 88)),
+        row: Groups::of_word(number8(rec, 96)),
+    }
+}
+
+// The same as `sets_or_none`, of edition 1. The edition is not asked, so that the compiler carries four words for the sets, and not sixteen.
+pub(crate) fn words_or_none(users: Users, bytes: &[u8], u: usize) -> GroupSets
+    requires { ⌜ Among users (now bytes) × (users .edition ≡ One) ⌝ }
+    ensures { λ r. ⌜ SetsAre users (now (bytes .entry)) u r ⌝ }
+{
+    if u < users.count {
+        return words_in(user_record(users, bytes, u));
+    }
+    no_sets()
 }
