@@ -1,9 +1,10 @@
 -- Laws of the scans over bytes and names. For each scan: what it gives where the loop that runs it stops, steps on and ends, from
 -- the loop's invariant, that what is left gives what the whole gives. Assumes nothing.
-use Prim.Native.Nat.{ℕ, zero, suc, _+_, _-_, _≤_, _<_}
+use Prim.Native.Nat.{ℕ, zero, suc, _+_, _-_, _≤_, _<_, min}
 use mathlib.Core.Path.{_≡_, refl, sym, ap, _∙_}
-use mathlib.Core.Bool.{Bool, true, false, _&&_, _||_}
+use mathlib.Core.Bool.{Bool, true, false, _&&_, _||_, or-false}
 use mathlib.Core.List.{List, [], _∷_}
+use mathlib.Core.Logic.{⊎-elim}
 use native.Mathlib.Nat.{le-refl, sub-zero, zero-sub, add-sub-cancel-left}
 use native.Mathlib.Numerals.{add-one}
 use native.Mathlib.Omega.{arith}
@@ -13,6 +14,7 @@ use lib.ListN.{length, getD, take, drop, drop-of-length-le, length-take, length-
 use lib.Seq.{take-nil, take-all, take-take, drop-cons, drop-drop, getD-take, getD-drop}
 use Rattle.fields.specs.Bytes.{all, part, byteAt}
 use Rattle.fields.specs.Names.{sameBytes, nameBefore}
+use Rattle.fields.proofs.Both.{below-or}
 
 -- ---- the first n of a list, without the first m
 pub drop-take : (m n : ℕ) (s : List ℕ) → drop m (take n s) ≡ take (n - m) (drop m s)
@@ -101,30 +103,30 @@ module _ (a b : List ℕ) (i : ℕ) where
   unfolding nameBefore
   before-at ha hb = rw (drop-cons a i 0, drop-cons b i 0, add-one)
 
-  pub before-short : length a ≤ i → i < length b → nameBefore (drop i a) (drop i b) ≡ nameBefore a b → true ≡ nameBefore a b
-  unfolding nameBefore
-  before-short ha hb inv = rw (drop-of-length-le a ha, drop-cons b i 0 hb) at inv
-
-  pub before-lower : i < length a → i < length b → nameBefore (drop i a) (drop i b) ≡ nameBefore a b
-      → getD a i 0 < getD b i 0 → true ≡ nameBefore a b
-  before-lower ha hb inv l = sym (sym inv ∙ before-at ha hb ∙ rw (lt-ltb (getD a i 0) (getD b i 0) l))
-
-  pub before-higher : i < length a → i < length b → nameBefore (drop i a) (drop i b) ≡ nameBefore a b
-      → getD b i 0 < getD a i 0 → false ≡ nameBefore a b
-  before-higher ha hb inv l =
-      sym (sym inv ∙ before-at ha hb
-      ∙ rw (le-ltb (getD a i 0) (getD b i 0) (omega arith), ne-eqb (getD a i 0) (getD b i 0) (omega arith)))
+  -- the first byte that differs decides
+  pub before-stop : i < length a → i < length b → nameBefore (drop i a) (drop i b) ≡ nameBefore a b
+      → (getD a i 0 ≡ getD b i 0 → ⊥) → ltb (getD a i 0) (getD b i 0) ≡ nameBefore a b
+  before-stop ha hb inv e = sym (sym inv ∙ before-at ha hb ∙ rw (ne-eqb (getD a i 0) (getD b i 0) e) (or-false _))
 
   pub before-step : i < length a → i < length b → nameBefore (drop i a) (drop i b) ≡ nameBefore a b
-      → getD b i 0 ≤ getD a i 0 → getD a i 0 ≤ getD b i 0 → nameBefore (drop (i + 1) a) (drop (i + 1) b) ≡ nameBefore a b
-  before-step ha hb inv l m =
+      → getD a i 0 ≡ getD b i 0 → nameBefore (drop (i + 1) a) (drop (i + 1) b) ≡ nameBefore a b
+  before-step ha hb inv e =
       sym (sym inv ∙ before-at ha hb
-      ∙ rw (le-ltb (getD a i 0) (getD b i 0) l, eq-eqb (getD a i 0) (getD b i 0) (omega arith)))
+      ∙ rw (le-ltb (getD a i 0) (getD b i 0) (omega arith), eq-eqb (getD a i 0) (getD b i 0) e))
+
+  before-short : length a ≤ i → i < length b → nameBefore (drop i a) (drop i b) ≡ true
+  unfolding nameBefore
+  before-short ha hb = rw (drop-of-length-le a ha, drop-cons b i 0 hb)
 
 before-none : (xs : List ℕ) → nameBefore xs [] ≡ false
 unfolding nameBefore
 before-none [] = refl
 before-none (x ∷ xs) = refl
 
-pub before-done : (a b : List ℕ) (i : ℕ) → length b ≤ i → nameBefore (drop i a) (drop i b) ≡ nameBefore a b → false ≡ nameBefore a b
-before-done a b i h inv = sym (before-none (drop i a)) ∙ (rw (drop-of-length-le b h) at inv)
+-- where the shorter begins the longer, the lengths decide
+pub before-done : (a b : List ℕ) (i : ℕ) → i ≡ min (length a) (length b) → nameBefore (drop i a) (drop i b) ≡ nameBefore a b
+    → ltb i (length b) ≡ nameBefore a b
+before-done a b i e inv =
+    ⊎-elim (λ l. lt-ltb i (length b) l ∙ sym (before-short a b i (omega arith) l) ∙ inv)
+    (λ l. le-ltb i (length b) l ∙ sym (ap (nameBefore (drop i a)) (drop-of-length-le b l) ∙ before-none (drop i a)) ∙ inv)
+    (below-or i (length b))

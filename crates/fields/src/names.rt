@@ -64,22 +64,17 @@ pub fn same_in(letters: Letters, a: &[u8], b: &[u8]) -> bool
     }
 }
 
-// The first name comes before the second in byte order.
+// The first name comes before the second in byte order: the first bytes that differ decide or, if one name begins the other, the lengths.
 pub fn name_before(a: &[u8], b: &[u8]) -> bool
     ensures { λ r. ⌜ r ≡ nameBefore (now (a .entry)) (now (b .entry)) ⌝ }
 {
+    let m = if a.len() < b.len() { a.len() } else { b.len() };
     let mut i = 0;
-    while i < b.len() {
-        if a.len() <= i {
-            return true;
-        }
-        if a[i] < b[i] {
-            return true;
-        }
-        if b[i] < a[i] {
-            return false;
+    while i < m {
+        if a[i] != b[i] {
+            return a[i] < b[i];
         }
         i += 1;
     }
-    false
+    m < b.len()
 }
