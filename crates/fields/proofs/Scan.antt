@@ -7,10 +7,10 @@ use mathlib.Core.Logic.{⊎-elim}
 use native.Mathlib.Nat.{add-zero, zero-add, add-suc, suc-add, le-refl, eq-or-lt-of-le}
 use native.Mathlib.Numerals.{add-one}
 use native.Mathlib.Omega.{arith}
-use borrow.Author.Tests.{eqb-true, eq-eqb}
+use borrow.Author.Tests.{eqb-true}
 use lib.ListN.{length, getD}
 use Rattle.fields.specs.Scan.{firstBad, everywhere, listFrom}
-use Rattle.fields.proofs.Both.{parts, both, no-right, same-truth, below-or}
+use Rattle.fields.proofs.Both.{both, no-right, below-or}
 
 module _ (rule : ℕ → Bool) where
   good-step : (n k : ℕ) → rule k ≡ true → firstBad rule (suc n) k ≡ firstBad rule n (suc k)
@@ -81,16 +81,6 @@ module _ (rule : ℕ → Bool) where
   all-good zero k h = sym (add-zero k)
   all-good (suc n) k h =
       rw (h k (le-refl k) (omega arith)) (all-good n (suc k) (λ i a b. h i (omega arith) (omega arith)) ∙ omega arith)
-
-  -- a loop that looks at every place: with one place more
-  pub everywhere-next : (n k : ℕ) → everywhere rule (n + 1) k ≡ (everywhere rule n k && rule (k + n))
-  everywhere-next n k =
-      same-truth _ _
-      (λ e. both _ _ (eq-eqb _ _ (all-good n k (λ i a b. everywhere-at (n + 1) k i e a (omega arith))))
-      (everywhere-at (n + 1) k (k + n) e (omega arith) (omega arith)))
-      (λ e. let p = parts _ _ e in
-      eq-eqb _ _ (all-good (n + 1) k (λ i a b. let h : i ≤ k + n = omega arith in
-      ⊎-elim (λ q. ap rule q ∙ p .1) (λ l. everywhere-at n k i (p .0) a l) (eq-or-lt-of-le h))))
 
   -- ---- a loop over i from k up to e, with the invariant that what is left gives what the whole gives
   module _ (e i w : ℕ) where

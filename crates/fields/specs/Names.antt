@@ -24,10 +24,9 @@ nameRule field =
     leb 1 (byteAt field 0) && leb (byteAt field 0) 30 && allNameBytes (nameIn field)
     && allZero (part field (1 + byteAt field 0) (30 - byteAt field 0))
 
--- of the 30 bytes after a name's length, here at the front of s, the one at place j: a zero is the last of them or has a zero after it, and
--- any other byte is of the alphabet
-unfoldable pub letterAt : List ℕ → ℕ → Bool
-letterAt s j = cond (eqb (byteAt s j) 0) (not (ltb j 29) || eqb (byteAt s (j + 1)) 0) (not (ltb j 30) || nameByte (byteAt s j))
+-- of the 30 bytes after a name's length, here at the front of s, the one at place j: it is zero where `inside` has a zero, else of the alphabet
+unfoldable pub letterAt : List ℕ → List ℕ → ℕ → Bool
+letterAt s inside j = not (ltb j 30) || cond (eqb (byteAt inside j) 0) (eqb (byteAt s j) 0) (nameByte (byteAt s j))
 
 -- two names, or any runs of bytes, are the same, byte for byte
 unfoldable pub sameBytes : List ℕ → List ℕ → Bool

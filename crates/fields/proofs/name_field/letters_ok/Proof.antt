@@ -2,18 +2,17 @@ use Prim.Native.Nat.{ℕ, _≤_, _-_}
 use mathlib.Core.Path.{_≡_, refl, ap, _∙_}
 use mathlib.Core.Bool.{not, Bool·not-not}
 use native.Mathlib.Omega.{arith}
-use borrow.Author.Needs.{needs}
-use Rattle.fields.specs.Names.{letterAt}
+use Rattle.fields.specs.Names.{nameByte, letterAt}
 use Rattle.fields.specs.Scan.{firstBad, everywhere}
 use Rattle.fields.proofs.NameBytes.{letters-next}
 use Rattle.fields.proofs.name_field.letters_ok.Statement.{statement}
 use Rattle.fields.proofs.name_field.letters_ok.Tie as tie
 
 abbrev Inv-loop : tie.InvT-loop
-Inv-loop window bad₀ j₀ bad j = (j ≤ 32) × (bad ≡ not (everywhere (letterAt window) j 0))
+Inv-loop bytes inside bad₀ j₀ bad j = (j ≤ 32) × (bad ≡ not (everywhere (letterAt bytes inside) j 0))
 
 abbrev μ-loop : tie.MeasureT-loop
-μ-loop window bad₀ j₀ bad j = 32 - j
+μ-loop bytes inside bad₀ j₀ bad j = 32 - j
 
 loop-holds : tie.Need-loop-holds Inv-loop μ-loop
 unfolding firstBad
@@ -22,14 +21,8 @@ loop-holds c = (omega arith, refl)
 shared-slice-read-x : tie.Need-shared-slice-read-x Inv-loop μ-loop
 shared-slice-read-x c = omega arith
 
-add-y : tie.Need-add-y Inv-loop μ-loop
-add-y c = omega arith
-
-shared-slice-read-y : tie.Need-shared-slice-read-y Inv-loop μ-loop
-shared-slice-read-y c = omega arith
-
-name-byte-requires : tie.Need-name-byte-requires Inv-loop μ-loop
-name-byte-requires c κs = search needs
+shared-slice-read-bad : tie.Need-shared-slice-read-bad Inv-loop μ-loop
+shared-slice-read-bad c = omega arith
 
 add-j : tie.Need-add-j Inv-loop μ-loop
 add-j c = omega arith
@@ -38,16 +31,17 @@ loop-less : tie.Need-loop-less Inv-loop μ-loop
 loop-less c = omega arith
 
 loop-again : tie.Need-loop-again Inv-loop μ-loop
+unfolding nameByte
 loop-again c =
-    let known = c .before in
-    let l = known .before .before .before .loop in
-    (omega arith, rw (c .name-byte .ensures) (letters-next _ (l .j) _ (l .inv .1)))
+    let l = c .before .before .before .loop in
+    (omega arith, letters-next _ _ (l .j) _ (l .inv .1))
 
 returns : tie.Need-returns Inv-loop μ-loop
 returns c =
     let l = c .before .loop in
+    let a = c .before .before .args in
     let e : l .j ≡ 32 = omega (arith, l .inv .0) in
-    ap not (l .inv .1) ∙ Bool·not-not _ ∙ ap (λ (k : ℕ). everywhere (letterAt (c .before .before .before .args .window .now)) k 0) e
+    ap not (l .inv .1) ∙ Bool·not-not _ ∙ ap (λ (k : ℕ). everywhere (letterAt (a .bytes .now) (a .inside .now)) k 0) e
 
 pub letters-ok-spec : {M : Type 1} → statement M
 letters-ok-spec =
@@ -57,9 +51,7 @@ letters-ok-spec =
     μ-loop
     loop-holds
     shared-slice-read-x
-    add-y
-    shared-slice-read-y
-    name-byte-requires
+    shared-slice-read-bad
     add-j
     loop-less
     loop-again
