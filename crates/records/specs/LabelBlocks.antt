@@ -1,16 +1,19 @@
 -- What code that passes over the first full blocks of labels knows of a run of labels and of a block. What the labels name is gathered, and
 -- only the whole is held against what exists.
-use Prim.Native.Nat.{ℕ, _+_, _-_, _*_, _≤_, _<_}
+use Prim.Native.Nat.{ℕ, _+_, _-_, _*_, _/_, _≤_, _<_}
 use mathlib.Core.Path.{_≡_}
 use mathlib.Core.Bool.{true}
 use mathlib.Core.List.{List}
+use lib.ListN.{length}
 use Rattle.fields.specs.Bytes.{byteAt, part, number4, allZero}
+use Rattle.sets.specs.Groups.{placesOf}
 use Rattle.sets.specs.Sets.{within}
 use Rattle.header.specs.declared.edition.Edition.{Edition}
 use Rattle.header.specs.declared.counts.Counts.{Counts}
 use Rattle.header.specs.declared.layout.Shape.{Shape}
 use Rattle.header.specs.declared.layout.Kind.the-variants.{Label}
 use Rattle.header.specs.Layout.{kindByte}
+use Rattle.records.specs.declared.label_blocks.Gathered.{Gathered}
 use Rattle.records.specs.Fields.{tagOf, labelCompartments, labelGroups}
 use Rattle.records.specs.LabelRuns.{tagBefore, runAfter}
 use Rattle.records.specs.Rules.{runRecord}
@@ -27,6 +30,11 @@ pub record LabelIn (edition : Edition) (before levels compartments groups : ℕ)
 pub record GatheredOf (edition : Edition) (size : ℕ) (run : List ℕ) (before levels n last compartments groups : ℕ) : Type 0 where
   pub each : (j : ℕ) → j < n → LabelIn edition (tagBefore size before run j) levels compartments groups (runRecord size run j)
   pub end : last ≡ tagBefore size before run n
+
+-- so is each of a run, where the last tag is not 0
+abbrev pub AllGathered : Edition → ℕ → List ℕ → ℕ → ℕ → Gathered → Type 0
+AllGathered edition size run before levels all =
+    (all .last ≡ 0 → ⊥) → GatheredOf edition size run before levels (length run / size) (all .last) (all .compartments) (placesOf (all .groups))
 
 -- the records of a full block, and where its unused bytes begin
 abbrev pub fullRun : Shape → List ℕ → List ℕ

@@ -49,23 +49,23 @@ all-zero-requires c κs = search needs
 returns : tie.Need-returns
 returns c = λ some. absurd (some refl)
 
-sub-gather : tie.Need-sub-gather
-sub-gather c = search needs
+sub-gather-by : tie.Need-sub-gather-by
+sub-gather-by c = search needs
 
-part-gather-start : tie.Need-part-gather-start
-part-gather-start c = search needs
+part-gather-by-start : tie.Need-part-gather-by-start
+part-gather-by-start c = search needs
 
-part-gather-end : tie.Need-part-gather-end
-part-gather-end c = search needs
+part-gather-by-end : tie.Need-part-gather-by-end
+part-gather-by-end c = search needs
 
-gather-requires : tie.Need-gather-requires
-gather-requires c κs =
+gather-by-requires : tie.Need-gather-by-requires
+gather-by-requires c κs =
     let head = c .before .before .before .before in
     let known = head .before .before .before .before .before in
     let start = known .before in
     let a = start .args in
     let p = start .pre .1 in
-    (p .0, rw add-sub-cancel-left (full-whole (a .existing .counts) (a .shape) (p .1 .0) (p .0) (a .block .now) (p .1 .1)))
+    rw (add-sub-cancel-left, ← p .0) (full-whole (a .existing .counts) (a .shape) (p .1 .0) (p .0) (a .block .now) (p .1 .1))
 
 within-requires : tie.Need-within-requires
 within-requires c κs = search needs
@@ -86,7 +86,7 @@ returns-2 c =
     let a = start .args in
     let p = start .pre in
     let e = p .0 .0 in
-    let found = all .gather .result in
+    let found = all .gather-by .result in
     let value = 76 + 256 * a .shape .capacity in
     let told = neither (not (eqb (head .number2 .result) value)) (not (zero .all-zero .result)) (laid .if1 .left) in
     let exist = parts (named .within .result && grouped .within2 .result) (leb (found .last) 99999999) (c .if2 .taken) in
@@ -96,7 +96,7 @@ returns-2 c =
     (sym (head .number2 .ensures .0) ∙ eqb-true _ _ (not-false _ (told .0)))
     (sym (zero .all-zero .ensures) ∙ not-false _ (told .1))
     (a .before) (found .last) (found .compartments) (placesOf (found .groups))
-    (rw add-sub-cancel-left at (all .gather .ensures some))
+    (rw (add-sub-cancel-left, ← p .1 .0) at (all .gather-by .ensures some))
     (sym (named .within .ensures ∙ ap (within (found .compartments)) (e .compartments)) ∙ each .0)
     (sym (grouped .within2 .ensures ∙ ap (within (placesOf (found .groups))) (e .groups)) ∙ each .1)
     (leb-true (found .last) 99999999 (exist .1))
@@ -120,10 +120,10 @@ last-of-block-spec =
     part-all-zero-end
     all-zero-requires
     returns
-    sub-gather
-    part-gather-start
-    part-gather-end
-    gather-requires
+    sub-gather-by
+    part-gather-by-start
+    part-gather-by-end
+    gather-by-requires
     within-requires
     within-requires-2
     returns-2
