@@ -19,7 +19,7 @@ use Rattle.header.specs.declared.counts.Counts.{Counts}
 use Rattle.header.specs.declared.layout.Kind.the-variants.{Component}
 use Rattle.header.specs.Layout.{classFirst, classAt}
 use Rattle.records.specs.Fields.{classOf, componentNameField, componentName, numericForm, parentOf, noParent, componentEnd}
-use Rattle.records.specs.Rules.{recordIn, classStart, parentCount, parentRule, componentShape, numericAfter, otherName, newNameRule, ruleOf}
+use Rattle.records.specs.Rules.{recordIn, classStart, parentCount, parentRule, componentShape, numericAfter, otherName, newNameFrom, newNameRule, ruleOf}
 use Rattle.records.proofs.Rising.{rise, apart}
 
 -- ---- the class at a place: levels, then compartments, then groups
@@ -130,6 +130,23 @@ module _ (edition : Edition) (class count : ℕ) (rec : List ℕ) where
   no-parent k other = ⊎-elim (λ e. e) (λ p. absurd (other (p .0))) (k .parent)
 
 -- ---- among the others
+-- no component from place `start` on has the name of the one at i
+pub new-name-from : (records : List (List ℕ)) (start i : ℕ) → start ≤ i
+    → ((j : ℕ) → start ≤ j → j < i → componentName (recordIn records j) ≡ componentName (recordIn records i) → ⊥)
+    → newNameFrom start records i ≡ true
+unfolding otherName
+new-name-from records start i begun f =
+    let name : List ℕ = componentName (recordIn records i) in
+    eq-eqb _ _ (all-good (λ j. not (sameBytes (componentName (recordIn records j)) name)) (i - start) start
+    (λ j low high. differs (componentName (recordIn records j)) name (f j low (omega arith))))
+  where
+    differs : (a b : List ℕ) → (a ≡ b → ⊥) → not (sameBytes a b) ≡ true
+    differs a b g = at (sameBytes a b) refl
+      where
+        at : (t : Bool) → sameBytes a b ≡ t → not t ≡ true
+        at true e = absurd (g (same-means a b e))
+        at false e = refl
+
 module _ (n : Counts) (records : List (List ℕ)) (i : ℕ) where
   -- the first of its class, or above the one before it
   abbrev pub NumericRises : Type 0
@@ -154,18 +171,8 @@ module _ (n : Counts) (records : List (List ℕ)) (i : ℕ) where
       (everywhere-at (λ j. not (sameBytes (componentName (recordIn records j)) name)) (i - classStart n i) (classStart n i) j e low (omega arith)))
 
   pub new-name-holds : NameNew → newNameRule n records i ≡ true
-  unfolding newNameRule otherName
-  new-name-holds f =
-      let name : List ℕ = componentName (recordIn records i) in
-      eq-eqb _ _ (all-good (λ j. not (sameBytes (componentName (recordIn records j)) name)) (i - classStart n i) (classStart n i)
-      (λ j low high. differs (componentName (recordIn records j)) name (f j low (omega (arith, class-begun n i)))))
-    where
-      differs : (a b : List ℕ) → (a ≡ b → ⊥) → not (sameBytes a b) ≡ true
-      differs a b g = at (sameBytes a b) refl
-        where
-          at : (t : Bool) → sameBytes a b ≡ t → not t ≡ true
-          at true e = absurd (g (same-means a b e))
-          at false e = refl
+  unfolding newNameRule
+  new-name-holds f = new-name-from records (classStart n i) i (class-begun n i) f
 
   pub record ComponentAmong : Type 0 where
     pub kept : ComponentKept (n .edition) (classAt n i) (parentCount n) (recordIn records i)

@@ -10,18 +10,16 @@ use lib.ListN.{length}
 use Rattle.fields.specs.Scan.{firstBad}
 use Rattle.fields.proofs.Scan.{bad-shift, bad-same-on, list-length, list-at}
 use Rattle.header.specs.declared.layout.Kind.the-variants.{Component}
-use Rattle.header.specs.declared.counts.Counts.{Counts}
 use Rattle.header.specs.Layout.{countOf, recordAt, recordsOf}
 use Rattle.header.proofs.Inside.{record-of}
 use Rattle.records.specs.Fields.{componentName}
-use Rattle.records.specs.Rules.{recordIn, runRecord, runRecords, classStart, otherName, newNameRule}
+use Rattle.records.specs.Rules.{recordIn, runRecord, runRecords, otherName, newNameFrom}
 
 -- a name is new where a search of the class up to it finds none before it
-pub fresh-by : (n : Counts) (records : List (List ℕ)) (i start r : ℕ) → start ≡ classStart n i → start ≤ i
+pub fresh-by : (records : List (List ℕ)) (i start r : ℕ) → start ≤ i
     → r ≡ firstBad (λ j. otherName (componentName (recordIn records i)) (recordIn records j)) (i - start) start
-    → eqb r i ≡ newNameRule n records i
-unfolding newNameRule
-fresh-by n records i start r e low found = rw (found, ← e, add-sub-of-le low)
+    → eqb r i ≡ newNameFrom start records i
+fresh-by records i start r low found = rw (found, add-sub-of-le low)
 
 -- a search of n places that are others from `from` on
 pub bad-placed : (f rule : ℕ → Bool) (n from : ℕ) → ((q : ℕ) → q < n → f q ≡ rule (from + q)) → from + firstBad f n 0 ≡ firstBad rule n from

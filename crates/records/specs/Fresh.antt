@@ -74,9 +74,13 @@ Whole Run bytes = length bytes % 40 ≡ 0
 pub record NamesKept (records : List (List ℕ)) (to : ℕ) : Type 0 where
   pub each : (j : ℕ) → j < to → nameRule (componentNameField (recordIn records j)) ≡ true
 
--- each component of the class at place i, up to that place, is marked
-pub record Marked (n : Counts) (records : List (List ℕ)) (i : ℕ) (filter : List ℕ) : Type 0 where
-  pub each : (j : ℕ) → classStart n i ≤ j → j < i → marked filter (nameKey (recordIn records j)) ≡ true
+-- each component from place `start` up to place i is marked
+pub record MarkedFrom (records : List (List ℕ)) (start i : ℕ) (filter : List ℕ) : Type 0 where
+  pub each : (j : ℕ) → start ≤ j → j < i → marked filter (nameKey (recordIn records j)) ≡ true
+
+-- each component of the class at place i, up to that place, is
+abbrev pub Marked : Counts → List (List ℕ) → ℕ → List ℕ → Type 0
+Marked n records i filter = MarkedFrom records (classStart n i) i filter
 
 -- the run begins with the records of the places from `from` up to `to`
 pub record HoldsFrom (records : List (List ℕ)) (from to : ℕ) (run : List ℕ) : Type 0 where

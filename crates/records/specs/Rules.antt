@@ -63,10 +63,13 @@ runNamed run name j = otherName name (runRecord 40 run j)
 abbrev pub othersNamed : List ℕ → List ℕ → ℕ → Bool
 othersNamed im name j = otherName name (recordAt im Component j)
 
+-- no component from place `start` up to place i has the name of the one at i
+abbrev pub newNameFrom : ℕ → List (List ℕ) → ℕ → Bool
+newNameFrom start records i = everywhere (λ j. otherName (componentName (recordIn records i)) (recordIn records j)) (i - start) start
+
 -- inside a class names differ: no earlier component of the class has the name of the one at i
 unfoldable pub newNameRule : Counts → List (List ℕ) → ℕ → Bool
-newNameRule n records i =
-    everywhere (λ j. otherName (componentName (recordIn records i)) (recordIn records j)) (i - classStart n i) (classStart n i)
+newNameRule n records i = newNameFrom (classStart n i) records i
 
 -- how many groups may be a parent: in the release profile none
 abbrev pub parentCount : Counts → ℕ

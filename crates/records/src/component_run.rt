@@ -2,14 +2,15 @@
 // asked apart, by `fresh`. A run is asked class by class, so that what is the same for a class is worked out once. Of the record before only
 // the numeric form is asked, so the loop carries the lowest that the next may have. The parent's place and the unused bytes after it are one
 // number: it is that of no parent, or below the count of parents, exactly if the place is and they are zero.
-ghost use Prim.Native.Nat.{_+_, _/_, _%_, _≤_, _<_};
+ghost use Prim.Native.Nat.{_/_, _%_, _≤_, _<_};
 ghost use mathlib.Core.Path.{_≡_};
 ghost use lib.ListN.{length};
 ghost use Rattle.fields.specs.Scan.{firstBad};
 ghost use Rattle.header.specs.declared.layout.Kind.the-variants.{Component};
 ghost use Rattle.header.specs.Layout.{classAt};
-ghost use Rattle.records.specs.ComponentRuns.{parentsAmong, askedOf, lowestForm, componentAfter, runAsked, ClassUpto};
+ghost use Rattle.records.specs.ComponentRuns.{parentsAmong, askedOf, lowestForm, componentAfter, runAsked};
 ghost use Rattle.records.specs.Rules.{parentCount, firstBadOfRun};
+use crate::components::class_left;
 use crate::components::class_start;
 use crate::components::parent_count;
 use fields::name_field::name_ok;
@@ -100,20 +101,6 @@ fn first_bad_in_class(asked: Asked, first: u32, run: &[u8]) -> usize
         at += 40;
     }
     at / 40
-}
-
-// How many of the `left` places from i on are of the class at place i.
-fn class_left(counts: Counts, i: usize, left: usize) -> usize
-    requires { ⌜ 0 < left ⌝ }
-    ensures { λ r. ⌜ ClassUpto counts i (i + left) (i + r) ⌝ }
-{
-    if i < counts.levels {
-        return lower(left, counts.levels - i);
-    }
-    if i - counts.levels < counts.compartments {
-        return lower(left, counts.compartments - (i - counts.levels));
-    }
-    left
 }
 
 // The first that breaks a rule; their number where none does. The first of the run is at place k. Only the first class of the run may have

@@ -1,11 +1,12 @@
-// What a component record holds, where a class begins, and searches for a name.
-ghost use Prim.Native.Nat.{_-_, _/_, _%_, _<_, _≤_};
+// What a component record holds, where a class begins and ends, and searches for a name.
+ghost use Prim.Native.Nat.{_+_, _-_, _/_, _%_, _<_, _≤_};
 ghost use mathlib.Core.Path.{_≡_};
 ghost use lib.ListN.{length};
 ghost use Rattle.fields.specs.Names.{sameBytes, inLetters};
 ghost use Rattle.fields.specs.Scan.{firstBad};
 ghost use Rattle.header.specs.declared.layout.Kind.the-variants.{Component};
 ghost use Rattle.header.specs.Layout.{editionOf, countOf, recordSize, Fitted, recordAt, OneBlock};
+ghost use Rattle.records.specs.ComponentRuns.{ClassUpto};
 ghost use Rattle.records.specs.Fields.{componentNameLength, componentName, parentOf};
 ghost use Rattle.records.specs.Rules.{classStart, parentCount, runNamed, othersNamed};
 use fields::names;
@@ -67,6 +68,20 @@ pub fn class_start(counts: Counts, i: usize) -> usize
         return counts.levels;
     }
     counts.levels + counts.compartments
+}
+
+// How many of the `left` places from i on are of the class at place i.
+pub(crate) fn class_left(counts: Counts, i: usize, left: usize) -> usize
+    requires { ⌜ 0 < left ⌝ }
+    ensures { λ r. ⌜ ClassUpto counts i (i + left) (i + r) ⌝ }
+{
+    if i < counts.levels {
+        return lower(left, counts.levels - i);
+    }
+    if i - counts.levels < counts.compartments {
+        return lower(left, counts.compartments - (i - counts.levels));
+    }
+    left
 }
 
 // Does the component have that name, in those letters? Most names differ in length. A stored length past the field counts as 30, so the stored

@@ -11,8 +11,9 @@ ghost use Rattle.fields.specs.Scan.{firstBad, firstWhere};
 ghost use Rattle.header.specs.declared.layout.Kind.the-variants.{Component};
 ghost use Rattle.header.specs.Layout.{countOf, recordAt, Fitted};
 ghost use Rattle.records.specs.Fields.{componentNameField, componentName};
-ghost use Rattle.records.specs.Rules.{recordIn, runRecord, otherName, newNameRule, freshRule};
-ghost use Rattle.records.specs.Fresh.{nameKey, marked, MarkedToo, fieldOf, alike, componentsIn, Whole, NamesKept, Marked, HoldsFrom};
+ghost use Rattle.records.specs.Rules.{recordIn, runRecord, otherName, newNameFrom, freshRule};
+ghost use Rattle.records.specs.Fresh.{nameKey, marked, MarkedToo, fieldOf, alike, componentsIn, Whole, NamesKept, MarkedFrom, Marked, HoldsFrom};
+use crate::components::class_left;
 use crate::components::class_start;
 use fields::numbers::number8;
 use header::contents::lower;
@@ -155,33 +156,62 @@ fn first_same(source: Source, records: &[u8], start: usize, end: usize, rec: &[u
     }
 }
 
-// Has no component of its class before it the name of the one at place i?
+// Has no component from `start` on, where its class begins, the name of the one at place i?
 fn is_fresh(
     source: Source,
     records: &[u8],
-    counts: Counts,
+    start: usize,
     seen: &mut Filter,
     i: usize,
     rec: &[u8],
 ) -> bool
-    requires { ⌜ Whole source (now records) × (i < length (componentsIn source (now records))) ⌝ }
+    requires { ⌜ Whole source (now records) × ((start ≤ i) × (i < length (componentsIn source (now records)))) ⌝ }
     requires { ⌜ (now rec ≡ recordIn (componentsIn source (now records)) i) × (length (now rec) ≡ 40) ⌝ }
-    requires { ⌜ NamesKept (componentsIn source (now records)) (i + 1) × Marked counts (componentsIn source (now records)) i (now seen) ⌝ }
-    ensures { λ r. ⌜ r ≡ newNameRule counts (componentsIn source (now (records .entry))) i ⌝ }
-    ensures { λ r. ⌜ Marked counts (componentsIn source (now (records .entry))) (i + 1) (now (seen .exit)) ⌝ }
+    requires { ⌜ NamesKept (componentsIn source (now records)) (i + 1) × MarkedFrom (componentsIn source (now records)) start i (now seen) ⌝ }
+    ensures { λ r. ⌜ r ≡ newNameFrom start (componentsIn source (now (records .entry))) i ⌝ }
+    ensures { λ r. ⌜ MarkedFrom (componentsIn source (now (records .entry))) start (i + 1) (now (seen .exit)) ⌝ }
 {
-    let start = class_start(counts, i);
-    if i == start {
-        *seen = EMPTY;
-    }
     if !mark(seen, rec) {
         return true;
     }
     first_same(source, records, start, i, rec) == i
 }
 
+// The same as `first_stale`, of places of one class, which begins at `start`.
+fn stale_in_class(
+    source: Source,
+    records: &[u8],
+    start: usize,
+    seen: &mut Filter,
+    from: usize,
+    to: usize,
+    run: &[u8],
+) -> usize
+    requires { ⌜ Whole source (now records) × ((start ≤ from) × ((from ≤ to) × (to ≤ length (componentsIn source (now records))))) ⌝ }
+    requires { ⌜ HoldsFrom (componentsIn source (now records)) from to (now run) ⌝ }
+    requires { ⌜ NamesKept (componentsIn source (now records)) to × MarkedFrom (componentsIn source (now records)) start from (now seen) ⌝ }
+    ensures { λ r. ⌜ r ≡ firstBad (newNameFrom start (componentsIn source (now (records .entry)))) (to - from) from ⌝ }
+    ensures { λ r. ⌜ (r ≡ to → MarkedFrom (componentsIn source (now (records .entry))) start to (now (seen .exit))) ⌝ }
+{
+    if from == start {
+        *seen = EMPTY;
+    }
+    let mut at = 0;
+    let mut i = from;
+    while i < to {
+        let rec = &run[at..at + 40];
+        if !is_fresh(source, records, start, seen, i, rec) {
+            return i;
+        }
+        at += 40;
+        i += 1;
+    }
+    i
+}
+
 // The first of the places from `from` up to `to` whose component has the name of one before it in its class; `to` where there is none. The run
-// holds the records of these places. Up to there every name keeps the rule of its field.
+// holds the records of these places. Up to there every name keeps the rule of its field. Class by class, so that where a class begins is worked
+// out once.
 pub fn first_stale(
     source: Source,
     records: &[u8],
@@ -197,15 +227,16 @@ pub fn first_stale(
     ensures { λ r. ⌜ r ≡ firstBad (freshRule Component counts (componentsIn source (now (records .entry)))) (to - from) from ⌝ }
     ensures { λ r. ⌜ (r ≡ to → Marked counts (componentsIn source (now (records .entry))) to (now (seen .exit))) ⌝ }
 {
-    let mut at = 0;
     let mut i = from;
     while i < to {
-        let rec = &run[at..at + 40];
-        if !is_fresh(source, records, counts, seen, i, rec) {
-            return i;
+        let end = i + class_left(counts, i, to - i);
+        let start = class_start(counts, i);
+        let part = &run[40 * (i - from)..40 * (end - from)];
+        let bad = stale_in_class(source, records, start, seen, i, end, part);
+        if bad < end {
+            return bad;
         }
-        at += 40;
-        i += 1;
+        i = end;
     }
     i
 }

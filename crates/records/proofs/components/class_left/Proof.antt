@@ -1,8 +1,8 @@
 use native.Mathlib.Omega.{arith}
 use borrow.Author.Needs.{needs}
 use Rattle.records.proofs.ComponentTests.{upto-level, upto-compartment, upto-group}
-use Rattle.records.proofs.component_run.class_left.Statement.{statement}
-use Rattle.records.proofs.component_run.class_left.Tie as tie
+use Rattle.records.proofs.components.class_left.Statement.{statement}
+use Rattle.records.proofs.components.class_left.Tie as tie
 
 sub-lower : tie.Need-sub-lower
 sub-lower c = search needs
