@@ -106,6 +106,10 @@ unknownRule Two all = false
 abbrev pub unknownRead : List ℕ → Rights → Bool
 unknownRead im rights = unknownRule (editionOf im) (readsAll rights)
 
+-- the k-th label decides; where there is none, the edition
+abbrev pub readsAt : List ℕ → Rights → ℕ → Bool
+readsAt im rights k = cond (ltb k (labels im)) (readsLabel rights (labelAt im k)) (unknownRead im rights)
+
 -- the label that the tag names decides; where none carries it, the edition
 unfoldable pub mayRead : List ℕ → Rights → ℕ → Bool
 mayRead im rights tag = cond (knownTag im tag) (readsLabel rights (labelAt im (labelOfTag im tag))) (unknownRead im rights)

@@ -7,7 +7,7 @@ ghost use Rattle.header.specs.Limits.{Counted};
 ghost use Rattle.image.specs.Check.{IsAccepted};
 ghost use Rattle.labels.specs.Label.{marksOf, labelAt};
 ghost use Rattle.access.specs.Rights.{rightsOf};
-ghost use Rattle.access.specs.Verdicts.{readsAll, writesAll, holdsCompaccess, readLevelRule, readGroupsRule, readTests, readsLabel, treeSetsRule, releaseSetsRule, writeSetsRule, writeTests, writesLabel, unknownRule, unknownRead, mayRead, mayWrite};
+ghost use Rattle.access.specs.Verdicts.{readsAll, writesAll, holdsCompaccess, readLevelRule, readGroupsRule, readTests, readsLabel, treeSetsRule, releaseSetsRule, writeSetsRule, writeTests, writesLabel, unknownRule, unknownRead, readsAt, mayRead, mayWrite};
 use crate::rights::View;
 use crate::rights::is_between;
 use fields::numbers::number8;
@@ -165,16 +165,24 @@ pub fn unknown_read(image: &[u8], view: View) -> bool
     is_unknown_seen(image, reads_all(view))
 }
 
+// The k-th label decides; where there is none, the edition. Apart from the look-up of a tag, so that neither has to keep what the other needs: a loop
+// over rows calls both.
+pub fn reads_at(image: &[u8], view: View, k: usize) -> bool
+    requires { ⌜ Counted (now image) ⌝ }
+    ensures { λ r. ⌜ r ≡ readsAt (now (image .entry)) (rightsOf view) k ⌝ }
+{
+    if k < layout::labels(image) {
+        return reads_label(view, label_at(image, k));
+    }
+    unknown_read(image, view)
+}
+
 // The tag's label decides; where none carries it, the edition.
 pub fn may_read(image: &[u8], view: View, tag: u32) -> bool
     requires { ⌜ IsAccepted (now image) ⌝ }
     ensures { λ r. ⌜ r ≡ mayRead (now (image .entry)) (rightsOf view) tag ⌝ }
 {
-    let k = label_of_tag(image, tag);
-    if k < layout::labels(image) {
-        return reads_label(view, label_at(image, k));
-    }
-    unknown_read(image, view)
+    reads_at(image, view, label_of_tag(image, tag))
 }
 
 // The tag's label decides; where none carries it, the edition.

@@ -13,13 +13,14 @@ use access::rights::View;
 use access::verdicts;
 use buffers::given::put;
 use fields::numbers::number4;
+use image::given::label_of_tag;
 
 // The row's tag decides.
 pub fn is_readable(image: &[u8], view: View, row: &[u8]) -> bool
     requires { ⌜ IsAccepted (now image) × (4 ≤ length (now row)) ⌝ }
     ensures { λ r. ⌜ r ≡ rowReadable (now (image .entry)) (rightsOf view) (now (row .entry)) ⌝ }
 {
-    verdicts::may_read(image, view, number4(row, 0))
+    verdicts::reads_at(image, view, label_of_tag(image, number4(row, 0)))
 }
 
 pub fn is_writable(image: &[u8], view: View, row: &[u8]) -> bool
