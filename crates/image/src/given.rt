@@ -1,19 +1,20 @@
 // Look-ups for the crates above, once the image is known to be accepted. Counts and the fields of records are asked of
 // `records`, ancestors and below of `hierarchy`.
-ghost use Prim.Native.Nat.{_<_};
+ghost use Prim.Native.Nat.{_≤_};
 ghost use mathlib.Core.Path.{_≡_};
+ghost use lib.ListN.{length};
 ghost use Rattle.fields.specs.Names.{sameBytes};
-ghost use Rattle.header.specs.Layout.{users, userRecord};
 ghost use Rattle.records.specs.Fields.{userName};
 ghost use Rattle.header.specs.Limits.{Counted};
 ghost use Rattle.image.specs.Check.{IsAccepted};
 ghost use Rattle.image.specs.Lookup.{labelOfTag, userOfName};
 ghost use Rattle.image.specs.Search.{searchTag};
+use fields::names::name_in;
 use fields::names::same_name;
 use header::layout;
 use header::layout::Kind;
+use header::walk;
 use records::labels::tag_at;
-use records::users;
 
 // The label record that carries the tag; the number of labels where none is found. There are at most 11 turns. Each looks
 // at the middle of the places that are left, reads at most that one record, and leaves the half after it or the half
@@ -49,24 +50,28 @@ pub fn label_of_tag(image: &[u8], tag: u32) -> usize
     search_tag(image, tag)
 }
 
-fn is_user(image: &[u8], u: usize, name: &[u8]) -> bool
-    requires { ⌜ Counted (now image) × (u < users (now image)) ⌝ }
-    ensures { λ r. ⌜ r ≡ sameBytes (userName (userRecord (now (image .entry)) u)) (now (name .entry)) ⌝ }
+// Does the record hold the user of that name?
+fn is_user(rec: &[u8], name: &[u8]) -> bool
+    requires { ⌜ 128 ≤ length (now rec) ⌝ }
+    ensures { λ r. ⌜ r ≡ sameBytes (userName (now (rec .entry))) (now (name .entry)) ⌝ }
 {
-    same_name(users::name(image, u), name)
+    same_name(name_in(&rec[0..31]), name)
 }
 
-// The user record that has the name; the number of users where none has.
+// The user record that has the name; the number of users where none has. The walk goes from record to record, so that nothing is divided.
 pub fn user_of_name(image: &[u8], name: &[u8]) -> usize
     requires { ⌜ Counted (now image) ⌝ }
     ensures { λ r. ⌜ r ≡ userOfName (now (image .entry)) (now (name .entry)) ⌝ }
 {
-    let count = layout::users(image);
+    let shape = layout::shape_of(image, Kind::User);
+    let mut here = walk::record_at(shape, 0);
     let mut u = 0;
-    while u < count {
-        if is_user(image, u, name) {
+    while u < shape.count {
+        let rec = layout::placed_part(image, shape, Kind::User, u, here.at);
+        if is_user(rec, name) {
             return u;
         }
+        here = walk::next_record(shape, here, u);
         u += 1;
     }
     u
