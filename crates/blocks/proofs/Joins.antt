@@ -1,18 +1,17 @@
 -- The sums over the columns of both halves of a block are its two sums. Assumes nothing.
 use Prim.Native.Nat.{ℕ, zero, suc, _+_, _-_, _*_, _/_, _%_, _≤_, _<_}
-use mathlib.Core.Path.{_≡_, refl, sym, ap, ap₂, _∙_, subst}
-use mathlib.Core.List.{List, [], _∷_, _++_}
-use native.Mathlib.Nat.{add-mul, mul-add, mul-assoc, mul-comm, mul-zero, add-mul-mod-self-left}
-use native.Mathlib.Numerals.{add-one}
+use mathlib.Core.Path.{_≡_, refl, sym, ap, ap₂, _∙_}
+use mathlib.Core.List.{List}
+use native.Mathlib.Nat.{mul-add, mul-assoc, mul-comm, mul-zero, add-mul-mod-self-left}
 use native.Mathlib.Omega.{arith}
-use lib.ListN.{length, getD, take, drop}
-use lib.Seq.{getD-take, getD-drop, take-suc, length-take-le}
+use lib.ListN.{length, take, drop}
+use lib.Seq.{getD-take, getD-drop}
 use Rattle.fields.specs.Bytes.{byteAt}
 use Rattle.blocks.specs.declared.columns.Columns.{Columns}
 use Rattle.blocks.specs.Blocks.{sumA, sumB}
-use Rattle.blocks.specs.Columns.{sum, cell, Column, Columned, foldOf, termOf, columnTerm, JoinedOf, Small}
+use Rattle.blocks.specs.Columns.{sum, cell, Column, onceAt, oftenAt, Columned, Small, foldOf, termOf, columnOnce, columnTerm, JoinedOf}
 use Rattle.blocks.proofs.Cells.{sum-next, sum-same, sum-both, sum-times, sum-join, column-small}
-use Rattle.blocks.proofs.Sums.{total, weighted, sums-are}
+use Rattle.blocks.proofs.Sums.{sums-are}
 
 -- ---- all columns together are all bytes
 -- the bytes of m rows, column by column
@@ -60,12 +59,19 @@ abbrev rest : ℕ → ℕ → ℕ → ℕ
 rest once often w = 16 * (often / 256) + w * (once / 256)
 
 term-back : (once often w second : ℕ) → termOf once often w second + 255 * rest once often w ≡ 16 * often + w * once + (4080 - second)
+unfolding termOf
 term-back once often w second =
     let a = fold-back often in
     let b : w * foldOf once + 255 * (w * (once / 256)) ≡ w * once =
     ap (λ (n : ℕ). w * foldOf once + n) (sym (mul-assoc 255 w (once / 256)) ∙ ap (λ (n : ℕ). n * (once / 256)) (mul-comm 255 w) ∙ mul-assoc w 255 (once / 256))
     ∙ sym (mul-add w (foldOf once) (255 * (once / 256))) ∙ ap (λ (n : ℕ). w * n) (fold-back once) in
     omega (arith, mul-add 255 (16 * (often / 256)) (w * (once / 256)))
+
+columned-small : {half : List ℕ} {s : Columns} → Columned half 16 s → Small s
+columned-small {half} {s} k = record { low = λ j h. small j h .0; high = λ j h. small j h .1 }
+  where
+    small : (j : ℕ) → j < 16 → (onceAt s j ≤ 4080) × (oftenAt s j ≤ 30600)
+    small j h = column-small half 16 j _ _ (omega arith) (k .column j h)
 
 module _ (block : List ℕ) (one two : Columns) (long : length block ≡ 512)
     (first : Columned (take 256 block) 16 one) (second : Columned (take 256 (drop 256 block)) 16 two) where
@@ -76,58 +82,55 @@ module _ (block : List ℕ) (one two : Columns) (long : length block ≡ 512)
   h2 = take 256 (drop 256 block)
 
   pub columns-small : Small one × Small two
-  columns-small = (
-    record { low = λ j h. column-small _ 16 j _ _ (omega arith) (first .column j h) .0; high = λ j h. column-small _ 16 j _ _ (omega arith) (first .column j h) .1 },
-    record { low = λ j h. column-small _ 16 j _ _ (omega arith) (second .column j h) .0; high = λ j h. column-small _ 16 j _ _ (omega arith) (second .column j h) .1 },
-  )
+  columns-small = (columned-small first, columned-small second)
 
   -- the sums of the columns are those of the bytes
-  all-first : sum (λ (j : ℕ). getD (one .a) j 0) 16 ≡ sum (byteAt h1) 256
+  all-first : sum (λ (j : ℕ). onceAt one j) 16 ≡ sum (byteAt h1) 256
   all-first = sum-same _ _ 16 (λ j h. first .column j h .all) ∙ by-columns (byteAt h1) 16
 
-  all-second : sum (λ (j : ℕ). getD (two .a) j 0) 16 ≡ sum (byteAt h2) 256
+  all-second : sum (λ (j : ℕ). onceAt two j) 16 ≡ sum (byteAt h2) 256
   all-second = sum-same _ _ 16 (λ j h. second .column j h .all) ∙ by-columns (byteAt h2) 16
 
-  often-first : sum (λ (j : ℕ). 16 * getD (one .b) j 0 + (15 - j) * getD (one .a) j 0) 16 ≡ sum (follows h1) 256
+  often-first : sum (λ (j : ℕ). 16 * oftenAt one j + (15 - j) * onceAt one j) 16 ≡ sum (follows h1) 256
   often-first = sum-same _ _ 16 (λ j h. column-follows h1 j _ _ h (first .column j h)) ∙ by-columns (follows h1) 16
 
-  often-second : sum (λ (j : ℕ). 16 * getD (two .b) j 0 + (15 - j) * getD (two .a) j 0) 16 ≡ sum (follows h2) 256
+  often-second : sum (λ (j : ℕ). 16 * oftenAt two j + (15 - j) * onceAt two j) 16 ≡ sum (follows h2) 256
   often-second = sum-same _ _ 16 (λ j h. column-follows h2 j _ _ h (second .column j h)) ∙ by-columns (follows h2) 16
 
   -- 16 times 4,080
-  less-second : sum (λ (j : ℕ). 4080 - getD (two .a) j 0) 16 + sum (byteAt h2) 256 ≡ 65280
+  less-second : sum (λ (j : ℕ). 4080 - onceAt two j) 16 + sum (byteAt h2) 256 ≡ 65280
   less-second =
-      ap (λ (n : ℕ). sum (λ (j : ℕ). 4080 - getD (two .a) j 0) 16 + n) (sym all-second) ∙ sym (sum-both _ _ 16)
+      ap (λ (n : ℕ). sum (λ (j : ℕ). 4080 - onceAt two j) 16 + n) (sym all-second) ∙ sym (sum-both _ _ 16)
       ∙ sum-same _ (λ (j : ℕ). 4080) 16 whole ∙ sixteen
     where
-      whole : (j : ℕ) → j < 16 → 4080 - getD (two .a) j 0 + getD (two .a) j 0 ≡ 4080
+      whole : (j : ℕ) → j < 16 → 4080 - onceAt two j + onceAt two j ≡ 4080
       whole j h = omega (arith, columns-small .1 .low j h)
 
   -- what the folds leave out of all columns
   left-out : ℕ
-  left-out = sum (λ (j : ℕ). rest (getD (one .a) j 0 + getD (two .a) j 0) (getD (one .b) j 0 + getD (two .b) j 0) (15 - j)) 16
+  left-out = sum (λ (j : ℕ). rest (columnOnce one two j) (oftenAt one j + oftenAt two j) (15 - j)) 16
 
   terms-back : sum (columnTerm one two) 16 + 255 * left-out + sum (byteAt h2) 256 ≡ sum (follows h1) 256 + sum (follows h2) 256 + 65280
   unfolding left-out
   terms-back =
       let backs =
       ap (λ (n : ℕ). sum (columnTerm one two) 16 + n) (sym (sum-times _ 255 16)) ∙ sym (sum-both (columnTerm one two) _ 16)
-      ∙ sum-same _ (λ (j : ℕ). halves j + (4080 - getD (two .a) j 0)) 16 (λ j h. term-back _ _ (15 - j) _ ∙ ap (λ (n : ℕ). n + (4080 - getD (two .a) j 0)) (apart j))
-      ∙ sum-both halves (λ (j : ℕ). 4080 - getD (two .a) j 0) 16
-      ∙ ap (λ (n : ℕ). n + sum (λ (j : ℕ). 4080 - getD (two .a) j 0) 16) (sum-both by-one by-two 16 ∙ ap₂ _+_ often-first often-second) in
+      ∙ sum-same _ (λ (j : ℕ). halves j + (4080 - onceAt two j)) 16 (λ j h. term-back _ _ (15 - j) _ ∙ ap (λ (n : ℕ). n + (4080 - onceAt two j)) (apart j))
+      ∙ sum-both halves (λ (j : ℕ). 4080 - onceAt two j) 16
+      ∙ ap (λ (n : ℕ). n + sum (λ (j : ℕ). 4080 - onceAt two j) 16) (sum-both by-one by-two 16 ∙ ap₂ _+_ often-first often-second) in
       omega (arith, less-second)
     where
       by-one : ℕ → ℕ
-      by-one j = 16 * getD (one .b) j 0 + (15 - j) * getD (one .a) j 0
+      by-one j = 16 * oftenAt one j + (15 - j) * onceAt one j
 
       by-two : ℕ → ℕ
-      by-two j = 16 * getD (two .b) j 0 + (15 - j) * getD (two .a) j 0
+      by-two j = 16 * oftenAt two j + (15 - j) * onceAt two j
 
       halves : ℕ → ℕ
       halves j = by-one j + by-two j
 
-      apart : (j : ℕ) → 16 * (getD (one .b) j 0 + getD (two .b) j 0) + (15 - j) * (getD (one .a) j 0 + getD (two .a) j 0) ≡ halves j
-      apart j = omega (arith, mul-add (15 - j) (getD (one .a) j 0) (getD (two .a) j 0))
+      apart : (j : ℕ) → 16 * (oftenAt one j + oftenAt two j) + (15 - j) * (columnOnce one two j) ≡ halves j
+      apart j = omega (arith, mul-add (15 - j) (onceAt one j) (onceAt two j))
 
   -- ---- the bytes of the block by the halves
   in-first : (i : ℕ) → i < 256 → byteAt block i ≡ byteAt h1 i
@@ -169,7 +172,7 @@ module _ (block : List ℕ) (one two : Columns) (long : length block ≡ 512)
           ap (λ (n : ℕ). byteAt h2 i * n) w ∙ mul-add (byteAt h2 i) (254 - i) 1 ∙ ap (λ (n : ℕ). byteAt h2 i * (254 - i) + n) (omega arith)
 
   -- ---- the two sums
-  module _ (s n : ℕ) (joined : JoinedOf one two 16 s n) where
+  module _ (s n : ℕ) (joined : JoinedOf one two s n) where
     all : s ≡ sum (byteAt block) 510 + byteAt block 510 + byteAt block 511
     all =
         let whole = joined .all ∙ sum-both _ _ 16 ∙ ap₂ _+_ all-first all-second in

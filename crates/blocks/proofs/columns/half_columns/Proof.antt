@@ -3,12 +3,9 @@ use mathlib.Core.Path.{_≡_, subst}
 use native.Mathlib.Omega.{arith}
 use borrow.Author.Needs.{needs}
 use Rattle.blocks.specs.Columns.{Columned}
-use Rattle.blocks.proofs.Cells.{columned-none}
+use Rattle.blocks.proofs.Lanes.{columned-none}
 use Rattle.blocks.proofs.columns.half_columns.Statement.{statement}
 use Rattle.blocks.proofs.columns.half_columns.Tie as tie
-use Rattle.blocks.proofs.columns.half_columns.Reads as reads
-use Rattle.blocks.proofs.columns.half_columns.Lts as lts
-use Rattle.blocks.proofs.columns.add_row.Reads as add-row-reads
 
 abbrev Inv-loop : tie.InvT-loop
 Inv-loop half s₀ r₀ s r = (r ≤ 16) × Columned half r s
@@ -16,27 +13,21 @@ Inv-loop half s₀ r₀ s r = (r ≤ 16) × Columned half r s
 abbrev μ-loop : tie.MeasureT-loop
 μ-loop half s₀ r₀ s r = 16 - r
 
--- src/columns.rt:47:5
 loop-holds : tie.Need-loop-holds Inv-loop μ-loop
 loop-holds c = (omega arith, columned-none _)
 
--- src/columns.rt:48:9
 add-row-requires : tie.Need-add-row-requires Inv-loop μ-loop
 add-row-requires c κs = search needs
 
--- src/columns.rt:49:9
 add-r : tie.Need-add-r Inv-loop μ-loop
 add-r c = search needs
 
--- src/columns.rt:47:5
 loop-less : tie.Need-loop-less Inv-loop μ-loop
 loop-less c = search needs
 
--- src/columns.rt:47:5
 loop-again : tie.Need-loop-again Inv-loop μ-loop
 loop-again c = search needs
 
--- src/columns.rt:38:1
 returns : tie.Need-returns Inv-loop μ-loop
 returns c =
     let all : c .before .loop .r ≡ 16 = omega arith in
