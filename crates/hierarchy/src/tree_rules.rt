@@ -112,16 +112,20 @@ pub(crate) fn first_bad_in_tree(
     ensures { λ r. ⌜ r ≡ firstBadUser Tree (forestBy count (now (table .entry))) users (now (bytes .entry)) ⌝ }
 {
     let all = Groups::all_below(count);
-    let mut from = first_not_plain(users, bytes, 0, all);
+    let mut from = 0;
     while from < users.count {
-        if !fill_rows(users, bytes, from, all, rows) {
+        let asked = first_not_plain(users, bytes, from, all);
+        if users.count <= asked {
+            return users.count;
+        }
+        if !fill_rows(users, bytes, asked, all, rows) {
             return first_bad_singly(Profile::Tree, count, table, users, bytes);
         }
         let i = lowest_bad_user(count, table, rows);
         if i < 16 {
-            return from + i;
+            return asked + i;
         }
-        from = first_not_plain(users, bytes, from + 16, all);
+        from = asked + 16;
     }
     users.count
 }
