@@ -57,4 +57,4 @@ module _ (size : ℕ) (some : 1 ≤ size) (bytes : List ℕ) (from to : ℕ) (lo
   pub run-bytes : take (size * to - size * from) (drop (size * from) bytes) ≡ flatten (take m (drop from (runRecords size bytes)))
   run-bytes =
       ap (λ (k : ℕ). take k (drop (size * from) bytes)) bytes-many
-      ∙ sym (run-joined size some few (ap (λ (k : ℕ). k % size) few-long ∙ mul-mod-right size m)) ∙ ap flatten same-records
+      ∙ sym (run-joined size few (ap (λ (k : ℕ). k % size) few-long ∙ mul-mod-right size m)) ∙ ap flatten same-records

@@ -1,19 +1,19 @@
 -- Records that stand in bytes one right after the other. Assumes nothing.
-use Prim.Native.Nat.{ℕ, _+_, _-_, _*_, _/_, _%_, _≤_, _<_}
-use mathlib.Core.Path.{_≡_, sym, ap, _∙_}
-use mathlib.Core.List.{List, [], flatten}
-use native.Mathlib.Nat.{mul-comm, add-sub-cancel-left, div-add-mod, mod-lt, mul-div-right, div-lt-iff-lt-mul}
+use Prim.Native.Nat.{ℕ, zero, suc, _+_, _-_, _*_, _/_, _%_, _≤_, _<_}
+use mathlib.Core.Path.{_≡_, refl, sym, ap, ap₂, _∙_}
+use mathlib.Core.List.{List, [], _∷_, _++_, flatten, append-assoc, append-nil}
+use native.Mathlib.Nat.{mul-zero, mul-suc, add-sub-cancel-left, div-add-mod, mul-div-right}
 use native.Mathlib.Omega.{arith}
-use lib.ListN.{length, take, drop}
-use lib.Seq.{ext-getD}
-use Rattle.fields.specs.Bytes.{byteAt, part}
-use Rattle.fields.proofs.Laws.{part-length, part-byte}
+use lib.ListN.{length, take, drop, length-drop, drop-of-length-le, take-append-drop}
+use lib.Seq.{ext-getD, drop-drop}
+use Rattle.fields.specs.Bytes.{part}
+use Rattle.fields.proofs.Laws.{part-length}
 use Rattle.header.specs.declared.edition.Edition.{Edition}
 use Rattle.header.specs.declared.edition.Edition.the-variants.{One}
 use Rattle.header.specs.declared.layout.Kind.{Kind}
 use Rattle.header.specs.Layout.{recordSize}
 use Rattle.header.proofs.Editions.{size-least}
-use Rattle.records.specs.Rules.{recordIn, runRecords}
+use Rattle.records.specs.Rules.{recordIn, runRecord, runRecords}
 use Rattle.records.proofs.BlockRuns.{size-some}
 use Rattle.records.proofs.Parts.{run-count, run-record, run-inside}
 use Rattle.writing.specs.Laid.{Sized}
@@ -32,33 +32,36 @@ module _ (size : ℕ) (some : 1 ≤ size) (bytes : List ℕ) where
   run-taken i at n h e m = rw (e, m, add-sub-cancel-left) (sym (run-record size bytes i h))
 
 -- ---- whole records and their bytes
-module _ (size : ℕ) (some : 1 ≤ size) where
+module _ (size : ℕ) where
+  -- the first n records of a list as a run, and then the others
+  pub run-front : (n : ℕ) (run : List ℕ) (records : List (List ℕ)) → length run ≡ size * n → n ≤ length records
+      → ((q : ℕ) → q < n → runRecord size run q ≡ recordIn records q) → flatten records ≡ run ++ flatten (drop n records)
+  unfolding flatten
+  run-front zero [] records long few same = refl
+  run-front zero (x ∷ xs) records long few same = absurd (omega (arith, mul-zero size))
+  run-front (suc n) run [] long few same = absurd (omega arith)
+  run-front (suc n) run (r ∷ rs) long few same =
+      let first : take size run ≡ r = rw mul-zero at (same 0 (omega arith)) in
+      let next : (q : ℕ) → size + size * q ≡ size * suc q = λ q. omega (arith, mul-suc size q) in
+      let later = run-front n (drop size run) rs (rw length-drop (omega (arith, mul-suc size n))) (omega arith)
+      (λ q h. ap (take size) (drop-drop (size * q) size run) ∙ ap (λ (k : ℕ). part run k size) (next q) ∙ same (suc q) (omega arith)) in
+      ap₂ (λ (x y : List ℕ). x ++ y) (sym first) later ∙ sym (append-assoc (take size run) (drop size run) (flatten (drop n rs)))
+      ∙ ap (λ (x : List ℕ). x ++ flatten (drop n rs)) (take-append-drop size run)
+
   -- bytes that are whole records, taken apart and joined again
-  module _ (bytes : List ℕ) (whole : length bytes % size ≡ 0) where
-    joined-length : length (flatten (runRecords size bytes)) ≡ length bytes
-    joined-length =
-        flatten-length size (runRecords size bytes) (run-sized size some bytes) ∙ ap (λ (n : ℕ). size * n) (run-count size bytes)
-        ∙ omega (arith, div-add-mod (length bytes) size)
-
-    joined-byte : (k : ℕ) → k < length bytes → byteAt (flatten (runRecords size bytes)) k ≡ byteAt bytes k
-    joined-byte k h =
-        let q : ℕ = k / size in
-        let parted : size * q + k % size ≡ k = div-add-mod k size in
-        let inside : k % size < size = mod-lt k some in
-        let few : q < length bytes / size = div-lt-iff-lt-mul some .1 (rw mul-comm (omega (arith, div-add-mod (length bytes) size))) in
-        let listed : q < length (runRecords size bytes) = omega (arith, run-count size bytes) in
-        ap (byteAt (flatten (runRecords size bytes))) (sym parted)
-        ∙ sym (part-byte (flatten (runRecords size bytes)) (size * q) size (k % size) inside)
-        ∙ ap (λ (rec : List ℕ). byteAt rec (k % size))
-        (flatten-part size (runRecords size bytes) q (run-sized size some bytes) listed ∙ run-record size bytes q few)
-        ∙ part-byte bytes (size * q) size (k % size) inside ∙ ap (byteAt bytes) parted
-
-    pub run-joined : flatten (runRecords size bytes) ≡ bytes
-    run-joined = ext-getD 0 (flatten (runRecords size bytes)) bytes joined-length (λ k h. joined-byte k (omega (arith, joined-length)))
+  pub run-joined : (bytes : List ℕ) → length bytes % size ≡ 0 → flatten (runRecords size bytes) ≡ bytes
+  unfolding flatten
+  run-joined bytes whole =
+      let n : ℕ = length bytes / size in
+      let count = run-count size bytes in
+      let past : length (runRecords size bytes) ≤ n = omega arith in
+      run-front n bytes (runRecords size bytes) (omega (arith, div-add-mod (length bytes) size)) (omega arith)
+      (λ q h. sym (run-record size bytes q h))
+      ∙ ap (λ (rs : List (List ℕ)). bytes ++ flatten rs) (drop-of-length-le (runRecords size bytes) past) ∙ append-nil bytes
 
   -- records joined and taken apart again
-  pub run-split : (records : List (List ℕ)) → Sized size records → runRecords size (flatten records) ≡ records
-  run-split records sized =
+  pub run-split : 1 ≤ size → (records : List (List ℕ)) → Sized size records → runRecords size (flatten records) ≡ records
+  run-split some records sized =
       let count : length (runRecords size (flatten records)) ≡ length records =
       run-count size (flatten records) ∙ ap (λ (n : ℕ). n / size) (flatten-length size records sized) ∙ mul-div-right (length records) some in
       ext-getD [] (runRecords size (flatten records)) records count

@@ -30,7 +30,6 @@ use Rattle.writing.specs.declared.answers.WriteAnswer.the-variants.{Imag
 use Rattle.writing.specs.Laid.{profileByte}
 use Rattle.writing.specs.Lent.{bytesBy, lentRecords, lentCounts, lentCheck}
 use Rattle.writing.specs.Calls.{lentImage, onSound, imageTo, writeOf}
-use Rattle.records.proofs.BlockRuns.{size-some}
 use Rattle.writing.proofs.Runs.{run-joined}
 use Rattle.writing.proofs.Counted.{edition-byte-is, profile-byte-is}
 use Rattle.writing.proofs.ReadBack.{records-are}
@@ -84,8 +83,7 @@ module _ (edition profile : ℕ) (bytes : Kind → List ℕ) (sound : lentCheck 
   unfolding lentImage
   lent-apart kind =
       ap flatten (records-are n (lentRecords e bytes) (sound-fits edition profile bytes sound) kind)
-      ∙ run-joined (recordSize e kind) (size-some e kind) (bytes kind)
-      (sound-layout edition profile bytes sound .whole kind)
+      ∙ run-joined (recordSize e kind) (bytes kind) (sound-layout edition profile bytes sound .whole kind)
 
 -- ---- the call
 image-same : {f g : Filled} → Image f ≡ Image g → f ≡ g
