@@ -106,7 +106,7 @@ unknownRule Two all = false
 abbrev pub unknownRead : List ℕ → Rights → Bool
 unknownRead im rights = unknownRule (editionOf im) (readsAll rights)
 
--- the k-th label decides; where there is none, the edition
+-- the label at place k decides; where there is none, the edition
 abbrev pub readsAt : List ℕ → Rights → ℕ → Bool
 readsAt im rights k = cond (ltb k (labels im)) (readsLabel rights (labelAt im k)) (unknownRead im rights)
 

@@ -7,7 +7,9 @@ ghost use Rattle.header.specs.Limits.{Counted};
 ghost use Rattle.image.specs.Check.{IsAccepted};
 ghost use Rattle.labels.specs.Label.{marksOf, labelAt};
 ghost use Rattle.access.specs.Rights.{rightsOf};
-ghost use Rattle.access.specs.Verdicts.{readsAll, writesAll, holdsCompaccess, readLevelRule, readGroupsRule, readTests, readsLabel, treeSetsRule, releaseSetsRule, writeSetsRule, writeTests, writesLabel, unknownRule, unknownRead, readsAt, mayRead, mayWrite};
+ghost use Rattle.access.specs.Verdicts.{readsAll, writesAll, holdsCompaccess, readLevelRule, readGroupsRule, readTests, readsLabel};
+ghost use Rattle.access.specs.Verdicts.{treeSetsRule, releaseSetsRule, writeSetsRule, writeTests, writesLabel};
+ghost use Rattle.access.specs.Verdicts.{unknownRule, unknownRead, readsAt, mayRead, mayWrite};
 use crate::rights::View;
 use crate::rights::is_between;
 use fields::numbers::number8;
@@ -165,8 +167,8 @@ pub fn unknown_read(image: &[u8], view: View) -> bool
     is_unknown_seen(image, reads_all(view))
 }
 
-// The k-th label decides; where there is none, the edition. Apart from the look-up of a tag, so that neither has to keep what the other needs: a loop
-// over rows calls both.
+// The label at place k decides; where there is none, the edition. It is apart from the look-up of a tag, so that in a loop over rows neither saves
+// registers for the other.
 pub fn reads_at(image: &[u8], view: View, k: usize) -> bool
     requires { ⌜ Counted (now image) ⌝ }
     ensures { λ r. ⌜ r ≡ readsAt (now (image .entry)) (rightsOf view) k ⌝ }

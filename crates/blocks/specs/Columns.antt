@@ -36,12 +36,14 @@ lane mixed odd = evenOf mixed odd ∷ odd ∷ []
 unfoldable pub columnIn : List ℕ → List ℕ → ℕ → ℕ
 columnIn mixed odd j = getD (lane (getD mixed (j / 2) 0) (getD odd (j / 2) 0)) (j % 2) 0
 
+-- of column j, the sum of its bytes, and the sum with each counted as often as rows follow
 abbrev pub onceAt : Columns → ℕ → ℕ
 onceAt s j = columnIn (s .mixed) (s .odd) j
 
 abbrev pub oftenAt : Columns → ℕ → ℕ
 oftenAt s j = columnIn (s .«mixed_above») (s .«odd_above») j
 
+-- what is kept is that of the first r rows of every column
 pub record Columned (half : List ℕ) (r : ℕ) (s : Columns) : Type 0 where
   pub long : (length (s .mixed) ≡ 8) × (length (s .odd) ≡ 8)
   pub longAbove : (length (s .«mixed_above») ≡ 8) × (length (s .«odd_above») ≡ 8)
@@ -62,7 +64,7 @@ foldOf x = x % 256 + x / 256
 unfoldable pub termOf : ℕ → ℕ → ℕ → ℕ → ℕ
 termOf once often w second = 16 * foldOf often + w * foldOf once + (4080 - second)
 
--- what column j adds to the first sum, and to the second
+-- what column j adds to the first sum, and to the second, mod 255
 abbrev pub columnOnce : Columns → Columns → ℕ → ℕ
 columnOnce one two j = onceAt one j + onceAt two j
 

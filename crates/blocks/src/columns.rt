@@ -4,8 +4,8 @@
 //
 // Columns are read two at a time: a byte in an even column and the one after it are one number of 16 bits, the first and 256 times the second.
 // What is kept of both is in one lane. `mixed` is the sum of these numbers mod 65,536, that is the even column's sum and 256 times the odd
-// one's, and `odd` is the odd column's sum. The even column's sum is below 65,536, so it is just what 256 times the odd one's, taken from
-// `mixed` mod 65,536, leaves. It is so too where a byte counts as often as rows follow, and for the sums over both halves.
+// one's, and `odd` is the odd column's sum. The even column's sum is below 65,536, so it is `mixed` less 256 times the odd one's, mod
+// 65,536. It is so too where a byte counts as often as rows follow, and for the sums over both halves.
 ghost use Prim.Native.Nat.{_+_, _/_, _%_, _≤_, _<_};
 ghost use mathlib.Core.Path.{_≡_};
 ghost use lib.ListN.{length, getD};
@@ -29,7 +29,7 @@ fn pair(s: &[u8], k: usize) -> u16
     wide(s[k]) + 256 * wide(s[k + 1])
 }
 
-// By lanes, the sums of the columns' bytes, and the sums with the byte of row r counted as often as rows follow.
+// By lanes, the sums of the columns' bytes; in `mixed_above` and `odd_above` with the byte of row r counted as often as rows follow.
 pub struct Columns {
     pub mixed: [u16; 8],
     pub odd: [u16; 8],
@@ -112,8 +112,8 @@ struct LaneTerms {
     often: [u16; 8],
 }
 
-// The halves are added before the even column's numbers are taken out of the lanes. An even column counts as often as its weight says, the odd
-// one after it once less.
+// The halves are added before the even column's numbers are taken out of the lanes, but for what stands in the second half. An even column
+// counts as often as its weight says, the odd one after it once less.
 fn terms(one: Columns, two: Columns) -> LaneTerms
     requires { ⌜ Small one × Small two ⌝ }
     ensures { λ r. ⌜ TermsOf one two r ⌝ }

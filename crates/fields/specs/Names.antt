@@ -24,7 +24,8 @@ nameRule field =
     leb 1 (byteAt field 0) && leb (byteAt field 0) 30 && allNameBytes (nameIn field)
     && allZero (part field (1 + byteAt field 0) (30 - byteAt field 0))
 
--- of the 30 bytes after a name's length, here at the front of s, the one at place j: it is zero where `inside` has a zero, else of the alphabet
+-- of the 30 bytes after a name's length, here at the front of s, the one at place j: it is zero where `inside` has a zero, else of the
+-- alphabet. Nothing is asked from place 30 on
 unfoldable pub letterAt : List ℕ → List ℕ → ℕ → Bool
 letterAt s inside j = not (ltb j 30) || cond (eqb (byteAt inside j) 0) (eqb (byteAt s j) 0) (nameByte (byteAt s j))
 

@@ -2,7 +2,6 @@
 // zero. So the rule is that each of the 30 bytes is zero exactly if it stands after the first n, and is of the alphabet if it is not zero. Which
 // bytes stand after the first n is read from a constant, at a place that n decides. A loop over 32 bytes of each that has one way out becomes vector
 // code: hence the bytes behind the 30 are lent too.
-ghost use Prim.Native.Nat.{_+_};
 ghost use mathlib.Core.Path.{_≡_};
 ghost use mathlib.Core.List.{_∷_};
 ghost use lib.ListN.{length, take};
@@ -17,7 +16,7 @@ fn letters_ok(bytes: &[u8], inside: &[u8]) -> bool
     let mut j = 0;
     while j < 32 {
         let x = bytes[j];
-        // as name_byte tells it, without its way out
+        // As name_byte tells it, without an early return.
         let good = ((65 <= x) & (x <= 90)) | ((48 <= x) & (x <= 57)) | (x == 95);
         bad = bad | ((j < 30) & (((x == 0) != (inside[j] == 0)) | ((x != 0) & !good)));
         j += 1;

@@ -1,5 +1,4 @@
 // Names: their alphabet, the field that holds one, equality, order, and small letters taken as capitals.
-ghost use Prim.Native.Nat.{_+_, _<_};
 ghost use mathlib.Core.Path.{_≡_};
 ghost use lib.ListN.{length};
 ghost use Rattle.fields.specs.Names.{nameByte, nameIn, sameBytes, smallLetter, inLetters, nameBefore};

@@ -1,5 +1,5 @@
 // The counts in an image's header, and where by them the blocks and records stand.
-ghost use Prim.Native.Nat.{_+_, _-_, _*_, _/_, _%_, _^_, _<_, _≤_, min};
+ghost use Prim.Native.Nat.{_/_, _^_, _<_, _≤_};
 ghost use mathlib.Core.Path.{_≡_};
 ghost use lib.ListN.{length};
 ghost use Rattle.header.specs.Layout.{editionOf, countsOf, classCount, classFirst, kindByte, recordSize, capacityOf, countOf, blocksOf, firstBlock, blocksNeeded, Fitted, Roomy, Shaped, recordBlock, recordSlot, recordOffset, recordAt, componentNameOffset};
@@ -207,8 +207,7 @@ pub fn record_slot(shape: Shape, i: usize) -> usize
     i % shape.capacity
 }
 
-// i / 21. Below 65,536 one multiplication and a shift tell it: 21 · 199,729 is 2^22 + 5. The compiler's own way for numbers of 16 bits takes three
-// times the steps.
+// i / 21. Below 65,536 one multiplication and a shift tell it: 21 · 199,729 is 2^22 + 5. A division by 21 is compiled to three times as many steps.
 fn quotient_by_21(i: usize) -> usize
     ensures { λ r. ⌜ r ≡ i / 21 ⌝ }
 {
@@ -218,7 +217,7 @@ fn quotient_by_21(i: usize) -> usize
     i / 21
 }
 
-// i / capacity. By the number of labels in a block, 21 or 10, one multiplies in place of dividing: a search for a tag asks it at every step. A
+// i / capacity. By the number of labels in a block, 21 or 10, a multiplication stands in place of the division: a search for a tag asks it at every step. A
 // division of 32 bits is one instruction; the compiler puts a test and a second way around one of 64.
 fn quotient(i: usize, capacity: usize) -> usize
     requires { ⌜ (1 ≤ capacity) × (capacity ≤ 255) ⌝ }

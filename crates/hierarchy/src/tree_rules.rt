@@ -88,7 +88,7 @@ fn fill_words(users: Users, bytes: &[u8], from: usize, all: Groups, rows: &mut [
     true
 }
 
-// Fills the rows by the edition, which is asked once for all sixteen users.
+// Fills the rows, by the loop of the edition.
 fn fill_rows(users: Users, bytes: &[u8], from: usize, all: Groups, rows: &mut [u64]) -> bool
     requires { ⌜ Among users (now bytes) × ((from < 2 ^ 60) × (length (now rows) ≡ tableRoom)) ⌝ }
     ensures { λ r. ⌜ (r ≡ true → Filled (placesOf all) users (now (bytes .entry)) from 16 (now (rows .exit))) ⌝ }

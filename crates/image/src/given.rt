@@ -58,7 +58,8 @@ fn is_user(rec: &[u8], name: &[u8]) -> bool
     same_name(name_in(&rec[0..31]), name)
 }
 
-// The user record that has the name; the number of users where none has. The walk goes from record to record, so that nothing is divided.
+// The user record that has the name; the number of users where none has. The walk goes from record to record, and
+// divides only where it begins.
 pub fn user_of_name(image: &[u8], name: &[u8]) -> usize
     requires { ⌜ Counted (now image) ⌝ }
     ensures { λ r. ⌜ r ≡ userOfName (now (image .entry)) (now (name .entry)) ⌝ }

@@ -78,7 +78,7 @@ pub record NamesKept (records : List (List ℕ)) (to : ℕ) : Type 0 where
 pub record MarkedFrom (records : List (List ℕ)) (start i : ℕ) (filter : List ℕ) : Type 0 where
   pub each : (j : ℕ) → start ≤ j → j < i → marked filter (nameKey (recordIn records j)) ≡ true
 
--- each component of the class at place i, up to that place, is
+-- each component of the class at place i, up to that place, is marked
 abbrev pub Marked : Counts → List (List ℕ) → ℕ → List ℕ → Type 0
 Marked n records i filter = MarkedFrom records (classStart n i) i filter
 

@@ -31,7 +31,7 @@ pub record GatheredOf (edition : Edition) (size : ℕ) (run : List ℕ) (before 
   pub each : (j : ℕ) → j < n → LabelIn edition (tagBefore size before run j) levels compartments groups (runRecord size run j)
   pub end : last ≡ tagBefore size before run n
 
--- so is each of a run, where the last tag is not 0
+-- where `last` is not 0, so is each label of the run, and it is the last of their tags
 abbrev pub AllGathered : Edition → ℕ → List ℕ → ℕ → ℕ → Gathered → Type 0
 AllGathered edition size run before levels all =
     (all .last ≡ 0 → ⊥) → GatheredOf edition size run before levels (length run / size) (all .last) (all .compartments) (placesOf (all .groups))

@@ -1,7 +1,7 @@
 // Inside a class the names of components differ, by a filter of bits. Each name that was passed has set two bits of one word, by a key that is
 // worked out of its 30 bytes. So a name of which a bit is not set has not been passed: equal names that keep the rule of their field are 30
 // equal bytes, the unused ones being zero, and have one key. Only where both bits are set, by the same name or by others, all names of the
-// class before it are asked, their 30 bytes as four words. The filter is cleared where a class begins; nothing but speed hangs on that.
+// class before it are asked, their 30 bytes as four words. The filter is cleared where a class begins; only speed depends on that.
 ghost use Prim.Native.Nat.{_+_, _-_, _/_, _%_, _≤_, _<_};
 ghost use mathlib.Core.Path.{_≡_};
 ghost use mathlib.Core.Bool.{true};
@@ -156,7 +156,7 @@ fn first_same(source: Source, records: &[u8], start: usize, end: usize, rec: &[u
     }
 }
 
-// Has no component from `start` on, where its class begins, the name of the one at place i?
+// Has no component from `start`, where its class begins, up to place i the name of the one at place i?
 fn is_fresh(
     source: Source,
     records: &[u8],
@@ -211,7 +211,7 @@ fn stale_in_class(
 
 // The first of the places from `from` up to `to` whose component has the name of one before it in its class; `to` where there is none. The run
 // holds the records of these places. Up to there every name keeps the rule of its field. Class by class, so that where a class begins is worked
-// out once.
+// out once for a class.
 pub fn first_stale(
     source: Source,
     records: &[u8],

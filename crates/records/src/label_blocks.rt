@@ -61,8 +61,8 @@ fn gather(edition: Edition, size: usize, run: &[u8], before: u32, levels: u32) -
     }
 }
 
-// The same with the size as a constant in each arm, so that the compiler makes a loop for each edition: one instruction less a label, and a
-// register more.
+// The same with the size as a constant in each arm, so that the compiler makes a loop for each edition: one instruction less for each
+// label, and one more register free.
 fn gather_by(edition: Edition, run: &[u8], before: u32, levels: u32) -> Gathered
     requires { ⌜ length (now run) % recordSize edition Label ≡ 0 ⌝ }
     ensures { λ r. ⌜ AllGathered edition (recordSize edition Label) (now (run .entry)) before levels r ⌝ }

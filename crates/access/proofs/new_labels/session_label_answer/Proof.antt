@@ -20,7 +20,8 @@ compartments-ok-requires c κs = search needs
 returns-2 : tie.Need-returns-2
 returns-2 c =
     let level = c .before .before in
-    compartments-refused _ _ _ _ _ (level .before .before .record-part .ensures .0) _ (level .before .level-ok .ensures) (level .if1 .left) _ (c .before .compartments-ok .ensures) (c .if2 .taken)
+    compartments-refused _ _ _ _ _ (level .before .before .record-part .ensures .0) _ (level .before .level-ok .ensures) (level .if1 .left)
+    _ (c .before .compartments-ok .ensures) (c .if2 .taken)
 
 groups-ok-requires : tie.Need-groups-ok-requires
 groups-ok-requires c κs = search needs
