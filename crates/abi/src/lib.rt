@@ -1,4 +1,7 @@
 // The C functions. Each takes the bytes apart, makes the call and lays its answer down in one number.
+
+#![tactic(auto)]
+
 mod codes;
 pub mod laying;
 pub mod mapping;

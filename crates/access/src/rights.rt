@@ -27,7 +27,7 @@ pub fn is_between(lowest: u8, highest: u8, level: u8) -> bool
     (lowest <= level) & (level <= highest)
 }
 
-#[derive(Drop)]
+#[derive(Clone, Copy)]
 pub struct View {
     // The image's.
     pub profile: Profile,

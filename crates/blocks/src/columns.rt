@@ -28,7 +28,7 @@ fn pair(s: &[u8], k: usize) -> u16
 }
 
 // By lanes, the sums of the columns' bytes; in `mixed_above` and `odd_above` with the byte of row r counted as often as rows follow.
-#[derive(Drop)]
+#[derive(Clone, Copy)]
 pub struct Columns {
     pub mixed: [u16; 8],
     pub odd: [u16; 8],
@@ -106,7 +106,7 @@ fn column_term(once: u16, often: u16, w: u16, second: u16) -> u16
 }
 
 // What the two columns of each lane together add to the two sums.
-#[derive(Drop)]
+#[derive(Clone, Copy)]
 struct LaneTerms {
     once: [u16; 8],
     often: [u16; 8],
@@ -159,7 +159,7 @@ fn total(a: [u16; 8]) -> u32
 }
 
 // The sums over the columns of both halves.
-#[derive(Drop)]
+#[derive(Clone, Copy)]
 pub struct Joined {
     pub once: u32,
     pub often: u32,

@@ -15,7 +15,7 @@ pub fn length_ok(image: &[u8]) -> bool
 }
 
 // The two sums of a block, each below 255.
-#[derive(Drop)]
+#[derive(Clone, Copy)]
 pub struct Checksum {
     pub a: u32,
     pub b: u32,

@@ -1,7 +1,7 @@
 // What a call answers that writes to the front of a lent buffer.
 use refusals::Refusal;
 
-#[derive(Drop)]
+#[derive(Clone, Copy)]
 pub enum Filled {
     // How many bytes of the buffer are written.
     Done(usize),

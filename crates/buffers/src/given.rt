@@ -10,7 +10,9 @@ pub fn put(text: &[u8], buffer: &mut [u8], at: usize) -> usize
     ensures { Written buffer.old at text.now buffer.new result }
 {
     if text.len() < 8 {
-        return at + bytes::copy(text, &mut buffer[at..]);
+        let end = at + text.len();
+        buffer[at..end].copy_from_slice(text);
+        return end;
     }
     if 64 <= text.len() {
         put_long(text, buffer, at);

@@ -1,4 +1,7 @@
 // Bytes written over those of a lent buffer.
+
+#![tactic(auto)]
+
 pub mod answers;
 pub mod given;
 pub mod parts;

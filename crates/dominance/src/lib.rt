@@ -1,4 +1,7 @@
 // Two labels beside each other: dominance under a policy, and merging, which takes no image.
+
+#![tactic(auto)]
+
 pub mod comparing;
 pub mod merging;
 

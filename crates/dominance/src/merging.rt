@@ -9,7 +9,7 @@ use refusals::Refusal;
 use sets::groups::Groups;
 use sets::word;
 
-#[derive(Drop)]
+#[derive(Clone, Copy)]
 pub enum Merged {
     Done(Label),
     // 17: the letters are not three of those allowed.

@@ -19,8 +19,8 @@ pub fn session_bytes(session: Session) -> [u8; 104]
     b[1] = session.user;
     let label = label_bytes(session.label);
     let row = label_bytes(session.row);
-    bytes::copy(&label, &mut b[8..56]);
-    bytes::copy(&row, &mut b[56..104]);
+    b[8..56].copy_from_slice(&label);
+    b[56..104].copy_from_slice(&row);
     b
 }
 

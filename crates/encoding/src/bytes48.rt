@@ -33,8 +33,8 @@ fn two_words(low: u64, high: u64) -> [u8; 16]
     let mut b = [0u8; 16];
     let first = word_bytes(low);
     let second = word_bytes(high);
-    bytes::copy(&first, &mut b[0..8]);
-    bytes::copy(&second, &mut b[8..16]);
+    b[0..8].copy_from_slice(&first);
+    b[8..16].copy_from_slice(&second);
     b
 }
 
@@ -45,8 +45,8 @@ fn set_bytes(groups: Groups) -> [u8; 32]
     let mut b = [0u8; 32];
     let low = two_words(groups.word(0), groups.word(1));
     let high = two_words(groups.word(2), groups.word(3));
-    bytes::copy(&low, &mut b[0..16]);
-    bytes::copy(&high, &mut b[16..32]);
+    b[0..16].copy_from_slice(&low);
+    b[16..32].copy_from_slice(&high);
     b
 }
 
@@ -58,8 +58,8 @@ pub fn label_bytes(label: Label) -> [u8; 48]
     b[4] = label.level;
     let compartments = word_bytes(label.compartments);
     let groups = set_bytes(label.groups);
-    bytes::copy(&compartments, &mut b[8..16]);
-    bytes::copy(&groups, &mut b[16..48]);
+    b[8..16].copy_from_slice(&compartments);
+    b[16..48].copy_from_slice(&groups);
     b
 }
 

@@ -1,4 +1,7 @@
 // Reading the fields of a record: numbers, unused bytes, names. The crates above call these with parts whose lengths they know.
+
+#![tactic(auto)]
+
 pub mod folded;
 pub mod name_field;
 pub mod names;

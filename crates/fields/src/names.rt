@@ -40,7 +40,7 @@ pub fn same_name(a: &[u8], b: &[u8]) -> bool
 }
 
 // In which letters a name is compared with an image's: in its own, or, if it stands in a label's text, with small ones taken as capitals.
-#[derive(Drop)]
+#[derive(Clone, Copy)]
 pub enum Letters {
     Exact,
     Folded,

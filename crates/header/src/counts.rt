@@ -7,7 +7,7 @@ use crate::layout;
 use crate::profile::{Profile, profile_of};
 
 // The edition, the profile, and how many components there are of each class.
-#[derive(Drop)]
+#[derive(Clone, Copy)]
 pub struct Counts {
     pub edition: Edition,
     pub profile: Profile,

@@ -9,7 +9,7 @@ use crate::edition::{Edition, by_edition, edition_of};
 use fields::numbers::number2;
 
 // What the records of a block are.
-#[derive(Drop)]
+#[derive(Clone, Copy)]
 pub enum Kind {
     Component,
     Label,
@@ -17,7 +17,7 @@ pub enum Kind {
 }
 
 // A kind's first block, the size of a record, how many a block holds, how many there are.
-#[derive(Drop)]
+#[derive(Clone, Copy)]
 pub struct Shape {
     pub first: usize,
     pub size: usize,
@@ -26,7 +26,7 @@ pub struct Shape {
 }
 
 // What a block after the header holds: its kind, its records from `from` up to `to`, unused bytes from `end` on.
-#[derive(Drop)]
+#[derive(Clone, Copy)]
 pub struct Contents {
     pub kind: Kind,
     pub from: usize,

@@ -5,7 +5,7 @@ ghost use Rattle.header.specs.Limits.{limits_in, limits_of};
 use crate::edition::{Edition, by_edition, edition_of};
 
 // The most that an image may have of each, and the longest label text that is read under it.
-#[derive(Drop)]
+#[derive(Clone, Copy)]
 pub struct Limits {
     pub levels: usize,
     pub compartments: usize,

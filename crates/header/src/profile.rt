@@ -2,7 +2,7 @@
 ghost use Rattle.std.specs.Prelude.{◌≤◌, ◌≡◌, length};
 ghost use Rattle.header.specs.Layout.{profile_named, profile_of};
 
-#[derive(Drop)]
+#[derive(Clone, Copy)]
 pub enum Profile {
     // Groups may have parents, and a group reaches all that lie below it.
     Tree,

@@ -6,7 +6,7 @@ use crate::layout;
 use crate::layout::{Contents, Kind, Shape};
 
 // Where a record begins, and how many records its block has room for from it on.
-#[derive(Drop)]
+#[derive(Clone, Copy)]
 pub struct RecordAt {
     pub at: usize,
     pub left: usize,

@@ -1,4 +1,7 @@
 // Groups and their parents: rings of parents, and what lies below a set of groups.
+
+#![tactic(auto)]
+
 mod columns;
 pub mod group_rules;
 pub mod order;

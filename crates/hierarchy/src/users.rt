@@ -18,7 +18,7 @@ use sets::groups::Groups;
 
 // The one at place u begins at `base + size * u + gap * (u / each)`: a block of an image holds `each` of them, and between two blocks' records there
 // is a gap.
-#[derive(Drop)]
+#[derive(Clone, Copy)]
 pub struct Users {
     pub edition: Edition,
     pub base: usize,

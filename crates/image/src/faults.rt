@@ -7,7 +7,7 @@ use refusals::Refusal;
 use refusals::answers::Checked;
 
 // A fault of an image: the rule that is broken, and where.
-#[derive(Drop)]
+#[derive(Clone, Copy)]
 pub enum Fault {
     // No rule is broken.
     Sound,

@@ -1,4 +1,7 @@
 // The policy image: its check, and what may be asked of an accepted one.
+
+#![tactic(auto)]
+
 pub mod faults;
 pub mod given;
 pub mod inspect;

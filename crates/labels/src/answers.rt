@@ -7,7 +7,7 @@ use refusals::Refusal;
 
 // Why a text is refused: 5, its shape; 6, a name that its class lacks; 7, a name that came before in its list. The last two
 // carry the name's offset.
-#[derive(Drop)]
+#[derive(Clone, Copy)]
 pub enum Reason {
     Shape,
     Unknown(usize),
@@ -15,14 +15,14 @@ pub enum Reason {
 }
 
 // What a text gives under an accepted image.
-#[derive(Drop)]
+#[derive(Clone, Copy)]
 pub enum TextRead {
     Done(Label),
     Refused(Reason),
 }
 
 // The answer of `parse`.
-#[derive(Drop)]
+#[derive(Clone, Copy)]
 pub enum Parsed {
     Done(Label),
     Refused(Reason),

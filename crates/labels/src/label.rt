@@ -7,7 +7,7 @@ use header::layout;
 use sets::groups::Groups;
 use sets::word;
 
-#[derive(Drop)]
+#[derive(Clone, Copy)]
 pub struct Label {
     pub level: u8,
     pub compartments: u64,

@@ -1,4 +1,7 @@
 // Labels, and their text read under a policy image.
+
+#![tactic(auto)]
+
 pub mod answers;
 pub mod given;
 pub mod group_test;

@@ -14,7 +14,7 @@ use sets::groups::Groups;
 use sets::word;
 
 // What a list gives: the places that it names, or why the text is refused.
-#[derive(Drop)]
+#[derive(Clone, Copy)]
 pub enum ListRead {
     Read(Groups),
     Refused(Reason),
@@ -24,7 +24,7 @@ pub enum ListRead {
 type Words = [u64; 4];
 
 // The same while its names are read: the offset is that of the leftmost name that is unknown or came before.
-#[derive(Drop)]
+#[derive(Clone, Copy)]
 pub enum Names {
     Read,
     Unknown(usize),

@@ -15,7 +15,7 @@ use header::layout;
 use records::components;
 
 // The answer of a look-up: a place in the class, or that no component has the name.
-#[derive(Drop)]
+#[derive(Clone, Copy)]
 pub enum Found {
     At(usize),
     Nothing,

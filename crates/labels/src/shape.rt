@@ -8,7 +8,7 @@ ghost use Rattle.labels.specs.declared.shape.State.TheVariants.{Start};
 use crate::scan::{part_in_text, stop_in_part, text_byte};
 
 // How far a reading has come. A name begins at Start, Lists, FirstNext and Second; Level, First and InSecond stand inside one.
-#[derive(Drop)]
+#[derive(Clone, Copy)]
 pub enum State {
     Start,
     Level,

@@ -15,14 +15,14 @@ use refusals::answers::Checked;
 use sessions::given::opened_rights;
 
 // The line to go on with: the places of its user and its label record.
-#[derive(Drop)]
+#[derive(Clone, Copy)]
 pub struct Cursor {
     pub user: usize,
     pub label: usize,
 }
 
 // How many bytes of the buffer are written, whether there is more, and the line to go on with.
-#[derive(Drop)]
+#[derive(Clone, Copy)]
 pub struct Part {
     pub next: Cursor,
     pub length: usize,
@@ -30,7 +30,7 @@ pub struct Part {
 }
 
 // The label record to go on with, and how many bytes of the buffer are written.
-#[derive(Drop)]
+#[derive(Clone, Copy)]
 pub struct Filled {
     pub next: usize,
     pub length: usize,

@@ -1,5 +1,8 @@
 // Maps of sessions: one bit for each label record, made for a session, and judged if made elsewhere. Every call checks the image and the
 // session.
+
+#![tactic(auto)]
+
 pub mod given;
 mod judging;
 mod making;

@@ -20,7 +20,7 @@ use header::walk::RecordAt;
 use sets::word;
 
 // A word, and where the walk over the label records stands after it.
-#[derive(Drop)]
+#[derive(Clone, Copy)]
 pub struct Word {
     pub bits: u64,
     pub next: RecordAt,

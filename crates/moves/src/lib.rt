@@ -1,4 +1,7 @@
 // Images moved from edition to edition, and users who hold COMPACCESS listed and cleared of it.
+
+#![tactic(auto)]
+
 mod clearing;
 mod holders;
 mod laying;

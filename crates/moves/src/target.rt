@@ -4,7 +4,7 @@ ghost use Rattle.moves.specs.Moved.{edition_after};
 
 use header::edition::Edition;
 
-#[derive(Drop)]
+#[derive(Clone, Copy)]
 pub enum Move {
     // Up to edition 2.
     Up,

@@ -2,7 +2,7 @@
 use refusals::Refusal;
 
 // The text's length, or the refusal.
-#[derive(Drop)]
+#[derive(Clone, Copy)]
 pub enum Printed {
     Done(usize),
     Refused(Refusal),

@@ -1,4 +1,7 @@
 // The text of a label, printed under a policy image.
+
+#![tactic(auto)]
+
 pub mod answers;
 mod writing;
 

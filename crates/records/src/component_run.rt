@@ -17,7 +17,7 @@ use header::counts::{Counts, class_at};
 use header::edition::by_edition;
 
 // What is asked of every component of a class: its class byte, and of the number in bytes 34 to 39 that it is `none` or below `parents`.
-#[derive(Drop)]
+#[derive(Clone, Copy)]
 struct Asked {
     class: u8,
     none: u64,

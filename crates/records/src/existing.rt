@@ -9,7 +9,7 @@ use header::counts::{Counts, counts_of};
 use sets::groups::Groups;
 use sets::word;
 
-#[derive(Drop)]
+#[derive(Clone, Copy)]
 pub struct Existing {
     pub counts: Counts,
     // The compartments and the groups that exist.

@@ -26,7 +26,7 @@ pub type Filter = [u64; 128];
 pub const EMPTY: Filter = [0u64; 128];
 
 // What holds component records: an image, in its blocks, or a run of them, one right after the other.
-#[derive(Drop)]
+#[derive(Clone, Copy)]
 pub enum Source {
     Image,
     Run,
@@ -64,7 +64,7 @@ fn mark(seen: &mut [u64], rec: &[u8]) -> bool
 }
 
 // The 30 bytes of a name's field as words, from bytes 2, 10, 18 and 24 of the record on; the last two overlap.
-#[derive(Drop)]
+#[derive(Clone, Copy)]
 struct Field {
     a: u64,
     b: u64,

@@ -22,7 +22,7 @@ use header::layout;
 use header::layout::{Contents, Kind, Shape, kind_byte};
 
 // What is wrong with the blocks of a kind: nothing, the layout of a block, or, in a block whose layout is right, the record at that place.
-#[derive(Drop)]
+#[derive(Clone, Copy)]
 pub enum Found {
     Nothing,
     Layout(usize),

@@ -19,7 +19,7 @@ use sets::groups::Groups;
 use sets::word;
 
 // The last tag of a run's labels, and all compartments and groups that they name; tag 0 where the tags don't rise or a level doesn't exist.
-#[derive(Drop)]
+#[derive(Clone, Copy)]
 struct Gathered {
     last: u32,
     compartments: u64,

@@ -1,4 +1,7 @@
 // The records of an image: what they hold, and the rules that each keeps.
+
+#![tactic(auto)]
+
 pub mod component_run;
 pub mod components;
 pub mod existing;

@@ -39,7 +39,7 @@ pub fn privileges(image: &[u8], u: usize) -> u8
 }
 
 // A user's four levels.
-#[derive(Drop)]
+#[derive(Clone, Copy)]
 pub struct Levels {
     pub maximum: u8,
     pub minimum: u8,
@@ -61,7 +61,7 @@ pub fn levels_in(rec: &[u8]) -> Levels
 }
 
 // A user's four sets of compartments.
-#[derive(Drop)]
+#[derive(Clone, Copy)]
 pub struct CompartmentSets {
     pub read: u64,
     pub write: u64,
@@ -83,7 +83,7 @@ pub fn compartments_in(rec: &[u8]) -> CompartmentSets
 }
 
 // A user's four sets of groups.
-#[derive(Drop)]
+#[derive(Clone, Copy)]
 pub struct GroupSets {
     pub read: Groups,
     pub write: Groups,

@@ -5,14 +5,14 @@ ghost use Rattle.refusals.specs.Answers.{verdict_of};
 use crate::Refusal;
 
 // Done, or refused.
-#[derive(Drop)]
+#[derive(Clone, Copy)]
 pub enum Checked {
     Accepted,
     Refused(Refusal),
 }
 
 // Yes, no, or the refusal where there is no verdict.
-#[derive(Drop)]
+#[derive(Clone, Copy)]
 pub enum Verdict {
     Yes,
     No,

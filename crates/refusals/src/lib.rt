@@ -1,12 +1,15 @@
 // What every call answers when it does not do what was asked: one case for each number of the scope
 // document's table "Numbers given back", in the table's order, with 31 to 35 of request R-2 in place of 3, 20 of
 // request R-4, 36 of request R-12 and 37 of request R-11. A case holds what the papers say is returned with the number, and nothing else.
+
+#![tactic(auto)]
+
 pub mod answers;
 
 ghost use Rattle.std.specs.Prelude.{◌≡◌};
 ghost use Rattle.refusals.specs.Refusals.{number_of, packed_place, place_of};
 
-#[derive(Drop)]
+#[derive(Clone, Copy)]
 pub enum Refusal {
     // 1: the image's length is 0, not a multiple of 512, or over 65,536.
     ImageLength,

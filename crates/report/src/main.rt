@@ -1,6 +1,9 @@
 // Reads a policy image from standard input and writes its report to standard output: a line `NAME TAG rw` for each user and each
 // label record, or one line with the refusal. Which bytes each part has, where the next one begins and which is the last is proved in
 // `lines`; this program only moves bytes.
+
+#![tactic(auto)]
+
 ghost use Rattle.std.specs.Prelude.{◌≤◌, ◌≡◌, true, length};
 ghost use Rattle.hierarchy.specs.Below.{Tabled};
 ghost use Rattle.image.specs.Check.{IsAccepted};

@@ -1,4 +1,7 @@
 // A table's rows under a session: reads, reads by a map, updates and masked reads. Every call checks the image, the session and the table's shape.
+
+#![tactic(auto)]
+
 pub mod answers;
 mod copying;
 mod few;

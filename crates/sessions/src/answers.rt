@@ -4,14 +4,14 @@ use refusals::Refusal;
 use refusals::answers::Checked;
 
 // 1, 2, 31 to 35, 4 where no session opens.
-#[derive(Drop)]
+#[derive(Clone, Copy)]
 pub enum Opened {
     Done(Session),
     Refused(Refusal),
 }
 
 // The session changed, or as it was with the refusal.
-#[derive(Drop)]
+#[derive(Clone, Copy)]
 pub struct Changed {
     pub session: Session,
     pub answer: Checked,

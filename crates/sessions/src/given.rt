@@ -19,7 +19,7 @@ use image::check_table;
 use refusals::Refusal;
 use refusals::answers::Checked;
 
-#[derive(Drop)]
+#[derive(Clone, Copy)]
 pub enum Lent {
     At(View),
     // 1, 2, 31 to 35, 19; a row call's 12 after them.

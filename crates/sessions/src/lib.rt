@@ -1,4 +1,7 @@
 // Sessions: opening, label changes, and verdicts on a row's tag. Every call checks the image that it is lent.
+
+#![tactic(auto)]
+
 pub mod answers;
 mod changes;
 pub mod given;

@@ -1,7 +1,7 @@
 // A session: a user's place, a session label and a row label.
 use labels::label::Label;
 
-#[derive(Drop)]
+#[derive(Clone, Copy)]
 pub struct Session {
     pub user: u8,
     pub label: Label,

@@ -8,7 +8,7 @@ ghost use Rattle.sets.specs.Groups.{places_of, words_in, width};
 
 use crate::word;
 
-#[derive(Drop)]
+#[derive(Clone, Copy)]
 pub struct Groups {
     w0: u64,
     w1: u64,

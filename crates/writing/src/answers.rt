@@ -3,7 +3,7 @@ use buffers::answers::Filled;
 use header::layout::Kind;
 
 // What is wrong with an edition, a profile and records that are lent to the writer.
-#[derive(Drop)]
+#[derive(Clone, Copy)]
 pub enum LentFault {
     // 31: the edition or the profile is none that is known, a length is no multiple of a record's, or a count is outside its limits.
     Layout,
@@ -14,13 +14,13 @@ pub enum LentFault {
 }
 
 // Whether a rule is broken, and the fault that is told.
-#[derive(Drop)]
+#[derive(Clone, Copy)]
 pub enum LentCheck {
     Sound,
     Fault(LentFault),
 }
 
-#[derive(Drop)]
+#[derive(Clone, Copy)]
 pub enum WriteAnswer {
     // No rule is broken: how many bytes the image has, which are written; or, where the buffer is shorter, 13.
     Image(Filled),

@@ -1,4 +1,7 @@
 // Images written from records, and taken apart into them: blocks, their heads, unused bytes and sums; the rules of what is lent.
+
+#![tactic(auto)]
+
 pub mod answers;
 mod apart;
 pub mod block;
