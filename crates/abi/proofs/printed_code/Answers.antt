@@ -1,0 +1,14 @@
+use mathlib.Core.Path.{subst}
+use Rattle.refusals.specs.Answers.{PlaceFits}
+use Rattle.printing.specs.declared.answers.Printed.{Printed}
+use Rattle.abi.specs.Labels.{printed_given}
+use Rattle.abi.proofs.printed_code.Goals as goal
+
+pub refused-requires : goal.refused-requires
+refused-requires c = subst (λ (a : Printed). PlaceFits (printed_given a)) c.in-Refused.is c.requires
+
+pub returns-in-Done : goal.returns-in-Done
+returns-in-Done c = rw c.in-Done.is
+
+pub returns-in-Refused : goal.returns-in-Refused
+returns-in-Refused c = rw c.in-Refused.is c.refused.ensures

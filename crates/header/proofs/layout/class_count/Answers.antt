@@ -1,0 +1,12 @@
+use native.Mathlib.Omega.{arith}
+use borrow.Author.Tests.{eq-eqb, ne_eqb}
+use Rattle.header.proofs.layout.class_count.Goals as goal
+
+pub returns-then-class-eq1 : goal.returns-then-class-eq1
+returns-then-class-eq1 c = (rw (eq-eqb _ _ c.if-class-eq1.true) c.levels.ensures.0, omega arith)
+
+pub returns-then-class-eq2 : goal.returns-then-class-eq2
+returns-then-class-eq2 c = (rw (ne_eqb _ _ c.if-class-eq1.false, eq-eqb _ _ c.if-class-eq2.true) c.compartments.ensures.0, omega arith)
+
+pub returns : goal.returns
+returns c = (rw (ne_eqb _ _ c.if-class-eq1.false, ne_eqb _ _ c.if-class-eq2.false) c.groups.ensures.0, c.groups.ensures.1)

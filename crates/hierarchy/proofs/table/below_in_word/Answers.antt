@@ -1,0 +1,57 @@
+use Prim.Native.Nat.{ℕ, ◌<◌}
+use mathlib.Core.Path.{◌≡◌, sym, ap, ◌∙◌}
+use mathlib.Core.Logic.{⊎_elim}
+use mathlib.Core.List.{List}
+use native.Mathlib.Omega.{arith}
+use Rattle.sets.specs.Sets.{intersection}
+use Rattle.hierarchy.specs.Forest.{below_in, forest_by, order_at, OrderedBy}
+use Rattle.hierarchy.proofs.Under.{below-groups}
+use Rattle.hierarchy.proofs.InOrder.{descend-start, descend-put, descend-pass, descend-end}
+use Rattle.hierarchy.proofs.table.below_in_word.Goals as goal
+
+-- a group of the order is one of those
+group : (count : ℕ) (table : List ℕ) (i g : ℕ) → OrderedBy count table → i < count → g ≡ order_at table i → g < count
+group count table i g all h is = rw is (all.2.group i h)
+
+pub loop-i-init : goal.loop-i-init
+loop-i-init c =
+    let s = c.args.s in
+    descend-start _ _ s _ (c.intersection-groups.ensures ∙ ap (intersection s) c.all_below.ensures)
+
+pub ordered-g-requires : goal.ordered-g-requires
+ordered-g-requires c = omega (arith, c.requires.0.0)
+
+pub stored-p-requires : goal.stored-p-requires
+stored-p-requires c =
+    omega (arith, c.requires.0.0, group _ _ _ _ c.requires.0 c.loop-i-test.true c.ordered-g.ensures)
+
+pub with-groups-requires : goal.with-groups-requires
+with-groups-requires c =
+    omega (arith, c.requires.1, group _ _ _ _ c.requires.0 c.loop-i-test.true c.ordered-g.ensures)
+
+pub overflow_add-i : goal.overflow_add-i
+overflow_add-i c = omega arith
+
+pub loop-i-smaller : goal.loop-i-smaller
+loop-i-smaller c = omega arith
+
+pub loop-i-preserved : goal.loop-i-preserved
+loop-i-preserved c =
+    let all = c.requires.0 in
+    let so = c.loop-i.invariant in
+    let left = c.loop-i-test.true in
+    let is = c.ordered-g.ensures in
+    let up = c.stored-p.ensures in
+    ⊎_elim
+    (λ t. rw (t.4, t.3.ensures) (descend-put _ _ all _ _ _ _ _ so left is up t.0.taken (sym t.1.ensures ∙ t.2.taken)))
+    (⊎_elim
+    (λ t. rw t.3 (descend-pass _ _ all _ _ _ _ _ so left is up (λ h. sym t.1.ensures ∙ t.2.left)))
+    (λ t. rw t.1 (descend-pass _ _ all _ _ _ _ _ so left is up (λ h. absurd (omega (arith, t.0.left))))))
+    c.if-p-count.branch
+
+pub returns : goal.returns
+returns c =
+    let f = forest_by c.args.count c.args.table.now in
+    let s = c.args.s in
+    descend-end _ _ c.requires.0 _ _ _ c.loop-i.invariant c.loop-i-test.false
+    ∙ ap (below_in f) (c.intersection-groups.ensures ∙ ap (intersection s) c.all_below.ensures) ∙ below-groups f s

@@ -1,0 +1,13 @@
+use Prim.Native.Nat.{◌+◌, ◌-◌, ◌≤◌}
+use mathlib.Core.Path.{◌≡◌}
+use Rattle.sets.specs.Sets.{collect}
+use Rattle.header.specs.Layout.{Standing}
+use Rattle.access.specs.Rights.{rights_of}
+use Rattle.maps.proofs.words.map_word.Given as goal
+
+abbrev pub invariant-loop-i : goal.invariant-loop-i
+invariant-loop-i l =
+    (l.i ≤ l.count) × (Standing l.shape (l.first + l.i) l.here × (l.bits ≡ collect (told l.image (rights_of l.view) l.k) l.i))
+
+abbrev pub decreases-loop-i : goal.decreases-loop-i
+decreases-loop-i l = l.count - l.i

@@ -1,0 +1,118 @@
+use Prim.Native.Nat.{ℕ, ◌+◌, ◌≤◌}
+use mathlib.Core.Path.{◌≡◌, refl, sym, ap, ap₂, ◌∙◌}
+use mathlib.Core.List.{List}
+use native.Mathlib.Omega.{arith}
+use lib.ListN.{length}
+use Rattle.header.specs.declared.counts.Counts.{Counts}
+use Rattle.header.specs.declared.layout.Kind.{Kind}
+use Rattle.header.specs.declared.layout.Kind.TheVariants.{Component, Label, User}
+use Rattle.header.specs.Layout.{users, labels, components, record_size, blocks_for}
+use Rattle.header.specs.Limits.{Counted}
+use Rattle.header.proofs.Editions.{counted-groups, counted-users, counted-labels}
+use Rattle.header.proofs.Inside.{header-inside}
+use Rattle.writing.specs.Laid.{Sized, header_block, blocks_in, first_in, kind_laid, image_of}
+use Rattle.writing.proofs.FewRecords.{few-blocks}
+use Rattle.writing.proofs.KindSteps.{written_same}
+use Rattle.writing.proofs.ImageWritten.{components-room, labels-room, users-room, image-written}
+use Rattle.moves.specs.declared.target.Move.{Move}
+use Rattle.moves.specs.Moved.{edition_after, new_counts, new_records, new_image}
+use Rattle.moves.specs.Parts.{new_header, new_capacity, new_blocks, new_kind}
+use Rattle.moves.proofs.NewImage.{old-groups, new-count, new-fits}
+use Rattle.moves.proofs.Steps.{moved_length}
+use Rattle.moves.proofs.laying.put_image.Goals as goal
+
+-- the places of a kind's blocks fit two bytes
+place-fits : (which : Move) (im : List ℕ) → Counted im → (1 + components im ≤ 65536)
+    × ((1 + new_blocks which im Component + labels im ≤ 65536) × (1 + new_blocks which im Component + new_blocks which im Label + users im ≤ 65536))
+unfolding components
+place-fits which im k =
+    let g = counted-groups im k in
+    let u = counted-users im k in
+    let l = counted-labels im k in
+    let c = few-blocks (edition_after which) Component (components im) in
+    let b = few-blocks (edition_after which) Label (labels im) in (
+      omega (arith, k.levels_limit, k.compartments_limit),
+      (omega (arith, k.levels_limit, k.compartments_limit), omega (arith, k.levels_limit, k.compartments_limit)),
+    )
+
+-- what is written, by the new records
+module _ (s : goal.Start) where
+  abbrev which : Move
+  which = c.args.which
+
+  abbrev im : List ℕ
+  im = c.args.image.now
+
+  abbrev counts : Counts
+  counts = new_counts which im
+
+  abbrev records : Kind → List (List ℕ)
+  records = new_records which im
+
+  sizes : (kind : Kind) → Sized (record_size (edition_after which) kind) (records kind)
+  sizes = (new-fits which im c.requires.counted.0.fitted c.requires.counted.1).sizes
+
+  room : length (image_of counts records) ≤ length c.args.buffer.now
+  unfolding new_image
+  room = c.requires.image_in_bounds
+
+  header_is : new_header which im ≡ header_block counts (length (records User)) (length (records Label))
+  header_is = ap₂ (header_block counts) (sym (new-count which im User)) (sym (new-count which im Label))
+
+  blocks-are : (kind : Kind) → new_blocks which im kind ≡ blocks_in counts records kind
+  blocks-are kind = ap (blocks_for (new_capacity which kind)) (sym (new-count which im kind))
+
+  laid : (kind : Kind) (place : ℕ) → place ≡ first_in counts records kind → new_kind which im kind place ≡ kind_laid counts records kind
+  laid kind place e = rw (e, ← new-count which im kind)
+
+-- where the labels and the users start
+module _ (k : goal.After-blocks_for) where
+  label-place : 1 + c.blocks_for-label_place.result ≡ first_in (counts k) (records k) Label
+  label-place = ap (λ (x : ℕ). 1 + x) (c.blocks_for-label_place.ensures.0 ∙ blocks-are k Component)
+
+  user-place : 1 + c.blocks_for-label_place.result + c.blocks_for.result ≡ first_in (counts k) (records k) User
+  user-place = ap₂ (λ (x y : ℕ). x + y) label-place (c.blocks_for.ensures.0 ∙ blocks-are k Label)
+
+pub blocks_for-label_place-requires : goal.blocks_for-label_place-requires
+blocks_for-label_place-requires c = header-inside _ c.requires.counted.0.fitted
+
+pub blocks_for-requires : goal.blocks_for-requires
+blocks_for-requires c = header-inside _ c.requires.counted.0.fitted
+
+pub put_counts-head-requires : goal.put_counts-head-requires
+put_counts-head-requires c =
+    let fit = c.requires.counted.0.fitted in
+    let long = moved_length (which s) (im s) fit c.requires.counted.1 in
+    (header-inside _ fit, (old-groups _ c.requires.counted.1 c.requires.counted.0.groups_limit, omega (arith, c.requires.image_in_bounds)))
+
+pub move_kind-components-requires : goal.move_kind-components-requires
+move_kind-components-requires c =
+    let head = written_same (header_is s) c.put_counts-head.ensures in (
+      (c.requires.counted.0.fitted, (c.requires.counted.1, (place-fits (which s) (im s) c.requires.counted.0).0)),
+      rw (blocks-are s Component) (components-room (counts s) (records s) (sizes s) (room s) head),
+    )
+
+pub move_kind-labels-requires : goal.move_kind-labels-requires
+move_kind-labels-requires c =
+    let place = (place-fits (which s) (im s) c.requires.counted.0).1.0 in
+    let head = written_same (header_is s) c.put_counts-head.ensures in
+    let first = written_same (laid s Component 1 refl) c.move_kind-components.ensures in (
+      (c.requires.counted.0.fitted, (c.requires.counted.1, omega (arith, c.blocks_for-label_place.ensures.0))),
+      rw (blocks-are s Label) (labels-room (counts s) (records s) (sizes s) (room s) head first),
+    )
+
+pub move_kind-requires : goal.move_kind-requires
+move_kind-requires c =
+    let place = (place-fits (which s) (im s) c.requires.counted.0).1.1 in
+    let head = written_same (header_is s) c.put_counts-head.ensures in
+    let first = written_same (laid s Component 1 refl) c.move_kind-components.ensures in
+    let second = written_same (laid s Label _ (label-place n)) c.move_kind-labels.ensures in record { fitted = (c.requires.counted.0.fitted, (c.requires.counted.1, omega (arith, c.blocks_for-label_place.ensures.0, c.blocks_for.ensures.0))); kind_in_bounds = rw (blocks-are s User) (users-room (counts s) (records s) (sizes s) (room s) head first second) }
+
+pub returns : goal.returns
+unfolding new_image
+returns c =
+    let head = written_same (header_is s) c.put_counts-head.ensures in
+    let first = written_same (laid s Component 1 refl) c.move_kind-components.ensures in
+    let second = written_same (laid s Label _ (label-place n)) c.move_kind-labels.ensures in
+    let third = written_same (laid s User _ (user-place n)) c.move_kind.ensures in
+    image-written (counts s) (records s) (sizes s) (room s) head first second third

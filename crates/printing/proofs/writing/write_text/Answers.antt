@@ -1,0 +1,47 @@
+use mathlib.Core.Path.{◌≡◌, sym, ◌∙◌}
+use mathlib.Core.Bool.{false, ◌&&◌}
+use Rattle.sets.specs.Sets.{empty}
+use Rattle.labels.specs.Label.{marks_of}
+use Rattle.printing.proofs.Whole.{has-level, told, room-level, room-first, room-second, written-level, written-first, written_both}
+use Rattle.printing.proofs.writing.write_text.Goals as goal
+
+pub name_of-name-requires : goal.name_of-name-requires
+name_of-name-requires c =
+    let pre = (c.requires.accepted, c.requires.label_in_bounds) in
+    (pre.0.0, has-level _ _ pre.0.1)
+
+pub put-level-requires : goal.put-level-requires
+put-level-requires c =
+    room-level c.args.image.now (marks_of c.args.label) c.args.buffer.now _
+    c.name_of-name.ensures.0 c.requires.label_in_bounds
+
+pub returns-then-is_empty : goal.returns-then-is_empty
+returns-then-is_empty c =
+    written-level _ _ _ _ c.name_of-name.ensures.0 c.requires.label_in_bounds
+    (told c.is_empty.ensures c.is_empty-2.ensures c.if-is_empty.true) c.put-level.ensures
+
+pub write_compartments-first-requires : goal.write_compartments-first-requires
+write_compartments-first-requires c =
+    let some-list : (empty (marks_of c.args.label).groups && empty (marks_of c.args.label).compartments) ≡ false = told c.is_empty.ensures c.is_empty-2.ensures c.if-is_empty.false in
+    (
+      c.requires.accepted.0,
+      room-first _ _ _ _ c.name_of-name.ensures.0 c.requires.label_in_bounds some-list c.put-level.ensures,
+    )
+
+pub returns-then-is_empty-2 : goal.returns-then-is_empty-2
+returns-then-is_empty-2 c =
+    let some-list : (empty (marks_of c.args.label).groups && empty (marks_of c.args.label).compartments) ≡ false = told c.is_empty.ensures c.is_empty-2.ensures c.if-is_empty.false in
+    written-first _ _ _ _ c.name_of-name.ensures.0 c.requires.label_in_bounds some-list c.put-level.ensures
+    c.write_compartments-first.ensures (sym c.is_empty-3.ensures ∙ c.if-is_empty-2.true)
+
+pub write_groups-requires : goal.write_groups-requires
+write_groups-requires c =
+    let some-list : (empty (marks_of c.args.label).groups && empty (marks_of c.args.label).compartments) ≡ false = told c.is_empty.ensures c.is_empty-2.ensures c.if-is_empty.false in
+    record { accepted = c.requires.accepted.0; set_in_bounds = room-second _ _ _ _ c.name_of-name.ensures.0 c.requires.label_in_bounds some-list c.put-level.ensures
+          c.write_compartments-first.ensures (sym c.is_empty-3.ensures ∙ c.if-is_empty-2.false) }
+
+pub returns : goal.returns
+returns c =
+    let some-list : (empty (marks_of c.args.label).groups && empty (marks_of c.args.label).compartments) ≡ false = told c.is_empty.ensures c.is_empty-2.ensures c.if-is_empty.false in
+    written_both _ _ _ _ c.name_of-name.ensures.0 c.requires.label_in_bounds some-list c.put-level.ensures
+    c.write_compartments-first.ensures (sym c.is_empty-3.ensures ∙ c.if-is_empty-2.false) c.write_groups.ensures

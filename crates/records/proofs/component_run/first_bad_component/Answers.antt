@@ -1,0 +1,133 @@
+use Rattle.std.proofs.Common.{◌≡◌, ℕ, ◌+◌, ◌-◌, ◌*◌, ◌/◌, ◌%◌, ◌<◌, ◌≤◌, List, length, take, drop, sym, ap, ◌∙◌, subst, add-zero, arith}
+use native.Mathlib.Nat.{sub-zero}
+use Rattle.fields.specs.Bytes.{AreBytes}
+use Rattle.fields.specs.Scan.{first_bad}
+use Rattle.fields.proofs.Scan.{loop-end, part-bad, part-good, bad-upto}
+use Rattle.header.specs.declared.counts.Counts.{Counts}
+use Rattle.header.specs.declared.layout.Kind.TheVariants.{Component}
+use Rattle.header.specs.Layout.{class_at}
+use Rattle.records.specs.declared.component_run.Asked.{Asked}
+use Rattle.records.specs.ComponentRuns.{asked_of, lowest_form, run_asked, ClassUpto}
+use Rattle.records.specs.Rules.{class_start, run_before, run_rule}
+use Rattle.records.proofs.ComponentRuns.{run-whole, upto-taken}
+use Rattle.records.proofs.ComponentTests.{low_first, class-bad}
+use Rattle.records.proofs.component_run.first_bad_component.Goals as goal
+
+-- the place that is found among the r records from place j on, which are of one class
+module _ (n : Counts) (k : ℕ) (previous run : List ℕ) (j left r low : ℕ) (class : ClassUpto n (k + j) (k + j + left) (k + j + r))
+    (ends : j + left ≡ length run / 40) where
+  in-class : (asked : Asked) → asked ≡ asked_of n (class_at n (k + j)) → low ≡ lowest_form n (k + j) (run_before 40 previous run j) → AreBytes run
+      → let part = take (40 * (j + r) - 40 * j) (drop (40 * j) run) in
+      j + first_bad (run_asked asked low part) (length part / 40) 0 ≡ first_bad (run_rule Component n k previous run) (j + r - j) j
+  in-class asked is first bytes =
+      let upto : j ≤ j + r = omega arith in
+      let inside : 40 * (j + r) ≤ length run = omega (arith, class.upto) in
+      rw (is, upto-taken run j (j + r))
+      (class-bad n k previous run j (j + r) low upto inside (λ i a b. class.same i a (omega arith)) first bytes)
+
+pub loop-j-init : goal.loop-j-init
+loop-j-init c =
+    let a = c.args in (
+      omega arith,
+      (
+        (λ h. c.lowest_form-low.ensures ∙ ap (λ (i : ℕ). lowest_form a.counts i a.previous.now) (sym (add-zero a.k))),
+        rw sub-zero,
+      ),
+    )
+
+pub overflow_add-i : goal.overflow_add-i
+overflow_add-i c =
+    omega (arith, c.requires.1.1, c.loop-j-test.true)
+
+pub overflow_sub-n : goal.overflow_sub-n
+overflow_sub-n c = omega (arith, c.loop-j-test.true)
+
+pub class_left-requires : goal.class_left-requires
+class_left-requires c = omega (arith, c.loop-j-test.true)
+
+pub overflow_add-to : goal.overflow_add-to
+overflow_add-to c = omega (arith, c.class_left.ensures.upto, c.loop-j-test.true)
+
+pub overflow_mul-j : goal.overflow_mul-j
+overflow_mul-j c = omega (arith, c.loop-j-test.true)
+
+pub overflow_mul-to : goal.overflow_mul-to
+overflow_mul-to c = omega (arith, c.class_left.ensures.upto, c.loop-j-test.true)
+
+pub slice_bounds-first_bad_in_class-count : goal.slice_bounds-first_bad_in_class-count
+slice_bounds-first_bad_in_class-count c = omega arith
+
+pub slice_bounds-first_bad_in_class-start : goal.slice_bounds-first_bad_in_class-start
+slice_bounds-first_bad_in_class-start c = omega arith
+
+pub slice_bounds-first_bad_in_class-end : goal.slice_bounds-first_bad_in_class-end
+slice_bounds-first_bad_in_class-end c = omega (arith, c.class_left.ensures.upto, c.loop-j-test.true)
+
+pub first_bad_in_class-requires : goal.first_bad_in_class-requires
+first_bad_in_class-requires c =
+    let l = c.loop-j in
+    let a = c.args in
+    let to : ℕ = l.j + c.class_left.result in
+    let upto : 40 * l.j + 40 * (to - l.j) ≤ length a.run.now = omega (arith, c.class_left.ensures.upto, c.loop-j-test.true) in
+    ap (λ (s : List ℕ). length s % 40) (upto-taken a.run.now l.j to) ∙ run-whole _ _ _ upto
+
+pub overflow_add-bad : goal.overflow_add-bad
+overflow_add-bad c =
+    let found_in : let l = c.loop-j in let a = c.args in l.j + c.first_bad_in_class.result ≡ first_bad (run_rule Component a.counts a.k a.previous.now a.run.now) (l.j + c.class_left.result - l.j) l.j = (
+    let l = c.loop-j in
+    let a = c.args in
+    let ends : l.j + (length a.run.now / 40 - l.j) ≡ length a.run.now / 40 = omega (arith, c.loop-j-test.true) in
+    ap (λ (m : ℕ). l.j + m) c.first_bad_in_class.ensures
+    ∙ in-class a.counts a.k a.previous.now a.run.now l.j _ _ _ c.class_left.ensures ends _ c.asked_at.ensures
+    (l.invariant.1.0 c.loop-j-test.true) (λ i. (c.type_inv.run i).fits)
+    ) in
+    let l = c.loop-j in
+    let a = c.args in
+    let rule = run_rule Component a.counts a.k a.previous.now a.run.now in
+    let upto = bad-upto rule (l.j + c.class_left.result - l.j) l.j in
+    omega (arith, found_in, upto, c.class_left.ensures.upto, c.loop-j-test.true)
+
+pub returns-then-bad-to : goal.returns-then-bad-to
+returns-then-bad-to c =
+    let found_in : let l = c.loop-j in let a = c.args in l.j + c.first_bad_in_class.result ≡ first_bad (run_rule Component a.counts a.k a.previous.now a.run.now) (l.j + c.class_left.result - l.j) l.j = (
+    let l = c.loop-j in
+    let a = c.args in
+    let ends : l.j + (length a.run.now / 40 - l.j) ≡ length a.run.now / 40 = omega (arith, c.loop-j-test.true) in
+    ap (λ (m : ℕ). l.j + m) c.first_bad_in_class.ensures
+    ∙ in-class a.counts a.k a.previous.now a.run.now l.j _ _ _ c.class_left.ensures ends _ c.asked_at.ensures
+    (l.invariant.1.0 c.loop-j-test.true) (λ i. (c.type_inv.run i).fits)
+    ) in
+    let l = c.loop-j in
+    let a = c.args in
+    let to : ℕ = l.j + c.class_left.result in
+    let low : l.j ≤ to = omega arith in
+    let high : to ≤ length a.run.now / 40 = omega (arith, c.class_left.ensures.upto, c.loop-j-test.true) in
+    part-bad _ _ _ _ _ _ low high l.invariant.1.1 found_in c.if-bad-to.true
+
+pub loop-j-smaller : goal.loop-j-smaller
+loop-j-smaller c =
+    omega (arith, c.class_left.ensures.more, c.loop-j-test.true)
+
+pub loop-j-preserved : goal.loop-j-preserved
+loop-j-preserved c =
+    let found_in : let l = c.loop-j in let a = c.args in l.j + c.first_bad_in_class.result ≡ first_bad (run_rule Component a.counts a.k a.previous.now a.run.now) (l.j + c.class_left.result - l.j) l.j = (
+    let l = c.loop-j in
+    let a = c.args in
+    let ends : l.j + (length a.run.now / 40 - l.j) ≡ length a.run.now / 40 = omega (arith, c.loop-j-test.true) in
+    ap (λ (m : ℕ). l.j + m) c.first_bad_in_class.ensures
+    ∙ in-class a.counts a.k a.previous.now a.run.now l.j _ _ _ c.class_left.ensures ends _ c.asked_at.ensures
+    (l.invariant.1.0 c.loop-j-test.true) (λ i. (c.type_inv.run i).fits)
+    ) in
+    let l = c.loop-j in
+    let a = c.args in
+    let class = c.class_left.ensures in
+    let to : ℕ = l.j + c.class_left.result in
+    let low : l.j ≤ to = omega arith in
+    let high : to ≤ length a.run.now / 40 = omega (arith, class.upto, c.loop-j-test.true) in
+    let at : a.k + l.j + c.class_left.result ≡ a.k + to = omega arith in
+    let begins : to < length a.run.now / 40 → a.k + to ≡ class_start a.counts (a.k + to) =
+    λ h. subst (λ (i : ℕ). i ≡ class_start a.counts i) at (class.begins (omega arith)) in
+    (high, ((λ h. low_first _ _ _ (begins h)), part-good _ _ _ _ _ _ low high l.invariant.1.1 found_in c.if-bad-to.false))
+
+pub returns : goal.returns
+returns c = loop-end _ _ _ _ c.loop-j-test.false c.loop-j.invariant.1.1

@@ -1,0 +1,39 @@
+use Rattle.std.proofs.Common.{◌≡◌, ◌+◌, ◌-◌, ◌*◌, arith}
+use Rattle.records.specs.Rules.{layout_rule}
+use Rattle.header.proofs.Inside.{held_by, block_inside}
+use Rattle.records.proofs.kinds.laid_out.Goals as goal
+
+pub overflow_add-unused : goal.overflow_add-unused
+overflow_add-unused c =
+    let p = (c.requires.counted, c.requires.held_value) in
+    let h = held_by _ _ _ p.1 p.0.1.0 p.0.1.1 in
+    omega (arith, h.within, block_inside _ _ p.0.0.fitted p.0.1.1)
+
+pub overflow_cast-result : goal.overflow_cast-result
+overflow_cast-result c =
+    omega (arith, c.type_inv.image (512 * c.args.b + 1))
+
+pub overflow_sub-result : goal.overflow_sub-result
+overflow_sub-result c =
+    let p = (c.requires.counted, c.requires.held_value) in
+    (held_by _ _ _ p.1 p.0.1.0 p.0.1.1).ordered
+
+pub slice_bounds-all_zero-count : goal.slice_bounds-all_zero-count
+slice_bounds-all_zero-count c =
+    let p = (c.requires.counted, c.requires.held_value) in
+    let h = held_by _ _ _ p.1 p.0.1.0 p.0.1.1 in
+    omega (arith, h.after, h.within)
+
+pub slice_bounds-all_zero-start : goal.slice_bounds-all_zero-start
+slice_bounds-all_zero-start c =
+    let p = (c.requires.counted, c.requires.held_value) in
+    let h = held_by _ _ _ p.1 p.0.1.0 p.0.1.1 in
+    omega (arith, h.after, h.within)
+
+pub returns : goal.returns
+unfolding layout_rule
+returns c =
+    let b = c.args.b in
+    let e = c.args.held.end in
+    let cut : 512 * b + 510 - (512 * b + e) ≡ 510 - e = omega arith in
+    rw (c.all_zero.ensures, cut, c.kind_byte.ensures, c.requires.held_value)

@@ -1,0 +1,43 @@
+use Rattle.std.proofs.Common.{◌≡◌, true, ltb, sym, ap, ◌∙◌, ap₂, arith, le-ltb, lt-ltb}
+use borrow.Author.Tests.{not-true, not-false}
+use Rattle.fields.specs.Bytes.{number4}
+use Rattle.sets.specs.Sets.{within, all_below}
+use Rattle.records.specs.Fields.{tag_of, label_compartments}
+use Rattle.records.specs.LabelRuns.{label_after}
+use Rattle.records.proofs.Rooms.{label-room}
+use Rattle.records.proofs.label_run.label_ok.Goals as goal
+
+pub returns-then-number4-before : goal.returns-then-number4-before
+unfolding label_after
+returns-then-number4-before c =
+    let a = c.args in
+    rw (le-ltb a.before (tag_of a.rec.now) (rw c.number4.ensures at c.if-number4-before.true))
+
+pub returns-then-levels-number4 : goal.returns-then-levels-number4
+unfolding label_after
+returns-then-levels-number4 c =
+    let higher : let a = c.args in ltb a.before (tag_of a.rec.now) ≡ true = lt-ltb _ _ (rw c.number4.ensures at c.if-number4-before.false) in
+    let a = c.args in
+    let none = le-ltb (number4 a.rec.now 4) a.existing.counts.levels (rw c.number4-2.ensures at c.if-levels-number4.true) in
+    rw (higher, none)
+
+pub returns-then-not-within : goal.returns-then-not-within
+unfolding label_after
+returns-then-not-within c =
+    let higher : let a = c.args in ltb a.before (tag_of a.rec.now) ≡ true = lt-ltb _ _ (rw c.number4.ensures at c.if-number4-before.false) in
+    let levelled : let a = c.args in ltb (number4 a.rec.now 4) a.existing.counts.levels ≡ true = lt-ltb _ _ (rw c.number4-2.ensures at c.if-levels-number4.false) in
+    let compartments-told : let a = c.args in c.within.result ≡ within (label_compartments a.rec.now) (all_below a.existing.counts.compartments) = c.within.ensures ∙ ap₂ within c.number8.ensures c.requires.exist.0.compartments in
+    rw (higher, levelled, sym compartments-told ∙ c.if-not-within.true)
+
+pub groups_exist-requires : goal.groups_exist-requires
+groups_exist-requires c =
+    omega (arith, c.requires.rec_len.0, label-room c.args.existing.counts.edition)
+
+pub returns : goal.returns
+unfolding label_after
+returns c =
+    let higher : let a = c.args in ltb a.before (tag_of a.rec.now) ≡ true = lt-ltb _ _ (rw c.number4.ensures at c.if-number4-before.false) in
+    let levelled : let a = c.args in ltb (number4 a.rec.now 4) a.existing.counts.levels ≡ true = lt-ltb _ _ (rw c.number4-2.ensures at c.if-levels-number4.false) in
+    let compartments-told : let a = c.args in c.within.result ≡ within (label_compartments a.rec.now) (all_below a.existing.counts.compartments) = c.within.ensures ∙ ap₂ within c.number8.ensures c.requires.exist.0.compartments in
+    rw (higher, levelled, sym compartments-told ∙ c.if-not-within.false)
+    (c.groups_exist.ensures ∙ ap (within _) c.requires.exist.0.groups)

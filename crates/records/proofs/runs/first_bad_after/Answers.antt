@@ -1,0 +1,28 @@
+use Rattle.records.proofs.runs.first_bad_after.Goals as goal
+
+pub first_bad_component-requires : goal.first_bad_component-requires
+first_bad_component-requires c =
+    let p = (c.requires.exist, c.requires.kind_len) in
+    let is = c.in-Component.is in
+    (rw is at p.1.0, (rw is at p.1.1, p.0.1.1))
+
+pub first_bad_label-requires : goal.first_bad_label-requires
+first_bad_label-requires c =
+    let p = (c.requires.exist, c.requires.kind_len) in
+    let is = c.in-Label.is in
+    record { exist = (p.0.0, p.0.1.0); edition_len = (rw is at p.1.0, rw is at p.1.1) }
+
+pub first_bad_user-requires : goal.first_bad_user-requires
+first_bad_user-requires c =
+    let p = (c.requires.exist, c.requires.kind_len) in
+    let is = c.in-User.is in
+    record { exist = (p.0.0, rw is at p.1.0); in_bounds = (rw is at p.1.1, p.0.1.1) }
+
+pub returns-in-Component : goal.returns-in-Component
+returns-in-Component c = rw c.in-Component.is c.first_bad_component.ensures
+
+pub returns-in-Label : goal.returns-in-Label
+returns-in-Label c = rw c.in-Label.is c.first_bad_label.ensures
+
+pub returns-in-User : goal.returns-in-User
+returns-in-User c = rw c.in-User.is c.first_bad_user.ensures

@@ -1,0 +1,18 @@
+use Rattle.sessions.specs.Changes.{set_row_label_of}
+use Rattle.sessions.proofs.Accepting.{lent-accepted, lent_at, lent-refused}
+use Rattle.sessions.proofs.session.Session.set_row_label.Goals as goal
+
+pub change_row_label-requires : goal.change_row_label-requires
+change_row_label-requires c =
+    let g = lent_at _ _ _ _ _ c.in-At.is c.lent_rights-found.ensures in
+    (lent-accepted _ _ g.0, g.1.1)
+
+pub returns-in-At : goal.returns-in-At
+unfolding set_row_label_of
+returns-in-At c =
+    let g = lent_at _ _ _ _ _ c.in-At.is c.lent_rights-found.ensures in
+    rw g.0 c.change_row_label.ensures
+
+pub returns-in-Refused : goal.returns-in-Refused
+unfolding set_row_label_of
+returns-in-Refused c = rw (lent-refused _ _ _ _ _ c.in-Refused.is c.lent_rights-found.ensures)

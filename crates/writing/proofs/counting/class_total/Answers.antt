@@ -1,0 +1,55 @@
+use Prim.Native.Nat.{ℕ, ◌/◌}
+use mathlib.Core.Path.{sym, ap, ◌∙◌}
+use mathlib.Core.Bool.{Bool}
+use mathlib.Core.List.{List}
+use mathlib.Core.Logic.{⊎_elim}
+use native.Mathlib.Nat.{sub-zero, zero-add}
+use native.Mathlib.Omega.{arith}
+use lib.Dec.{eqb}
+use lib.ListN.{length}
+use Rattle.fields.proofs.PlacesWhere.{turn-here, turn-not, turn_end}
+use Rattle.records.specs.Fields.{class_of}
+use Rattle.records.specs.Rules.{record_in, run_records}
+use Rattle.writing.specs.Lent.{class_total}
+use Rattle.records.proofs.Parts.{run-count}
+use Rattle.writing.proofs.counting.class_total.Goals as goal
+
+abbrev named : List ℕ → ℕ → ℕ → Bool
+named components class i = eqb (class_of (record_in (run_records 40 components) i)) class
+
+pub loop-i-init : goal.loop-i-init
+loop-i-init c = (omega arith, rw (sub-zero, zero-add))
+
+pub names_class-requires : goal.names_class-requires
+names_class-requires c = omega (arith, c.loop-i-test.true)
+
+pub overflow_add-held : goal.overflow_add-held
+overflow_add-held c = omega arith
+
+pub overflow_add-i : goal.overflow_add-i
+overflow_add-i c = omega arith
+
+pub loop-i-smaller : goal.loop-i-smaller
+loop-i-smaller c = omega arith
+
+pub loop-i-preserved : goal.loop-i-preserved
+loop-i-preserved c =
+    let inv = c.loop-i.invariant in
+    let a = c.args in
+    let n = length a.components.now / 40 in
+    let i = c.loop-i.i in
+    let test = named a.components.now a.class in
+    let here = c.loop-i-test.true in
+    let told = sym c.names_class.ensures in
+    ⊎_elim
+    (λ t. let step = ap length (turn-here test n i here (told ∙ t.0.taken)) in (omega (arith, t.1, inv.0), omega (arith, t.1, inv.1)))
+    (λ f. let step = ap length (turn-not test n i here (told ∙ f.0.left)) in (omega (arith, f.1, inv.0), omega (arith, f.1, inv.1)))
+    c.if-names_class.branch
+
+pub returns : goal.returns
+unfolding class_total
+returns c =
+    let a = c.args in
+    let n = length a.components.now / 40 in
+    let none = ap length (turn_end (named a.components.now a.class) n c.loop-i.i c.loop-i-test.false) in
+    rw (run-count 40 a.components.now) (omega (arith, c.loop-i.invariant.1))
