@@ -20,12 +20,12 @@ put_place-placed-requires c =
 
 pub bounds-buffer-placed : goal.bounds-buffer-placed
 bounds-buffer-placed c =
-    let newline-room : c.put_place-placed.result < length c.put_place-placed.new.1.0 = room-newline c.args.refusal c.args.buffer.now c.requires c.number-n.ensures c.put_named-numbered.ensures c.put_place-placed.ensures in
+    let newline-room : c.put_place-placed.result < length c.put_place-placed.new.buffer = room-newline c.args.refusal c.args.buffer.now c.requires c.number-n.ensures c.put_named-numbered.ensures c.put_place-placed.ensures in
     newline-room
 
 pub overflow_add-result : goal.overflow_add-result
 overflow_add-result c =
-    let newline-room : c.put_place-placed.result < length c.put_place-placed.new.1.0 = room-newline c.args.refusal c.args.buffer.now c.requires c.number-n.ensures c.put_named-numbered.ensures c.put_place-placed.ensures in
+    let newline-room : c.put_place-placed.result < length c.put_place-placed.new.buffer = room-newline c.args.refusal c.args.buffer.now c.requires c.number-n.ensures c.put_named-numbered.ensures c.put_place-placed.ensures in
     let h = newline-room in
     omega arith
 
