@@ -18,11 +18,8 @@ use Rattle.access.specs.Verdicts.{reads_label}
 use Rattle.maps.specs.Map.{reads_record}
 use Rattle.maps.proofs.Bits.{word-upto}
 use Rattle.maps.proofs.Runs.{Run, run-joined, size_is, run_fits, run-whole, run-count, run-reads}
+use Rattle.maps.proofs.words.map_word.Invariants.{told}
 use Rattle.maps.proofs.words.map_word.Goals as goal
-
--- what bit i of word k tells
-abbrev told : List ℕ → Rights → ℕ → ℕ → Bool
-told im rights k i = reads_record im rights (64 * k + i)
 
 -- the shape counts the labels
 count-is : {im : List ℕ} {shape : Shape} → Shaped im Label shape → shape.count ≡ labels im

@@ -1,6 +1,5 @@
 use Prim.Native.Nat.{ℕ, ◌+◌, ◌-◌, ◌≤◌, ◌<◌}
 use mathlib.Core.Path.{◌≡◌, refl, ◌∙◌}
-use mathlib.Core.Logic.{⊎_elim}
 use mathlib.Core.List.{List, ◌++◌}
 use native.Mathlib.Nat.{add-sub_cancel_left}
 use native.Mathlib.Omega.{arith}
@@ -10,6 +9,7 @@ use Rattle.buffers.specs.Pasting.{pasted}
 use Rattle.buffers.proofs.Stored.{Begun, begun-turn, begun-end, part-long}
 use Rattle.rows.proofs.FirstBytes.{begun-word, begun-room, begun-again, begun-whole, Nearly}
 use Rattle.rows.proofs.copying.put_row.Goals as goal
+use Rattle.rows.proofs.copying.put_row.Goals.{then-last-gt8, else-last-gt8}
 
 pub overflow_add-at : goal.overflow_add-at
 overflow_add-at c = omega (arith, c.requires.in_bounds)
@@ -118,19 +118,19 @@ put16-requires-then-n-lt40 c =
     let n = length c.args.text.now in
     let more = c.if-n-le16.false in
     let less = c.if-n-lt40.true in
-    ⊎_elim
-    (λ t.
-    let some : 8 < n - 16 = t.0.taken in
-    record {
-      upto = 24;
-      low = omega (arith, less);
-      high = omega arith;
-      begun = next _ 8 first-put 8 16 (omega arith) (omega arith) (omega arith) _ (t.5 ∙ t.2.ensures);
-    })
-    (λ e.
-    let none : n - 16 ≤ 8 = e.0.left in
-    record { upto = 8; low = none; high = omega (arith, more); begun = rw e.1 first-put })
-    c.if-last-gt8.branch
+    elim c.if-last-gt8.branch [
+      then-last-gt8 w ↦
+        let some : 8 < n - 16 = w.if-last-gt8.true in
+        record {
+          upto = 24;
+          low = omega (arith, less);
+          high = omega arith;
+          begun = next _ 8 first-put 8 16 (omega arith) (omega arith) (omega arith) _ (w.buffer-is ∙ w.put16.ensures);
+        }
+      | else-last-gt8 w ↦
+        let none : n - 16 ≤ 8 = w.if-last-gt8.false in
+        record { upto = 8; low = none; high = omega (arith, more); begun = rw w.buffer-is first-put }
+    ]
     ) in
     let more = c.if-n-le16.false in
     (omega (arith, more), begun-room middle-put.begun c.requires.in_bounds.1)
@@ -151,19 +151,19 @@ shape_of-buffer-then-n-lt40 c =
     let n = length c.args.text.now in
     let more = c.if-n-le16.false in
     let less = c.if-n-lt40.true in
-    ⊎_elim
-    (λ t.
-    let some : 8 < n - 16 = t.0.taken in
-    record {
-      upto = 24;
-      low = omega (arith, less);
-      high = omega arith;
-      begun = next _ 8 first-put 8 16 (omega arith) (omega arith) (omega arith) _ (t.5 ∙ t.2.ensures);
-    })
-    (λ e.
-    let none : n - 16 ≤ 8 = e.0.left in
-    record { upto = 8; low = none; high = omega (arith, more); begun = rw e.1 first-put })
-    c.if-last-gt8.branch
+    elim c.if-last-gt8.branch [
+      then-last-gt8 w ↦
+        let some : 8 < n - 16 = w.if-last-gt8.true in
+        record {
+          upto = 24;
+          low = omega (arith, less);
+          high = omega arith;
+          begun = next _ 8 first-put 8 16 (omega arith) (omega arith) (omega arith) _ (w.buffer-is ∙ w.put16.ensures);
+        }
+      | else-last-gt8 w ↦
+        let none : n - 16 ≤ 8 = w.if-last-gt8.false in
+        record { upto = 8; low = none; high = omega (arith, more); begun = rw w.buffer-is first-put }
+    ]
     ) in
     let medium-put : (Stands c.put16-then-n-lt40.new.buffer (length c.args.text.now - 16 + 16)) = (
     let near = middle-put in
@@ -188,19 +188,19 @@ returns-then-n-lt40 c =
     let n = length c.args.text.now in
     let more = c.if-n-le16.false in
     let less = c.if-n-lt40.true in
-    ⊎_elim
-    (λ t.
-    let some : 8 < n - 16 = t.0.taken in
-    record {
-      upto = 24;
-      low = omega (arith, less);
-      high = omega arith;
-      begun = next _ 8 first-put 8 16 (omega arith) (omega arith) (omega arith) _ (t.5 ∙ t.2.ensures);
-    })
-    (λ e.
-    let none : n - 16 ≤ 8 = e.0.left in
-    record { upto = 8; low = none; high = omega (arith, more); begun = rw e.1 first-put })
-    c.if-last-gt8.branch
+    elim c.if-last-gt8.branch [
+      then-last-gt8 w ↦
+        let some : 8 < n - 16 = w.if-last-gt8.true in
+        record {
+          upto = 24;
+          low = omega (arith, less);
+          high = omega arith;
+          begun = next _ 8 first-put 8 16 (omega arith) (omega arith) (omega arith) _ (w.buffer-is ∙ w.put16.ensures);
+        }
+      | else-last-gt8 w ↦
+        let none : n - 16 ≤ 8 = w.if-last-gt8.false in
+        record { upto = 8; low = none; high = omega (arith, more); begun = rw w.buffer-is first-put }
+    ]
     ) in
     let medium-put : (Stands c.put16-then-n-lt40.new.buffer (length c.args.text.now - 16 + 16)) = (
     let near = middle-put in
