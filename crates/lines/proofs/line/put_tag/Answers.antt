@@ -11,5 +11,4 @@ shape_of-buffer c = rw length-set at c.put_number.auto.1.0
 
 pub returns : goal.returns
 returns c =
-    let pre = (c.requires.counted, c.requires.k_in_bounds) in
-    byte-then _ _ _ (omega (arith, pre.1)) (rw c.tag-tag.ensures at c.put_number.ensures)
+    byte-then _ _ _ (omega (arith, c.requires.k_in_bounds)) (rw c.tag-tag.ensures at c.put_number.ensures)

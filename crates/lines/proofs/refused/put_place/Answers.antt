@@ -3,26 +3,6 @@ use Rattle.lines.proofs.RefusalText.{told_none}
 use borrow.Author.Rules.{rules}
 use Rattle.lines.proofs.refused.put_place.Goals as goal
 
--- UNMATCHED slice-aggregate-put-value
--- slice-aggregate-put-value : tie.Need-slice-aggregate-put-value
--- slice-aggregate-put-value c = search rules
-
--- UNMATCHED slice-aggregate-put-value-2
--- slice-aggregate-put-value-2 : tie.Need-slice-aggregate-put-value-2
--- slice-aggregate-put-value-2 c = search rules
-
--- UNMATCHED slice-aggregate-put-value-3
--- slice-aggregate-put-value-3 : tie.Need-slice-aggregate-put-value-3
--- slice-aggregate-put-value-3 c = search rules
-
--- UNMATCHED slice-aggregate-put-value-4
--- slice-aggregate-put-value-4 : tie.Need-slice-aggregate-put-value-4
--- slice-aggregate-put-value-4 c = search rules
-
--- UNMATCHED slice-aggregate-put-value-5
--- slice-aggregate-put-value-5 : tie.Need-slice-aggregate-put-value-5
--- slice-aggregate-put-value-5 c = search rules
-
 pub returns-in-BlockCheck : goal.returns-in-BlockCheck
 returns-in-BlockCheck c =
     rw c.in-BlockCheck.is c.put_value.ensures

@@ -6,10 +6,6 @@ use Rattle.lines.proofs.RefusalText.{room-front, room-place, room-newline, writt
 use borrow.Author.Rules.{rules}
 use Rattle.lines.proofs.refused.refusal_line.Goals as goal
 
--- UNMATCHED slice-aggregate-put-named
--- slice-aggregate-put-named : tie.Need-slice-aggregate-put-named
--- slice-aggregate-put-named c = search rules
-
 pub put_named-numbered-requires : goal.put_named-numbered-requires
 put_named-numbered-requires c =
     room-front c.args.refusal c.args.buffer.now c.requires c.number-n.ensures

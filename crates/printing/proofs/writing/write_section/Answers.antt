@@ -4,8 +4,7 @@ use Rattle.printing.proofs.writing.write_section.Goals as goal
 
 pub write_list-end-requires : goal.write_list-end-requires
 write_list-end-requires c =
-    let pre = (c.requires.named, c.requires.set_in_bounds) in
-    (pre.0, list-room _ _ _ _ _ _ pre.1)
+    (c.requires.named, list-room _ _ _ _ _ _ c.requires.set_in_bounds)
 
 pub bounds-buffer-at : goal.bounds-buffer-at
 bounds-buffer-at c =

@@ -7,8 +7,7 @@ use Rattle.printing.proofs.writing.write_text.Goals as goal
 
 pub name_of-name-requires : goal.name_of-name-requires
 name_of-name-requires c =
-    let pre = (c.requires.accepted, c.requires.label_in_bounds) in
-    (pre.0.0, has-level _ _ pre.0.1)
+    (c.requires.accepted.0, has-level _ _ c.requires.accepted.1)
 
 pub put-level-requires : goal.put-level-requires
 put-level-requires c =
