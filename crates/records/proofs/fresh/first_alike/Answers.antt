@@ -62,8 +62,8 @@ returns-then-is_alike c =
     ) in
     walk-bad turn_at _ c.loop-at.invariant.left (rule-asked ∙ ap not c.if-is_alike.true)
 
-pub overflow_add-at : goal.overflow_add-at
-overflow_add-at c =
+pub overflow_add-at-in-loop-at : goal.overflow_add-at-in-loop-at
+overflow_add-at-in-loop-at c =
     let turn_at : Turn 40 c.args.run.now c.loop-at.at (c.loop-at.at / 40) = (
     record {
       some = omega arith;

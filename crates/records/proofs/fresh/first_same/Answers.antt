@@ -80,12 +80,11 @@ first_alike-requires c =
 pub overflow_add-result : goal.overflow_add-result
 overflow_add-result c =
     let found_in : let a = c.args in a.start + c.first_alike.result ≡ first_bad (λ j. other_name (component_name a.rec.now) (record_in (run_records 40 a.records.now) j)) (a.end - a.start) a.start = (
-    let p = (c.requires.whole, c.requires.in_bounds, c.requires.names_kept) in
     let a = c.args in
     let is = c.in-Run.is in
     ap (λ (n : ℕ). a.start + n) c.first_alike.ensures
-    ∙ in-run a.records.now a.rec.now _ _ p.0.1.1 _ c.field_of-field.ensures p.1.0.1
-    (rw is at p.0.0) (rw is at p.0.1.0) (rw is at p.1.1)
+    ∙ in-run a.records.now a.rec.now _ _ c.requires.whole.1.1 _ c.field_of-field.ensures c.requires.in_bounds.1
+    (rw is at c.requires.whole.0) (rw is at c.requires.whole.1.0) (rw is at c.requires.names_kept)
     ) in
     let a = c.args in
     let upto = bad-upto (λ j. other_name (component_name a.rec.now) (record_in (run_records 40 a.records.now) j)) (a.end - a.start) a.start in
@@ -93,23 +92,21 @@ overflow_add-result c =
 
 pub returns-in-Image : goal.returns-in-Image
 returns-in-Image c =
-    let p = (c.requires.whole, c.requires.in_bounds, c.requires.names_kept) in
     let a = c.args in
     let is = c.in-Image.is in
-    let few : a.end ≤ count_of a.records.now Component = rw (is, records-count) at p.0.1.0 in
-    let kept : NamesKept (records_of a.records.now Component) a.end = rw is at p.1.1 in
+    let few : a.end ≤ count_of a.records.now Component = rw (is, records-count) at c.requires.whole.1.0 in
+    let kept : NamesKept (records_of a.records.now Component) a.end = rw is at c.requires.names_kept in
     rw is
     (c.alike_in_image.ensures
-    ∙ in_image a.records.now a.rec.now _ _ p.0.1.1 _ c.field_of-field.ensures p.1.0.1 few kept)
+    ∙ in_image a.records.now a.rec.now _ _ c.requires.whole.1.1 _ c.field_of-field.ensures c.requires.in_bounds.1 few kept)
 
 pub returns-in-Run : goal.returns-in-Run
 returns-in-Run c =
     let found_in : let a = c.args in a.start + c.first_alike.result ≡ first_bad (λ j. other_name (component_name a.rec.now) (record_in (run_records 40 a.records.now) j)) (a.end - a.start) a.start = (
-    let p = (c.requires.whole, c.requires.in_bounds, c.requires.names_kept) in
     let a = c.args in
     let is = c.in-Run.is in
     ap (λ (n : ℕ). a.start + n) c.first_alike.ensures
-    ∙ in-run a.records.now a.rec.now _ _ p.0.1.1 _ c.field_of-field.ensures p.1.0.1
-    (rw is at p.0.0) (rw is at p.0.1.0) (rw is at p.1.1)
+    ∙ in-run a.records.now a.rec.now _ _ c.requires.whole.1.1 _ c.field_of-field.ensures c.requires.in_bounds.1
+    (rw is at c.requires.whole.0) (rw is at c.requires.whole.1.0) (rw is at c.requires.names_kept)
     ) in
     rw c.in-Run.is found_in

@@ -8,13 +8,6 @@ use Rattle.records.specs.Fresh.{components_in, Marked}
 use Rattle.records.proofs.Marks.{class-marked, class-fresh, part_room, part-holds}
 use Rattle.records.proofs.fresh.first_stale.Goals as goal
 
--- the loop stands at place i; what is left gives what the whole gives
-record Searched (n : Counts) (records : List (List ℕ)) (from to i : ℕ) (filter : List ℕ) : Type 0 where
-  low : from ≤ i
-  upto : i ≤ to
-  marks : Marked n records i filter
-  left : first_bad (fresh_rule Component n records) (to - i) i ≡ first_bad (fresh_rule Component n records) (to - from) from
-
 pub loop-i-init : goal.loop-i-init
 loop-i-init c =
     record { low = omega arith; upto = c.requires.whole.1.0; marks = c.requires.names_kept.1; left = refl }
@@ -91,15 +84,13 @@ stale_in_class-bad-requires c =
     (class.more, omega (arith, class.upto, c.loop-i-test.true))
     ) in
     let l = c.loop-i in
-    let p = (c.requires.whole, c.requires.holds_from, c.requires.names_kept) in
     let e = ends in
-    let class = c.class_start-start.ensures in (
-      (p.0.0, (class.1, (omega (arith, e.0), omega (arith, e.1, p.0.1.1)))),
-      (
-        part-holds p.1.0 l.i (l.i + c.class_left.result) l.invariant.low (omega (arith, e.0)) e.1,
-        (record { each = λ j h. p.1.1.0.each j (omega (arith, e.1)) }, rw class.0 l.invariant.marks),
-      ),
-    )
+    let class = c.class_start-start.ensures in
+    record {
+      whole = (c.requires.whole.0, (class.1, (omega (arith, e.0), omega (arith, e.1, c.requires.whole.1.1))));
+      holds_from = part-holds c.requires.holds_from l.i (l.i + c.class_left.result) l.invariant.low (omega (arith, e.0)) e.1;
+      names_kept = (record { each = λ j h. c.requires.names_kept.0.each j (omega (arith, e.1)) }, rw class.0 l.invariant.marks);
+    }
 
 pub returns-then-bad-end : goal.returns-then-bad-end
 returns-then-bad-end c =
@@ -117,7 +108,10 @@ returns-then-bad-end c =
     let l = c.loop-i in
     let e = ends in
     let upto = c.if-bad-end.true in
-    (part-bad _ _ _ _ _ _ (omega (arith, e.0)) e.1 l.invariant.left found_in upto, λ w. absurd (omega (arith, upto, e.1, w)))
+    record {
+      value = part-bad _ _ _ _ _ _ (omega (arith, e.0)) e.1 l.invariant.left found_in upto;
+      marked = λ w. absurd (omega (arith, upto, e.1, w));
+    }
 
 pub loop-i-smaller : goal.loop-i-smaller
 loop-i-smaller c =

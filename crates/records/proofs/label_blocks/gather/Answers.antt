@@ -102,7 +102,16 @@ group_set-requires c =
 
 pub overflow_add-at : goal.overflow_add-at
 overflow_add-at c =
-    add-rec number.before.before.before.before.before
+    let least : 24 ≤ c.args.size = rw c.requires.0 (size-least c.args.edition Label) in
+    let turn_at : let a = c.args in Turn a.size a.run.now c.loop-at.at (c.loop-at.at / a.size) = (
+    record {
+      some = omega (arith, least);
+      whole = c.requires.1;
+      stands = c.loop-at.invariant.stands;
+      more = c.loop-at-test.true;
+    }
+    ) in
+    omega (arith, room turn_at)
 
 pub loop-at-smaller : goal.loop-at-smaller
 loop-at-smaller c =

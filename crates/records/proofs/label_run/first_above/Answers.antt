@@ -15,8 +15,8 @@ overflow_sub-last c = omega (arith, c.loop-left-test.true)
 
 pub overflow_mul-at : goal.overflow_mul-at
 overflow_mul-at c =
-    let room : let a = c.args in a.size * (c.loop-left.false - 1) + a.size ≤ length a.run.now = (
-    let left = c.loop-left.false in
+    let room : let a = c.args in a.size * (c.loop-left.left - 1) + a.size ≤ length a.run.now = (
+    let left = c.loop-left.left in
     let s : ℕ = c.args.size in
     let m : s * suc (left - 1) ≤ s * c.args.n = mul-le-mul_left s (omega (arith, c.loop-left-test.true, c.loop-left.invariant.0)) in
     omega (arith, mul-suc s (left - 1), c.requires.le_size.1)
@@ -25,8 +25,8 @@ overflow_mul-at c =
 
 pub overflow_add-at : goal.overflow_add-at
 overflow_add-at c =
-    let room : let a = c.args in a.size * (c.loop-left.false - 1) + a.size ≤ length a.run.now = (
-    let left = c.loop-left.false in
+    let room : let a = c.args in a.size * (c.loop-left.left - 1) + a.size ≤ length a.run.now = (
+    let left = c.loop-left.left in
     let s : ℕ = c.args.size in
     let m : s * suc (left - 1) ≤ s * c.args.n = mul-le-mul_left s (omega (arith, c.loop-left-test.true, c.loop-left.invariant.0)) in
     omega (arith, mul-suc s (left - 1), c.requires.le_size.1)
@@ -41,8 +41,8 @@ slice_bounds-number4-start c = omega arith
 
 pub slice_bounds-number4-end : goal.slice_bounds-number4-end
 slice_bounds-number4-end c =
-    let room : let a = c.args in a.size * (c.loop-left.false - 1) + a.size ≤ length a.run.now = (
-    let left = c.loop-left.false in
+    let room : let a = c.args in a.size * (c.loop-left.left - 1) + a.size ≤ length a.run.now = (
+    let left = c.loop-left.left in
     let s : ℕ = c.args.size in
     let m : s * suc (left - 1) ≤ s * c.args.n = mul-le-mul_left s (omega (arith, c.loop-left-test.true, c.loop-left.invariant.0)) in
     omega (arith, mul-suc s (left - 1), c.requires.le_size.1)
@@ -51,18 +51,18 @@ slice_bounds-number4-end c =
 
 pub number4-requires : goal.number4-requires
 number4-requires c =
-    let room : let a = c.args in a.size * (c.loop-left.false - 1) + a.size ≤ length a.run.now = (
-    let left = c.loop-left.false in
+    let room : let a = c.args in a.size * (c.loop-left.left - 1) + a.size ≤ length a.run.now = (
+    let left = c.loop-left.left in
     let s : ℕ = c.args.size in
     let m : s * suc (left - 1) ≤ s * c.args.n = mul-le-mul_left s (omega (arith, c.loop-left-test.true, c.loop-left.invariant.0)) in
     omega (arith, mul-suc s (left - 1), c.requires.le_size.1)
     ) in
-    let at : ℕ = c.args.size * (c.loop-left.false - 1) in
+    let at : ℕ = c.args.size * (c.loop-left.left - 1) in
     rw (add-sub_cancel_left, part_length c.args.run.now at c.args.size room) (omega (arith, c.requires.le_size.0))
 
 pub returns-then-number4-le99999999 : goal.returns-then-number4-le99999999
 returns-then-number4-le99999999 c =
-    let tag_read : let a = c.args in c.number4.result ≡ run_tag a.size a.run.now (c.loop-left.false - 1) = c.number4.ensures ∙ rw add-sub_cancel_left in
+    let tag_read : let a = c.args in c.number4.result ≡ run_tag a.size a.run.now (c.loop-left.left - 1) = c.number4.ensures ∙ rw add-sub_cancel_left in
     let l = c.loop-left in
     let some : 0 < l.left = omega (arith, c.loop-left-test.true) in
     last-limited c.args.size c.args.run.now c.args.n l.left c.requires.tags_rise some l.invariant.0
@@ -74,7 +74,7 @@ loop-left-smaller c = omega (arith, c.loop-left-test.true)
 
 pub loop-left-preserved : goal.loop-left-preserved
 loop-left-preserved c =
-    let tag_read : let a = c.args in c.number4.result ≡ run_tag a.size a.run.now (c.loop-left.false - 1) = c.number4.ensures ∙ rw add-sub_cancel_left in
+    let tag_read : let a = c.args in c.number4.result ≡ run_tag a.size a.run.now (c.loop-left.left - 1) = c.number4.ensures ∙ rw add-sub_cancel_left in
     let l = c.loop-left in
     let a = c.args in
     let some : 0 < l.left = omega (arith, c.loop-left-test.true) in
@@ -84,4 +84,4 @@ loop-left-preserved c =
 pub returns : goal.returns
 returns c =
     let a = c.args in
-    loop-end (tag_limited a.size a.run.now) c.loop-left.false 0 _ c.loop-left-test.false (rw sub-zero c.loop-left.invariant.1)
+    loop-end (tag_limited a.size a.run.now) c.loop-left.left 0 _ c.loop-left-test.false (rw sub-zero c.loop-left.invariant.1)
