@@ -39,26 +39,11 @@ pub overflow_add-i : goal.overflow_add-i
 overflow_add-i c =
     omega (arith, c.requires.1.1, c.loop-j-test.true)
 
-pub overflow_sub-n : goal.overflow_sub-n
-overflow_sub-n c = omega (arith, c.loop-j-test.true)
-
-pub class_left-requires : goal.class_left-requires
-class_left-requires c = omega (arith, c.loop-j-test.true)
-
 pub overflow_add-to : goal.overflow_add-to
 overflow_add-to c = omega (arith, c.class_left.ensures.upto, c.loop-j-test.true)
 
-pub overflow_mul-j : goal.overflow_mul-j
-overflow_mul-j c = omega (arith, c.loop-j-test.true)
-
 pub overflow_mul-to : goal.overflow_mul-to
 overflow_mul-to c = omega (arith, c.class_left.ensures.upto, c.loop-j-test.true)
-
-pub slice_bounds-first_bad_in_class-count : goal.slice_bounds-first_bad_in_class-count
-slice_bounds-first_bad_in_class-count c = omega arith
-
-pub slice_bounds-first_bad_in_class-start : goal.slice_bounds-first_bad_in_class-start
-slice_bounds-first_bad_in_class-start c = omega arith
 
 pub slice_bounds-first_bad_in_class-end : goal.slice_bounds-first_bad_in_class-end
 slice_bounds-first_bad_in_class-end c = omega (arith, c.class_left.ensures.upto, c.loop-j-test.true)

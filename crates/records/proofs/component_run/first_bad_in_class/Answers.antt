@@ -21,12 +21,6 @@ overflow_add-rec c =
     ) in
     omega (arith, room turn_at)
 
-pub slice_bounds-rec-count : goal.slice_bounds-rec-count
-slice_bounds-rec-count c = omega arith
-
-pub slice_bounds-rec-start : goal.slice_bounds-rec-start
-slice_bounds-rec-start c = omega arith
-
 pub slice_bounds-rec-end : goal.slice_bounds-rec-end
 slice_bounds-rec-end c =
     let turn_at : Turn 40 c.args.run.now c.loop-at.at (c.loop-at.at / 40) = (
@@ -93,10 +87,6 @@ overflow_add-at c =
     }
     ) in
     omega (arith, room turn_at)
-
-pub loop-at-smaller : goal.loop-at-smaller
-loop-at-smaller c =
-    omega (arith, c.loop-at-test.true)
 
 pub loop-at-preserved : goal.loop-at-preserved
 loop-at-preserved c =

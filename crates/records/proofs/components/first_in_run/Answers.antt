@@ -20,9 +20,6 @@ overflow_add-at c =
     ) in
     omega (arith, room turn_at)
 
-pub slice_bounds-is_named-count : goal.slice_bounds-is_named-count
-slice_bounds-is_named-count c = omega arith
-
 pub slice_bounds-is_named-end : goal.slice_bounds-is_named-end
 slice_bounds-is_named-end c =
     let turn_at : Turn 40 c.args.run.now c.loop-at.at c.loop-at.j = (
@@ -88,10 +85,6 @@ overflow_add-j c =
     }
     ) in
     omega (arith, places-few turn_at)
-
-pub loop-at-smaller : goal.loop-at-smaller
-loop-at-smaller c =
-    omega (arith, c.loop-at-test.true)
 
 pub loop-at-preserved : goal.loop-at-preserved
 unfolding other_name

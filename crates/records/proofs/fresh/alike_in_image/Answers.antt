@@ -31,9 +31,6 @@ overflow_add-from c =
     let n : c.shape_of-shape.result.count ≡ count_of c.args.image.now Component = ap (λ (x : Shape). x.count) s.is in
     omega (arith, stand.more, s.few)
 
-pub overflow_sub-last : goal.overflow_sub-last
-overflow_sub-last c = omega arith
-
 pub overflow_mul-last : goal.overflow_mul-last
 overflow_mul-last c =
     let in_block : OneBlock c.args.image.now Component c.loop-from.here.at c.loop-from.from c.lower-to.result = (
@@ -57,9 +54,6 @@ overflow_add-last c =
     block_inside _ _ _ _ c.requires.0 (omega arith) (omega arith) in_block
     ) in
     omega (arith, inside-at)
-
-pub slice_bounds-first_alike-count : goal.slice_bounds-first_alike-count
-slice_bounds-first_alike-count c = omega arith
 
 pub slice_bounds-first_alike-end : goal.slice_bounds-first_alike-end
 slice_bounds-first_alike-end c =

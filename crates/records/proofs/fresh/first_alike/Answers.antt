@@ -19,9 +19,6 @@ overflow_add-at c =
     ) in
     omega (arith, room turn_at)
 
-pub slice_bounds-is_alike-count : goal.slice_bounds-is_alike-count
-slice_bounds-is_alike-count c = omega arith
-
 pub slice_bounds-is_alike-end : goal.slice_bounds-is_alike-end
 slice_bounds-is_alike-end c =
     let turn_at : Turn 40 c.args.run.now c.loop-at.at (c.loop-at.at / 40) = (
@@ -73,10 +70,6 @@ overflow_add-at-in-loop-at c =
     }
     ) in
     omega (arith, room turn_at)
-
-pub loop-at-smaller : goal.loop-at-smaller
-loop-at-smaller c =
-    omega (arith, c.loop-at-test.true)
 
 pub loop-at-preserved : goal.loop-at-preserved
 loop-at-preserved c =

@@ -12,12 +12,6 @@ pub loop-i-init : goal.loop-i-init
 loop-i-init c =
     record { low = omega arith; upto = c.requires.whole.1.0; marks = c.requires.names_kept.1; left = refl }
 
-pub overflow_sub-to : goal.overflow_sub-to
-overflow_sub-to c = omega (arith, c.loop-i-test.true)
-
-pub class_left-requires : goal.class_left-requires
-class_left-requires c = omega (arith, c.loop-i-test.true)
-
 pub overflow_add-end : goal.overflow_add-end
 overflow_add-end c =
     let ends : let l = c.loop-i in (l.i < l.i + c.class_left.result) × (l.i + c.class_left.result ≤ c.args.to) = (
@@ -57,12 +51,6 @@ overflow_mul-part-in-loop-i c =
     part_room c.requires.holds_from l.i (l.i + c.class_left.result) l.invariant.low (omega (arith, e.0)) e.1
     ) in
     omega (arith, room)
-
-pub slice_bounds-part-count : goal.slice_bounds-part-count
-slice_bounds-part-count c = omega arith
-
-pub slice_bounds-part-start : goal.slice_bounds-part-start
-slice_bounds-part-start c = omega arith
 
 pub slice_bounds-part-end : goal.slice_bounds-part-end
 slice_bounds-part-end c =

@@ -41,12 +41,6 @@ overflow_add-rec c =
     let turn = c.loop-i in
     omega (arith, room _ _ _ _ _ _ c.requires.holds_from turn.invariant.low c.loop-i-test.true turn.invariant.stands)
 
-pub slice_bounds-rec-count : goal.slice_bounds-rec-count
-slice_bounds-rec-count c = omega arith
-
-pub slice_bounds-rec-start : goal.slice_bounds-rec-start
-slice_bounds-rec-start c = omega arith
-
 pub slice_bounds-rec-end : goal.slice_bounds-rec-end
 slice_bounds-rec-end c =
     let turn = c.loop-i in
@@ -77,12 +71,6 @@ pub overflow_add-at : goal.overflow_add-at
 overflow_add-at c =
     let l = c.loop-i in
     omega (arith, room _ _ _ _ _ _ c.requires.holds_from l.invariant.low c.loop-i-test.true l.invariant.stands)
-
-pub overflow_add-i : goal.overflow_add-i
-overflow_add-i c = omega arith
-
-pub loop-i-smaller : goal.loop-i-smaller
-loop-i-smaller c = omega arith
 
 pub loop-i-preserved : goal.loop-i-preserved
 loop-i-preserved c =

@@ -22,12 +22,6 @@ overflow_add-at c =
     let room : c.loop-k.at + 512 ≤ length c.args.image.now = block_room c.requires.shaped c.loop-k.invariant c.loop-k-test.true c.requires.counted.0.fitted in
     omega (arith, room)
 
-pub slice_bounds-last_of_block-count : goal.slice_bounds-last_of_block-count
-slice_bounds-last_of_block-count c = omega arith
-
-pub slice_bounds-last_of_block-start : goal.slice_bounds-last_of_block-start
-slice_bounds-last_of_block-start c = omega arith
-
 pub slice_bounds-last_of_block-end : goal.slice_bounds-last_of_block-end
 slice_bounds-last_of_block-end c =
     let room : c.loop-k.at + 512 ≤ length c.args.image.now = block_room c.requires.shaped c.loop-k.invariant c.loop-k-test.true c.requires.counted.0.fitted in
@@ -55,9 +49,6 @@ overflow_add-at-in-loop-k c =
 pub overflow_add-k : goal.overflow_add-k
 overflow_add-k c =
     omega (arith, places-few c.requires.shaped c.loop-k.invariant c.loop-k-test.true)
-
-pub loop-k-smaller : goal.loop-k-smaller
-loop-k-smaller c = omega (arith, c.loop-k-test.true)
 
 pub loop-k-preserved : goal.loop-k-preserved
 loop-k-preserved c =

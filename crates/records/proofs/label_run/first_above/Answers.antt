@@ -10,9 +10,6 @@ use Rattle.records.proofs.label_run.first_above.Goals as goal
 pub loop-left-init : goal.loop-left-init
 loop-left-init c = (omega arith, refl)
 
-pub overflow_sub-last : goal.overflow_sub-last
-overflow_sub-last c = omega (arith, c.loop-left-test.true)
-
 pub overflow_mul-at : goal.overflow_mul-at
 overflow_mul-at c =
     let room : let a = c.args in a.size * (c.loop-left.left - 1) + a.size ≤ length a.run.now = (
@@ -32,12 +29,6 @@ overflow_add-at c =
     omega (arith, mul-suc s (left - 1), c.requires.le_size.1)
     ) in
     omega (arith, room)
-
-pub slice_bounds-number4-count : goal.slice_bounds-number4-count
-slice_bounds-number4-count c = omega arith
-
-pub slice_bounds-number4-start : goal.slice_bounds-number4-start
-slice_bounds-number4-start c = omega arith
 
 pub slice_bounds-number4-end : goal.slice_bounds-number4-end
 slice_bounds-number4-end c =
@@ -68,9 +59,6 @@ returns-then-number4-le99999999 c =
     last-limited c.args.size c.args.run.now c.args.n l.left c.requires.tags_rise some l.invariant.0
     (rw tag_read at c.if-number4-le99999999.true)
     ∙ l.invariant.1
-
-pub loop-left-smaller : goal.loop-left-smaller
-loop-left-smaller c = omega (arith, c.loop-left-test.true)
 
 pub loop-left-preserved : goal.loop-left-preserved
 loop-left-preserved c =

@@ -29,12 +29,6 @@ overflow_add-rec c =
     ) in
     omega (arith, room turn_at)
 
-pub slice_bounds-rec-count : goal.slice_bounds-rec-count
-slice_bounds-rec-count c = omega arith
-
-pub slice_bounds-rec-start : goal.slice_bounds-rec-start
-slice_bounds-rec-start c = omega arith
-
 pub slice_bounds-rec-end : goal.slice_bounds-rec-end
 slice_bounds-rec-end c =
     let least : 24 ≤ c.args.size = rw c.requires.size_value.0 (size-least c.args.existing.counts.edition Label) in
