@@ -27,6 +27,11 @@ pub record Turn (size : ℕ) (run : List ℕ) (at j : ℕ) : Type 0 where
   pub stands : at ≡ size * j
   pub more : at < length run
 
+-- where the loop stands, and more is left, a turn begins
+pub turn_of : {rule : ℕ → Bool} {size : ℕ} {run : List ℕ} {at j : ℕ} → Walked rule size run at j → 1 ≤ size → length run % size ≡ 0 → at < length run
+    → Turn size run at j
+turn_of w some whole more = record { some = some; whole = whole; stands = w.stands; more = more }
+
 module _ {size : ℕ} {run : List ℕ} {at j : ℕ} (t : Turn size run at j) where
   pub among : j < length run / size
   among = lt_of_mul-lt-mul_left size (rw (whole_run size run t.whole, ← t.stands) t.more)
