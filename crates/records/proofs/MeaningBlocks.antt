@@ -92,7 +92,9 @@ module _ (im : List ℕ) (kind : Kind) (i : ℕ) (here : i < count_of im kind) w
   held-from = rw add-sub_cancel_left (omega (arith, div-add-mod i (capacity_of (edition_of im) kind)))
 
   held-upto : i < (held kind (shape_of im kind) block).to
-  held-upto = rw add-sub_cancel_left (omega (arith, here, div-add-mod i (capacity_of (edition_of im) kind), slot-below (shape_of im kind) (shape-roomy im kind) i))
+  held-upto =
+      rw add-sub_cancel_left
+      (omega (arith, here, div-add-mod i (capacity_of (edition_of im) kind), slot-below (shape_of im kind) (shape-roomy im kind) i))
 
 -- so where every block is right, every record keeps its rule
 pub records-kept : (im : List ℕ) → ((b : ℕ) → 1 ≤ b → b < blocks_needed im → content_rule im b ≡ true)

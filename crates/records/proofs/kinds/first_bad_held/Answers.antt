@@ -1,14 +1,11 @@
 use Rattle.std.proofs.Common.{arith}
 use Rattle.records.proofs.BlockRuns.{holds-components}
-use Rattle.records.proofs.HeldBlocks.{Block, held_kept, to-few, from-few, levels-few, run-whole, after-upto, after-names, bad-is, bad-end}
+use Rattle.records.proofs.HeldBlocks.{block_of, held_kept, to-few, from-few, levels-few, run-whole, after-upto, after-names, bad-is, bad-end}
 use Rattle.records.proofs.kinds.first_bad_held.Goals as goal
 
 pub first_bad_after-j-requires : goal.first_bad_after-j-requires
 first_bad_after-j-requires c =
-    let block_at : let a = c.args in Block a.image.now a.existing.counts a.shape a.b a.held = (
-    record { counted = c.requires.counted.0; counts = c.requires.counted.1.1; shaped = c.requires.shaped.0; among = c.requires.shaped.1.0; is = c.requires.shaped.1.1 }
-    ) in
-    let k = block_at in
+    let k = block_of c.requires.counted.0 c.requires.counted.1.1 c.requires.shaped in
     record {
       exist = (c.requires.counted.1.0, (levels-few k, omega (arith, from-few k)));
       kind_len = (run-whole k _ c.records_of-run.ensures, c.last_before-previous.ensures.kind_in_bounds);
@@ -16,20 +13,14 @@ first_bad_after-j-requires c =
 
 pub overflow_add-from : goal.overflow_add-from
 overflow_add-from c =
-    let block_at : let a = c.args in Block a.image.now a.existing.counts a.shape a.b a.held = (
-    record { counted = c.requires.counted.0; counts = c.requires.counted.1.1; shaped = c.requires.shaped.0; among = c.requires.shaped.1.0; is = c.requires.shaped.1.1 }
-    ) in
-    let k = block_at in
+    let k = block_of c.requires.counted.0 c.requires.counted.1.1 c.requires.shaped in
     let upto = after-upto k _ c.records_of-run.ensures _ c.last_before-previous.ensures.result_value _ c.first_bad_after-j.ensures in
     omega (arith, upto, to-few k)
 
 pub first_known-requires : goal.first_known-requires
 first_known-requires c =
-    let block_at : let a = c.args in Block a.image.now a.existing.counts a.shape a.b a.held = (
-    record { counted = c.requires.counted.0; counts = c.requires.counted.1.1; shaped = c.requires.shaped.0; among = c.requires.shaped.1.0; is = c.requires.shaped.1.1 }
-    ) in
     let run = c.records_of-run.ensures in
-    let k = block_at in
+    let k = block_of c.requires.counted.0 c.requires.counted.1.1 c.requires.shaped in
     let upto = after-upto k _ run _ c.last_before-previous.ensures.result_value _ c.first_bad_after-j.ensures in
     let names = after-names k _ run _ c.last_before-previous.ensures.result_value _ c.first_bad_after-j.ensures in
     record {
@@ -40,11 +31,8 @@ first_known-requires c =
 
 pub returns : goal.returns
 returns c =
-    let block_at : let a = c.args in Block a.image.now a.existing.counts a.shape a.b a.held = (
-    record { counted = c.requires.counted.0; counts = c.requires.counted.1.1; shaped = c.requires.shaped.0; among = c.requires.shaped.1.0; is = c.requires.shaped.1.1 }
-    ) in
     let run = c.records_of-run.ensures in
-    let k = block_at in
+    let k = block_of c.requires.counted.0 c.requires.counted.1.1 c.requires.shaped in
     let last = c.last_before-previous.ensures.result_value in
     let found = c.first_bad_after-j.ensures in
     let known = c.first_known.ensures in
