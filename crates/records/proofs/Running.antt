@@ -1,6 +1,6 @@
 -- A loop over a run of records, one right after the other: where the record at place j stands, the record before it, and what is left of a
 -- search for the first that breaks a rule. The laws hold at any rule and any size of a record. Assumes nothing.
-use Rattle.std.proofs.Common.{◌≡◌, ℕ, zero, suc, ◌+◌, ◌-◌, ◌*◌, ◌/◌, ◌%◌, ◌<◌, ◌≤◌, Bool, true, false, cond, ltb, List, length, take, drop, sym, refl, ap, ◌∙◌, subst, mul-le-mul_right, mul-le-mul_left, mul-zero, mul-suc, add-one, arith, le-ltb, lt-ltb}
+use Rattle.std.proofs.Common.{◌≡◌, ℕ, zero, suc, ◌+◌, ◌-◌, ◌*◌, ◌/◌, ◌%◌, ◌<◌, ◌≤◌, Bool, true, false, cond, ltb, List, length, take, drop, sym, ap, ◌∙◌, subst, mul-le-mul_right, mul-le-mul_left, mul-zero, mul-suc, add-one, arith, le-ltb, lt-ltb}
 use native.Mathlib.Nat.{sub-zero, lt_of_mul-lt-mul_left, le_of_mul-le-mul_left, mul-div_right, div-add-mod, add-sub_cancel_left}
 use Rattle.fields.specs.Bytes.{part}
 use Rattle.fields.specs.Scan.{first_bad}

@@ -1,5 +1,4 @@
 use Rattle.std.proofs.Common.{◌≡◌, ℕ, ◌+◌, ◌/◌, sym, refl, ap, ◌∙◌, ap₂, arith}
-use borrow.Author.Tests.{not-true, not-false}
 use Rattle.records.specs.Fields.{numeric_form}
 use Rattle.records.specs.ComponentRuns.{component_after, low_at, run_asked}
 use Rattle.records.proofs.ComponentTests.{low-next}

@@ -126,7 +126,7 @@ loop-from-preserved c =
       high,
       (
         (λ (m : to < a.end). let q : l.from + l.here.left ≡ to = omega arith in
-        subst (λ (n : ℕ). Standing (shape_of a.image.now Component) n here) q next),
+            subst (λ (n : ℕ). Standing (shape_of a.image.now Component) n here) q next),
         part-good _ _ _ _ _ _ low high l.invariant.1.1 found c.if-j-to.false,
       ),
     )

@@ -1,10 +1,9 @@
-use Rattle.std.proofs.Common.{◌≡◌, ℕ, ◌+◌, ◌-◌, ◌*◌, ◌<◌, ◌≤◌, List, length, refl, ◌∙◌, arith}
+use Rattle.std.proofs.Common.{◌≡◌, ℕ, ◌+◌, ◌-◌, ◌<◌, ◌≤◌, refl, ◌∙◌, arith}
 use Rattle.fields.specs.Scan.{first_bad}
 use Rattle.fields.proofs.Scan.{loop-end, part-bad, part-good, bad-upto}
-use Rattle.header.specs.declared.counts.Counts.{Counts}
 use Rattle.header.specs.declared.layout.Kind.TheVariants.{Component}
 use Rattle.records.specs.Rules.{fresh_rule}
-use Rattle.records.specs.Fresh.{components_in, Marked}
+use Rattle.records.specs.Fresh.{components_in}
 use Rattle.records.proofs.Marks.{class-marked, class-fresh, part_room, part-holds}
 use Rattle.records.proofs.fresh.first_stale.Goals as goal
 

@@ -1,5 +1,4 @@
 use Rattle.std.proofs.Common.{ℕ, ◌-◌, List, sym, ap, ◌∙◌, arith}
-use borrow.Author.Tests.{not-true}
 use Rattle.fields.specs.Scan.{first_bad}
 use Rattle.records.specs.Fields.{component_name}
 use Rattle.records.specs.Rules.{record_in, other_name}

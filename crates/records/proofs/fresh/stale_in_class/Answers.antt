@@ -1,11 +1,9 @@
 use Rattle.std.proofs.Common.{◌≡◌, ℕ, ◌+◌, ◌-◌, ◌*◌, ◌<◌, ◌≤◌, List, length, take, drop, sym, refl, ap, ◌∙◌, arith}
 use native.Mathlib.Nat.{sub_self, add-sub_cancel_left}
-use borrow.Author.Tests.{not-true, not-false}
-use Rattle.fields.specs.Scan.{first_bad}
 use Rattle.fields.proofs.Laws.{part_length}
 use Rattle.fields.proofs.Scan.{loop-bad, loop-good, loop-end}
-use Rattle.records.specs.Rules.{record_in, new_name_from}
-use Rattle.records.specs.Fresh.{MarkedFrom, HoldsFrom}
+use Rattle.records.specs.Rules.{record_in}
+use Rattle.records.specs.Fresh.{HoldsFrom}
 use Rattle.records.proofs.Marks.{marked-none}
 use Rattle.records.proofs.fresh.stale_in_class.Goals.{then-from-start, else-from-start}
 use Rattle.records.proofs.fresh.stale_in_class.Goals as goal

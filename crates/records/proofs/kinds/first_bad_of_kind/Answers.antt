@@ -1,5 +1,4 @@
 use Rattle.std.proofs.Common.{◌-◌, ◌*◌, ◌≤◌, sym, ap, ◌∙◌, mul-le-mul_right, arith}
-use borrow.Author.Tests.{not-true, not-false}
 use Rattle.header.specs.declared.layout.Shape.{Shape}
 use Rattle.header.proofs.Inside.{header-inside, block_inside, blocks-among, room_for}
 use Rattle.records.proofs.BlockRuns.{of-needed}

@@ -1,4 +1,4 @@
-use Rattle.std.proofs.Common.{◌/◌, ◌≤◌, leb, refl, ap, ◌∙◌, arith, leb-false}
+use Rattle.std.proofs.Common.{◌≤◌, leb, refl, ap, ◌∙◌, arith, leb-false}
 use Rattle.sets.specs.Sets.{union}
 use Rattle.sets.specs.Groups.{places_of}
 use Rattle.header.specs.declared.layout.Kind.TheVariants.{Label}

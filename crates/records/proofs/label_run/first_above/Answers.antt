@@ -1,4 +1,4 @@
-use Rattle.std.proofs.Common.{◌≡◌, ℕ, suc, ◌+◌, ◌-◌, ◌*◌, ◌<◌, ◌≤◌, length, refl, ◌∙◌, mul-le-mul_left, mul-suc, arith}
+use Rattle.std.proofs.Common.{◌≡◌, ℕ, suc, ◌+◌, ◌-◌, ◌*◌, ◌<◌, ◌≤◌, refl, ◌∙◌, mul-le-mul_left, mul-suc, arith}
 use native.Mathlib.Nat.{sub-zero, add-sub_cancel_left}
 use borrow.Author.Tests.{lt-leb}
 use Rattle.fields.proofs.Laws.{part_length}

@@ -1,5 +1,4 @@
 use Rattle.std.proofs.Common.{◌≡◌, ◌/◌, ◌≤◌, sym, ap, ◌∙◌, ap₂, mul-zero, arith}
-use borrow.Author.Tests.{not-true, not-false}
 use Rattle.header.specs.declared.layout.Kind.TheVariants.{Label}
 use Rattle.header.proofs.Editions.{size-least}
 use Rattle.records.specs.Fields.{tag_of}

@@ -1,5 +1,4 @@
-use Rattle.std.proofs.Common.{◌≡◌, true, false, ltb, sym, ap, ◌∙◌, ap₂, arith, le-ltb, lt-ltb}
-use borrow.Author.Tests.{not-true, not-false}
+use Rattle.std.proofs.Common.{◌≡◌, true, false, ltb, ap, ◌∙◌, arith, le-ltb, lt-ltb}
 use Rattle.fields.specs.Bytes.{number4}
 use Rattle.sets.specs.Sets.{within, all_below}
 use Rattle.records.specs.Fields.{tag_of, label_compartments}

@@ -1,5 +1,4 @@
 use Rattle.std.proofs.Common.{◌≡◌, ◌%◌, ◌≤◌, length, sym, ◌∙◌, arith}
-use borrow.Author.Tests.{not-true, not-false}
 use Rattle.header.specs.declared.layout.Kind.TheVariants.{User}
 use Rattle.header.proofs.Editions.{size-least}
 use Rattle.records.specs.Rules.{run_rule}

@@ -1,5 +1,4 @@
 use Rattle.std.proofs.Common.{◌≡◌, sym, ap, ◌∙◌, arith}
-use borrow.Author.Tests.{not-true, not-false}
 use Rattle.fields.specs.Names.{name_rule}
 use Rattle.fields.proofs.NameBytes.{field-window}
 use Rattle.records.specs.Fields.{user_name_field}
