@@ -1,4 +1,4 @@
-use Prim.Native.Nat.{ℕ, ◌+◌, ◌/◌, ◌≤◌, ◌<◌, min}
+use Prim.Native.Nat.{ℕ, ◌+◌, ◌*◌, ◌/◌, ◌≤◌, ◌<◌, min}
 use mathlib.Core.Path.{◌≡◌, sym, ap, ◌∙◌}
 use mathlib.Core.List.{List, ◌++◌}
 use native.Mathlib.Nat.{div-le_self}
@@ -14,71 +14,61 @@ use Rattle.records.proofs.BlockRuns.{size-some}
 use Rattle.records.proofs.Parts.{run-count}
 use Rattle.writing.proofs.Runs.{run-sized}
 use Rattle.writing.proofs.KindSteps.{run_of, blocks_left, all_blocks, last-place, kind-start, kind-step, kind-end, kind-long, block-long}
+use Rattle.writing.proofs.laying.put_kind.Invariants.{records_in, blocks}
 use Rattle.writing.proofs.laying.put_kind.Goals as goal
-
-abbrev records_in : Edition → Kind → List ℕ → List (List ℕ)
-records_in edition kind bytes = run_records (record_size edition kind) bytes
 
 count-is : (edition : Edition) (kind : Kind) (bytes : List ℕ) → length (records_in edition kind bytes) ≡ length bytes / record_size edition kind
 count-is edition kind bytes = run-count (record_size edition kind) bytes
 
--- all blocks, by the number of records that the bytes hold
-abbrev blocks : Edition → Kind → List ℕ → ℕ → List ℕ
-blocks edition kind bytes place =
-    kind_blocks (kind_byte kind) (capacity_of edition kind) (blocks_for (capacity_of edition kind) (length bytes / record_size edition kind)) place
-    (records_in edition kind bytes)
-
 blocks-are : (edition : Edition) (kind : Kind) (bytes : List ℕ) (place : ℕ) → all_blocks edition kind (records_in edition kind bytes) place ≡ blocks edition kind bytes place
 blocks-are edition kind bytes place = rw (count-is edition kind bytes)
 
--- a turn of the loop: the block's records, and the buffer's room for all blocks
-module _ (c : goal.After-lower-to where
-  abbrev a : goal.Start
-  a = start c
+-- code's number of records is theirs
+count-told : (edition : Edition) (kind : Kind) (bytes : List ℕ) {size : ℕ} → size ≡ record_size edition kind
+    → length bytes / size ≡ length (records_in edition kind bytes)
+count-told edition kind bytes e = ap (λ (s : ℕ). length bytes / s) e ∙ sym (count-is edition kind bytes)
 
-  abbrev edition : Edition
-  edition = a.args.edition
+-- the buffer's room for all blocks
+whole : (edition : Edition) (kind : Kind) (bytes : List ℕ) (place at : ℕ) {room : ℕ}
+    → at + 512 * blocks_for (capacity_of edition kind) (length bytes / record_size edition kind) ≤ room
+    → at + length (blocks edition kind bytes place) ≤ room
+whole edition kind bytes place at h =
+    let rs = records_in edition kind bytes in
+    let long = kind-long edition kind rs (run-sized (record_size edition kind) (size-some edition kind) bytes) place in
+    omega (arith, ap length (blocks-are edition kind bytes place), ap (blocks_for (capacity_of edition kind)) (count-is edition kind bytes))
 
-  abbrev kind : Kind
-  kind = a.args.kind
+-- a turn of the loop: there are records from `from` up to `to`, one block holds them, and their block is the first of those that are left
+record Turn (edition : Edition) (kind : Kind) (bytes : List ℕ) (from to b : ℕ) : Type 0 where
+  low : from ≤ to
+  here : from < length bytes / record_size edition kind
+  upto : to ≤ length bytes / record_size edition kind
+  few : to ≤ from + capacity_of edition kind
+  long : length (block_of (kind_byte kind) b (run_of edition kind (records_in edition kind bytes) from to)) ≡ 512
+  step : blocks_left edition kind (records_in edition kind bytes) from b
+      ≡ block_of (kind_byte kind) b (run_of edition kind (records_in edition kind bytes) from to)
+      ++ blocks_left edition kind (records_in edition kind bytes) to (b + 1)
 
-  abbrev bytes : List ℕ
-  bytes = a.args.records.now
-
-  abbrev rs : List (List ℕ)
-  rs = records_in edition kind bytes
-
-  abbrev from : ℕ
-  from = c.loop-from.from
-
-  abbrev to : ℕ
-  to = c.lower-to.result
-
-  abbrev b : ℕ
-  b = c.loop-from.b
-
-  abbrev block : List ℕ
-  block = block_of (kind_byte kind) b (run_of edition kind rs from to)
-
-  abbrev rest : List ℕ
-  rest = blocks_left edition kind rs to (b + 1)
-
-  count-told : length bytes / c.size-size.result ≡ length rs
-  count-told = ap (λ (s : ℕ). length bytes / s) c.size-size.ensures ∙ sym (count-is edition kind bytes)
-
-  upto : to ≡ min (length rs) (from + capacity_of edition kind)
-  upto = last-place from c.lower-to.ensures count-told c.capacity-held.ensures.0
-
-  here : from < length rs
-  here = omega (arith, c.loop-from-test.true, count-told)
-
-  step : blocks_left edition kind rs from b ≡ block ++ rest
-  step = kind-step edition kind rs from b to here upto
-
-  whole : a.args.at + length (blocks edition kind bytes a.args.place) ≤ length a.args.buffer.now
-  whole =
-      let long = kind-long edition kind rs (run-sized (record_size edition kind) (size-some edition kind) bytes) a.args.place in
-      omega (arith, ap length (blocks-are edition kind bytes a.args.place), ap (blocks_for (capacity_of edition kind)) (count-is edition kind bytes), a.pre.1)
+turn : (edition : Edition) (kind : Kind) (bytes : List ℕ) (from to b : ℕ) {size held : ℕ} → size ≡ record_size edition kind
+    → held ≡ capacity_of edition kind → to ≡ min (length bytes / size) (from + held) → from < length bytes / size
+    → Turn edition kind bytes from to b
+turn edition kind bytes from to b s h e more =
+    let rs = records_in edition kind bytes in
+    let told = count-told edition kind bytes s in
+    let counted = count-is edition kind bytes in
+    let last = last-place from e told h in
+    let low : from ≤ to = omega arith in
+    let high : to ≤ length rs = omega arith in
+    let few : to ≤ from + capacity_of edition kind = omega arith in
+    let here : from < length rs = omega arith in
+    let sized = run-sized (record_size edition kind) (size-some edition kind) bytes in
+    record {
+      low = low;
+      here = omega arith;
+      upto = omega arith;
+      few = few;
+      long = block-long edition kind rs sized from to low high few b;
+      step = kind-step edition kind rs from b to here last;
+    }
 
 pub nonzero_div-count : goal.nonzero_div-count
 nonzero_div-count c =
@@ -97,21 +87,23 @@ overflow_add-from c =
 
 pub put_run-end-requires : goal.put_run-end-requires
 put_run-end-requires c =
-    let pre = (a l).requires in
-    let last = upto l in
-    let some = here l in
-    let counted = count-is (edition l) (kind l) (bytes l) in
-    let low : from l ≤ to l = omega arith in
-    let high : to l ≤ length (rs l) = omega arith in
-    let few : to l ≤ from l + capacity_of (edition l) (kind l) = omega arith in
-    let sized = run-sized (record_size (edition l) (kind l)) (size-some (edition l) (kind l)) (bytes l) in
-    let long = block-long (edition l) (kind l) (rs l) sized (from l) (to l) low high few (b l) in
-    let fits = left-room _ _ _ _ _ _ c.loop-from.invariant.1.1 (block l) (rest l) (step l) (whole l) in
-    ((low, (omega arith, few)), (omega (arith, pre.0, c.loop-from.invariant.1.0), rw long at fits))
+    let a = c.args in
+    let t = turn c.args.edition c.args.kind c.args.records.now c.loop-from.from c.lower-to.result c.loop-from.b c.size-size.ensures
+    c.capacity-held.ensures.0 c.lower-to.ensures c.loop-from-test.true in
+    let room = whole a.edition a.kind a.records.now a.place a.at c.requires.kind_in_bounds in
+    record {
+      from_le_to = (t.low, (t.upto, t.few));
+      place_bound = (
+        omega (arith, c.requires.kind_bound, t.here, c.loop-from.invariant.1.0),
+        rw (← t.long) (left-room _ _ _ _ _ _ c.loop-from.invariant.1.1 _ _ t.step room),
+      );
+    }
 
 pub overflow_add-b : goal.overflow_add-b
 overflow_add-b c =
-    omega (arith, c.loop-from.invariant.1.0, (a l).requires.0, here l, count-is (edition l) (kind l) (bytes l))
+    let t = turn c.args.edition c.args.kind c.args.records.now c.loop-from.from c.lower-to.result c.loop-from.b c.size-size.ensures
+    c.capacity-held.ensures.0 c.lower-to.ensures c.loop-from-test.true in
+    omega (arith, c.loop-from.invariant.1.0, c.requires.kind_bound, t.here)
 
 pub loop-from-smaller : goal.loop-from-smaller
 loop-from-smaller c =
@@ -119,11 +111,13 @@ loop-from-smaller c =
 
 pub loop-from-preserved : goal.loop-from-preserved
 loop-from-preserved c =
-    let last = upto l in
-    let some = here l in
+    let a = c.args in
+    let t = turn c.args.edition c.args.kind c.args.records.now c.loop-from.from c.lower-to.result c.loop-from.b c.size-size.ensures
+    c.capacity-held.ensures.0 c.lower-to.ensures c.loop-from-test.true in
     let inv = c.loop-from.invariant in
-    let told = count-told l in
-    (omega arith, (omega arith, left-turn _ _ _ _ _ _ inv.1.1 (block l) (rest l) (step l) _ _ (whole l) c.put_run-end.ensures))
+    let room = whole a.edition a.kind a.records.now a.place a.at c.requires.kind_in_bounds in
+    let told = count-told a.edition a.kind a.records.now c.size-size.ensures in
+    (omega arith, (omega arith, left-turn _ _ _ _ _ _ inv.1.1 _ _ t.step _ _ room c.put_run-end.ensures))
 
 pub shape_of-buffer : goal.shape_of-buffer
 shape_of-buffer c = c.loop-from.invariant.1.1.long
@@ -132,6 +126,5 @@ pub returns : goal.returns
 returns c =
     let a = c.args in
     let rs = records_in a.edition a.kind a.records.now in
-    let told : length a.records.now / c.size-size.result ≡ length rs =
-    ap (λ (s : ℕ). length a.records.now / s) c.size-size.ensures ∙ sym (count-is a.edition a.kind a.records.now) in
+    let told = count-told a.edition a.kind a.records.now c.size-size.ensures in
     left_end _ _ _ _ _ _ c.loop-from.invariant.1.1 (kind-end a.edition a.kind rs _ _ (omega (arith, told, c.loop-from-test.false)))
