@@ -7,7 +7,7 @@ pub put_number-requires : goal.put_number-requires
 put_number-requires c = rw (length-set, c.tag-tag.ensures) c.requires.k_in_bounds
 
 pub shape_of-buffer : goal.shape_of-buffer
-shape_of-buffer c = rw length-set at c.put_number.auto.1.0
+shape_of-buffer c = rw length-set at c.put_number.auto.buffer
 
 pub returns : goal.returns
 returns c =

@@ -27,7 +27,7 @@ overflow_add-result c =
 
 pub shape_of-buffer : goal.shape_of-buffer
 shape_of-buffer c =
-    simp length-set (c.put_place-placed.auto.1.0 ∙ c.put_named-numbered.auto.1.1.0)
+    simp length-set (c.put_place-placed.auto.buffer ∙ c.put_named-numbered.auto.buffer)
 
 pub returns : goal.returns
 returns c =

@@ -181,7 +181,7 @@ forward-here-requires c =
     let inside : 64 * a.k + l.i ≤ labels a.image.now = omega (arith, run.among) in
     let low : record_offset a.shape (64 * a.k + l.i) < 2 ^ 63 =
     rw run.shaped.is (omega (arith, record-upto _ run.fitted Label (64 * a.k + l.i) inside)) in
-    ((run.shaped.roomy, (l.invariant.1.0, low)), omega (arith, c.lower-n.ensures))
+    record { roomy = (run.shaped.roomy, (l.invariant.1.0, low)); n_le_left = omega (arith, c.lower-n.ensures) }
 
 pub overflow_add-i : goal.overflow_add-i
 overflow_add-i c =

@@ -8,7 +8,7 @@ compartments-count-requires c = header-inside _ (accepted-counted _ c.requires.a
 
 pub write_section-requires-clause-named : goal.write_section-requires-clause-named
 write_section-requires-clause-named c =
-    rw (c.compartments-count.ensures.0, c.of_word-places.ensures) (named-compartments _ c.requires.accepted)
+    rw c.compartments-count.ensures.0 (named-compartments _ c.requires.accepted)
 
 pub write_section-requires-clause-set_in_bounds : goal.write_section-requires-clause-set_in_bounds
 write_section-requires-clause-set_in_bounds c =

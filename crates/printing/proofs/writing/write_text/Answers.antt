@@ -22,10 +22,7 @@ returns-then-is_empty c =
 pub write_compartments-first-requires : goal.write_compartments-first-requires
 write_compartments-first-requires c =
     let some-list : (empty (marks_of c.args.label).groups && empty (marks_of c.args.label).compartments) ≡ false = told c.is_empty.ensures c.is_empty-2.ensures c.if-is_empty.false in
-    (
-      c.requires.accepted.0,
-      room-first _ _ _ _ c.name_of-name.ensures.0 c.requires.label_in_bounds some-list c.put-level.ensures,
-    )
+    record { accepted = c.requires.accepted.0; set_in_bounds = room-first _ _ _ _ c.name_of-name.ensures.0 c.requires.label_in_bounds some-list c.put-level.ensures }
 
 pub returns-then-is_empty-2 : goal.returns-then-is_empty-2
 returns-then-is_empty-2 c =
