@@ -17,10 +17,7 @@ put-named-requires c =
 
 pub put_tag-tagged-requires : goal.put_tag-tagged-requires
 put_tag-tagged-requires c =
-    (
-      (accepted-counted _ c.requires.at_opening.0.accepted, c.requires.at_opening.1),
-      room-tag _ c.requires.at_opening.0.accepted _ _ c.requires.at_opening.0.user c.requires.at_opening.1 _ _ c.requires.at_in_bounds c.name-name.ensures c.put-named.ensures,
-    )
+    record { counted = (accepted-counted _ c.requires.at_opening.0.accepted, c.requires.at_opening.1); k_in_bounds = room-tag _ c.requires.at_opening.0.accepted _ _ c.requires.at_opening.0.user c.requires.at_opening.1 _ _ c.requires.at_in_bounds c.name-name.ensures c.put-named.ensures }
 
 pub put_verdicts-requires : goal.put_verdicts-requires
 put_verdicts-requires c =

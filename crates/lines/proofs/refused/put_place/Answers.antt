@@ -37,4 +37,8 @@ returns-in-CompaccessHolders c =
 
 pub returns-in_default : goal.returns-in_default
 returns-in_default c =
-    told_none c.args.refusal _ _ (others-none c.args.refusal c.in_default.in_default-own.keys9)
+    let o = c.in_default in
+    let none =
+    others-none c.args.refusal o.not-BlockCheck o.not-ComponentRecord o.not-LabelRecord o.not-UserRecord o.not-ParentRing o.not-UnknownName
+    o.not-RepeatedName o.not-CompaccessHolders in
+    told_none c.args.refusal _ _ none

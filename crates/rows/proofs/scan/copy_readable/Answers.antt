@@ -39,7 +39,7 @@ copy_row-to-requires c =
     let test = row_readable a.image.now (rights_of a.view) in
     let row = row_bytes test (take (at + a.width - at) (drop at a.run.now)) in
     let step = part_step test _ _ c.requires.usable.whole _ inv.0 turn in
-    ((c.requires.usable.accepted, row-tagged _ _ c.requires.usable.whole _ inv.0 turn), left-room _ _ _ _ _ _ inv.1 row _ step (rw zero-add c.requires.width_in_bounds))
+    record { accepted = (c.requires.usable.accepted, row-tagged _ _ c.requires.usable.whole _ inv.0 turn); row_in_bounds = left-room _ _ _ _ _ _ inv.1 row _ step (rw zero-add c.requires.width_in_bounds) }
 
 pub loop-at-smaller : goal.loop-at-smaller
 loop-at-smaller c =

@@ -13,7 +13,7 @@ use Rattle.image.proofs.Policy.{label_kept}
 use Rattle.rows.specs.Slots.{Holding}
 use Rattle.rows.proofs.CompleteTags.{holding-pass, holding-add, holding-end}
 use Rattle.rows.proofs.tags.fill.Goals as goal
-use Rattle.rows.proofs.tags.fill.Goals.{then-bit_of, else-bit_of}
+use Rattle.rows.proofs.tags.fill.Goals.{then-bit_of+else-not-add, else-bit_of}
 
 pub shape_of-shape-requires : goal.shape_of-shape-requires
 shape_of-shape-requires c = header-inside _ (accepted-counted _ c.requires.mapping.accepted).fitted
@@ -74,7 +74,7 @@ loop-p-preserved c =
       (
         c.next_record-here.ensures,
         elim c.if-bit_of.branch [
-          then-bit_of w ↦
+          then-bit_of+else-not-add w ↦
             subst (Holding im bits (p + 1)) (sym w.slots-is)
             (holding-add im bits p _ holding c.requires.mapping.accepted inside (sym c.bit_of.ensures ∙ w.if-bit_of.true) _
             (w.number4-tag.ensures ∙ ap tag_of w.placed_part.ensures.0) _ (w.add.ensures w.if-not-add.false))
