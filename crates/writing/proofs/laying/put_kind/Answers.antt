@@ -7,9 +7,8 @@ use lib.ListN.{length}
 use Rattle.header.specs.declared.edition.Edition.{Edition}
 use Rattle.header.specs.declared.layout.Kind.{Kind}
 use Rattle.header.specs.Layout.{kind_byte, record_size, capacity_of, blocks_for}
-use Rattle.records.specs.Rules.{run_records}
 use Rattle.buffers.proofs.Left.{left-start, left-room, left-turn, left_end}
-use Rattle.writing.specs.Laid.{block_of, kind_blocks}
+use Rattle.writing.specs.Laid.{block_of}
 use Rattle.records.proofs.BlockRuns.{size-some}
 use Rattle.records.proofs.Parts.{run-count}
 use Rattle.writing.proofs.Runs.{run-sized}
