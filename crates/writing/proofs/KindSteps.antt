@@ -136,7 +136,8 @@ module _ (edition : Edition) (kind : Kind) (rs : List (List ℕ)) where
 
     pub kind-long : (place : ℕ) → length (all_blocks place) ≡ 512 * blocks_for (capacity_of edition kind) (length rs)
     kind-long place =
-        kind-length (kind_byte kind) (record_size edition kind) (capacity_of edition kind) room (blocks_for (capacity_of edition kind) (length rs)) place rs sized
+        kind-length (kind_byte kind) (record_size edition kind) (capacity_of edition kind) room
+        (blocks_for (capacity_of edition kind) (length rs)) place rs sized
 
     module _ (from to : ℕ) (low : from ≤ to) (high : to ≤ length rs) (few : to ≤ from + capacity_of edition kind) where
       run-sized : Sized (record_size edition kind) (run_of from to)

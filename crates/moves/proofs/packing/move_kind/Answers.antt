@@ -1,8 +1,7 @@
-use Prim.Native.Nat.{ℕ, ◌+◌, ◌≤◌, ◌<◌, min}
+use Prim.Native.Nat.{ℕ, ◌+◌, ◌<◌, min}
 use mathlib.Core.Path.{◌≡◌, sym, ap, ◌∙◌}
 use mathlib.Core.List.{List}
 use native.Mathlib.Omega.{arith}
-use lib.ListN.{length}
 use Rattle.header.specs.declared.edition.Edition.{Edition}
 use Rattle.header.specs.declared.edition.Edition.TheVariants.{One}
 use Rattle.header.specs.declared.layout.Kind.{Kind}
@@ -12,7 +11,6 @@ use Rattle.buffers.proofs.Left.{left-start, left-room, left-turn, left_end}
 use Rattle.writing.proofs.KindSteps.{kind-start, kind-end, KindTurn, kind-turn}
 use Rattle.moves.specs.declared.target.Move.{Move}
 use Rattle.moves.specs.Moved.{edition_after, new_records}
-use Rattle.moves.specs.Parts.{new_kind}
 use Rattle.moves.proofs.NewImage.{new-count}
 use Rattle.moves.proofs.Steps.{kind-is, new-sized, new-kind-long}
 use Rattle.moves.proofs.packing.move_kind.Goals as goal

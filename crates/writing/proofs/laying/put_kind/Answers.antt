@@ -18,7 +18,8 @@ use Rattle.writing.proofs.laying.put_kind.Goals as goal
 count-is : (edition : Edition) (kind : Kind) (bytes : List ℕ) → length (records_in edition kind bytes) ≡ length bytes / record_size edition kind
 count-is edition kind bytes = run-count (record_size edition kind) bytes
 
-blocks-are : (edition : Edition) (kind : Kind) (bytes : List ℕ) (place : ℕ) → all_blocks edition kind (records_in edition kind bytes) place ≡ blocks edition kind bytes place
+blocks-are : (edition : Edition) (kind : Kind) (bytes : List ℕ) (place : ℕ)
+    → all_blocks edition kind (records_in edition kind bytes) place ≡ blocks edition kind bytes place
 blocks-are edition kind bytes place = rw (count-is edition kind bytes)
 
 -- code's number of records is theirs
