@@ -1,12 +1,12 @@
 use Prim.Native.Nat.{ℕ, ◌+◌, ◌*◌, ◌/◌, ◌≤◌, ◌<◌, min}
 use mathlib.Core.Path.{◌≡◌, sym, ap, ◌∙◌}
-use mathlib.Core.List.{List, ◌++◌}
+use mathlib.Core.List.{List}
 use native.Mathlib.Nat.{div-le_self}
 use native.Mathlib.Omega.{arith}
 use lib.ListN.{length}
 use Rattle.header.specs.declared.edition.Edition.{Edition}
 use Rattle.header.specs.declared.layout.Kind.{Kind}
-use Rattle.header.specs.Layout.{kind_byte, record_size, capacity_of, blocks_for}
+use Rattle.header.specs.Layout.{record_size, capacity_of, blocks_for}
 use Rattle.buffers.proofs.Left.{left-start, left-room, left-turn, left_end}
 use Rattle.records.proofs.BlockRuns.{size-some}
 use Rattle.records.proofs.Parts.{run-count}
