@@ -1,15 +1,9 @@
-use Prim.Native.Nat.{ℕ, ◌/◌}
+use Prim.Native.Nat.{◌/◌}
 use mathlib.Core.Path.{sym, ap, ◌∙◌}
-use mathlib.Core.Bool.{Bool}
-use mathlib.Core.List.{List}
-use mathlib.Core.Logic.{⊎_elim}
 use native.Mathlib.Nat.{sub-zero, zero-add}
 use native.Mathlib.Omega.{arith}
-use lib.Dec.{eqb}
 use lib.ListN.{length}
 use Rattle.fields.proofs.PlacesWhere.{turn-here, turn-not, turn_end}
-use Rattle.records.specs.Fields.{class_of}
-use Rattle.records.specs.Rules.{record_in, run_records}
 use Rattle.writing.specs.Lent.{class_total}
 use Rattle.records.proofs.Parts.{run-count}
 use Rattle.writing.proofs.counting.class_total.Invariants.{named}
@@ -41,8 +35,8 @@ loop-i-preserved c =
     let here = c.loop-i-test.true in
     let told = sym c.names_class.ensures in
     elim c.if-names_class.branch [
-      then-names_class w ↦ let step = ap length (turn-here test n i here (told ∙ w.if-names_class.true)) in (omega arith, omega arith)
-    | else-names_class w ↦ let step = ap length (turn-not test n i here (told ∙ w.if-names_class.false)) in (omega arith, omega arith)
+      | then-names_class w ↦ let step = ap length (turn-here test n i here (told ∙ w.if-names_class.true)) in (omega arith, omega arith)
+      | else-names_class w ↦ let step = ap length (turn-not test n i here (told ∙ w.if-names_class.false)) in (omega arith, omega arith)
     ]
 
 pub returns : goal.returns

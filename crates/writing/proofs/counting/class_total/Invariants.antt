@@ -15,7 +15,9 @@ named components class i = eqb (class_of (record_in (run_records 40 components) 
 -- those before place i are counted
 abbrev pub invariant-loop-i : goal.invariant-loop-i
 invariant-loop-i l =
-    (l.held ≤ l.i) × (l.held + length (places_where (named l.components l.class) (l.count - l.i) l.i) ≡ length (places_where (named l.components l.class) l.count 0))
+    (l.held ≤ l.i)
+    × (l.held + length (places_where (named l.components l.class) (l.count - l.i) l.i)
+    ≡ length (places_where (named l.components l.class) l.count 0))
 
 abbrev pub decreases-loop-i : goal.decreases-loop-i
 decreases-loop-i l = l.count - l.i

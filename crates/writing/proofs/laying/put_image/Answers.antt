@@ -42,7 +42,8 @@ module _ (n : Counts) (bytes : Kind → List ℕ) where
   header-written u l w = written_same (ap₂ (header_block n) (lent-told n bytes User u) (lent-told n bytes Label l)) w
 
   laid : (kind : Kind) (place : ℕ) → place ≡ first_in n records kind
-      → kind_blocks (kind_byte kind) (capacity_of n.edition kind) (blocks_for (capacity_of n.edition kind) (length (bytes kind) / record_size n.edition kind)) place
+      → kind_blocks (kind_byte kind) (capacity_of n.edition kind)
+      (blocks_for (capacity_of n.edition kind) (length (bytes kind) / record_size n.edition kind)) place
       (run_records (record_size n.edition kind) (bytes kind)) ≡ kind_laid n records kind
   laid kind place e = rw (e, ← lent-counted n bytes kind)
 

@@ -1,26 +1,25 @@
 use Prim.Native.Nat.{ℕ, ◌+◌, ◌*◌, ◌/◌, ◌≤◌, ◌<◌, min}
 use mathlib.Core.Path.{◌≡◌, sym, ap, ◌∙◌}
-use mathlib.Core.List.{List, ◌++◌}
+use mathlib.Core.List.{List}
 use native.Mathlib.Nat.{div-le_self}
 use native.Mathlib.Omega.{arith}
 use lib.ListN.{length}
 use Rattle.header.specs.declared.edition.Edition.{Edition}
 use Rattle.header.specs.declared.layout.Kind.{Kind}
-use Rattle.header.specs.Layout.{kind_byte, record_size, capacity_of, blocks_for}
-use Rattle.records.specs.Rules.{run_records}
+use Rattle.header.specs.Layout.{record_size, capacity_of, blocks_for}
 use Rattle.buffers.proofs.Left.{left-start, left-room, left-turn, left_end}
-use Rattle.writing.specs.Laid.{block_of, kind_blocks}
 use Rattle.records.proofs.BlockRuns.{size-some}
 use Rattle.records.proofs.Parts.{run-count}
 use Rattle.writing.proofs.Runs.{run-sized}
-use Rattle.writing.proofs.KindSteps.{run_of, blocks_left, all_blocks, last-place, kind-start, kind-step, kind-end, kind-long, block-long}
+use Rattle.writing.proofs.KindSteps.{all_blocks, kind-start, kind-end, kind-long, KindTurn, kind-turn}
 use Rattle.writing.proofs.laying.put_kind.Invariants.{records_in, blocks}
 use Rattle.writing.proofs.laying.put_kind.Goals as goal
 
 count-is : (edition : Edition) (kind : Kind) (bytes : List ℕ) → length (records_in edition kind bytes) ≡ length bytes / record_size edition kind
 count-is edition kind bytes = run-count (record_size edition kind) bytes
 
-blocks-are : (edition : Edition) (kind : Kind) (bytes : List ℕ) (place : ℕ) → all_blocks edition kind (records_in edition kind bytes) place ≡ blocks edition kind bytes place
+blocks-are : (edition : Edition) (kind : Kind) (bytes : List ℕ) (place : ℕ)
+    → all_blocks edition kind (records_in edition kind bytes) place ≡ blocks edition kind bytes place
 blocks-are edition kind bytes place = rw (count-is edition kind bytes)
 
 -- code's number of records is theirs
@@ -37,38 +36,13 @@ whole edition kind bytes place at h =
     let long = kind-long edition kind rs (run-sized (record_size edition kind) (size-some edition kind) bytes) place in
     omega (arith, ap length (blocks-are edition kind bytes place), ap (blocks_for (capacity_of edition kind)) (count-is edition kind bytes))
 
--- a turn of the loop: there are records from `from` up to `to`, one block holds them, and their block is the first of those that are left
-record Turn (edition : Edition) (kind : Kind) (bytes : List ℕ) (from to b : ℕ) : Type 0 where
-  low : from ≤ to
-  here : from < length bytes / record_size edition kind
-  upto : to ≤ length bytes / record_size edition kind
-  few : to ≤ from + capacity_of edition kind
-  long : length (block_of (kind_byte kind) b (run_of edition kind (records_in edition kind bytes) from to)) ≡ 512
-  step : blocks_left edition kind (records_in edition kind bytes) from b
-      ≡ block_of (kind_byte kind) b (run_of edition kind (records_in edition kind bytes) from to)
-      ++ blocks_left edition kind (records_in edition kind bytes) to (b + 1)
-
+-- a turn of the loop, by the numbers that code has
 turn : (edition : Edition) (kind : Kind) (bytes : List ℕ) (from to b : ℕ) {size held : ℕ} → size ≡ record_size edition kind
     → held ≡ capacity_of edition kind → to ≡ min (length bytes / size) (from + held) → from < length bytes / size
-    → Turn edition kind bytes from to b
+    → KindTurn edition kind (records_in edition kind bytes) from to b
 turn edition kind bytes from to b s h e more =
-    let rs = records_in edition kind bytes in
-    let told = count-told edition kind bytes s in
-    let counted = count-is edition kind bytes in
-    let last = last-place from e told h in
-    let low : from ≤ to = omega arith in
-    let high : to ≤ length rs = omega arith in
-    let few : to ≤ from + capacity_of edition kind = omega arith in
-    let here : from < length rs = omega arith in
-    let sized = run-sized (record_size edition kind) (size-some edition kind) bytes in
-    record {
-      low = low;
-      here = omega arith;
-      upto = omega arith;
-      few = few;
-      long = block-long edition kind rs sized from to low high few b;
-      step = kind-step edition kind rs from b to here last;
-    }
+    kind-turn edition kind (records_in edition kind bytes) from to b (run-sized (record_size edition kind) (size-some edition kind) bytes)
+    (count-told edition kind bytes s) h e more
 
 pub nonzero_div-count : goal.nonzero_div-count
 nonzero_div-count c =
@@ -91,8 +65,9 @@ put_run-end-requires c =
     let t = turn c.args.edition c.args.kind c.args.records.now c.loop-from.from c.lower-to.result c.loop-from.b c.size-size.ensures
     c.capacity-held.ensures.0 c.lower-to.ensures c.loop-from-test.true in
     let room = whole a.edition a.kind a.records.now a.place a.at c.requires.kind_in_bounds in
+    let count = count-is a.edition a.kind a.records.now in
     record {
-      from_le_to = (t.low, (t.upto, t.few));
+      from_le_to = (t.low, (omega (arith, t.upto), t.few));
       place_bound = (
         omega (arith, c.requires.kind_bound, t.here, c.loop-from.invariant.1.0),
         rw (← t.long) (left-room _ _ _ _ _ _ c.loop-from.invariant.1.1 _ _ t.step room),
@@ -103,7 +78,7 @@ pub overflow_add-b : goal.overflow_add-b
 overflow_add-b c =
     let t = turn c.args.edition c.args.kind c.args.records.now c.loop-from.from c.lower-to.result c.loop-from.b c.size-size.ensures
     c.capacity-held.ensures.0 c.lower-to.ensures c.loop-from-test.true in
-    omega (arith, c.loop-from.invariant.1.0, c.requires.kind_bound, t.here)
+    omega (arith, c.loop-from.invariant.1.0, c.requires.kind_bound, t.here, count-is c.args.edition c.args.kind c.args.records.now)
 
 pub loop-from-smaller : goal.loop-from-smaller
 loop-from-smaller c =

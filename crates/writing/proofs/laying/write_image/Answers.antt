@@ -30,7 +30,8 @@ image-long n bytes {label} {user} l u fits e =
     let labels = length (bytes Label) / label in
     let users = length (bytes User) / user in
     e
-    ∙ ap (λ (k : ℕ). 512 * (1 + blocks_for (cap Component) k + blocks_for (cap Label) labels + blocks_for (cap User) users)) (sym (lent-counted n bytes Component))
+    ∙ ap (λ (k : ℕ). 512 * (1 + blocks_for (cap Component) k + blocks_for (cap Label) labels + blocks_for (cap User) users))
+    (sym (lent-counted n bytes Component))
     ∙ ap (λ (k : ℕ). 512 * (1 + blocks_for (cap Component) x + blocks_for (cap Label) k + blocks_for (cap User) users)) (lent-told n bytes Label l)
     ∙ ap (λ (k : ℕ). 512 * (1 + blocks_for (cap Component) x + blocks_for (cap Label) y + blocks_for (cap User) k)) (lent-told n bytes User u)
     ∙ sym (image-length n records fits.sizes)
