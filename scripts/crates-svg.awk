@@ -1,5 +1,6 @@
 # Draws the graph of crates: awk -f scripts/crates-svg.awk crates.txt > docs/crates.svg
 # Each crate stands over those that it uses. A line that follows from others is left out: where a uses b and b uses c, none goes from a to c.
+# A word behind a crate's name, as staticlib, is not drawn.
 # Libraries of the kit have a dashed frame. All numbers in the output are whole, so that every awk writes the same bytes.
 
 BEGIN {
@@ -8,7 +9,8 @@ BEGIN {
 { sub(/#.*/, "") }
 /:/ {
     colon = index($0, ":")
-    name = substr($0, 1, colon - 1)
+    split(substr($0, 1, colon - 1), parts, " ")
+    name = parts[1]
     names[++crates] = name
     is_crate[name] = 1
     used = split(substr($0, colon + 1), parts, " ")

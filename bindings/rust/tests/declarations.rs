@@ -92,7 +92,7 @@ fn source(path: &str) -> String {
 
 /// What any file of the library's C functions exports.
 fn exported() -> Declarations {
-    let folder = concat!(env!("CARGO_MANIFEST_DIR"), "/../../crates/abi/src");
+    let folder = concat!(env!("CARGO_MANIFEST_DIR"), "/../../crates/abi_c/src");
     let files = std::fs::read_dir(folder).expect("a folder of sources");
     let text = |file: std::io::Result<DirEntry>| {
         std::fs::read_to_string(file.expect("a file").path()).expect("a source")

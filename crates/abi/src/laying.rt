@@ -6,8 +6,7 @@ ghost use Rattle.abi.specs.Writing.{write_answer, records_answer};
 use crate::codes::{filled_code, write_code};
 
 // The image of that edition and profile with those records at the front of `out`. Done: its length.
-#[unsafe(no_mangle)]
-pub extern "C" fn brawnesk_write(
+pub fn brawnesk_write(
     edition: u8,
     profile: u8,
     components: &[u8],
@@ -21,24 +20,21 @@ pub extern "C" fn brawnesk_write(
 }
 
 // The component records of the image at the front of `out`, without blocks. Done: their length.
-#[unsafe(no_mangle)]
-pub extern "C" fn brawnesk_component_records(image: &[u8], out: &mut [u8]) -> u64
+pub fn brawnesk_component_records(image: &[u8], out: &mut [u8]) -> u64
     ensures { (result, out.new) ≡ records_answer Component image.now out.old }
 {
     filled_code(writing::component_records(image, out))
 }
 
 // The label records of the image.
-#[unsafe(no_mangle)]
-pub extern "C" fn brawnesk_label_records(image: &[u8], out: &mut [u8]) -> u64
+pub fn brawnesk_label_records(image: &[u8], out: &mut [u8]) -> u64
     ensures { (result, out.new) ≡ records_answer Label image.now out.old }
 {
     filled_code(writing::label_records(image, out))
 }
 
 // The user records of the image.
-#[unsafe(no_mangle)]
-pub extern "C" fn brawnesk_user_records(image: &[u8], out: &mut [u8]) -> u64
+pub fn brawnesk_user_records(image: &[u8], out: &mut [u8]) -> u64
     ensures { (result, out.new) ≡ records_answer User image.now out.old }
 {
     filled_code(writing::user_records(image, out))

@@ -27,16 +27,14 @@ use refusals::answers::Checked;
 use sessions::answers::Opened;
 
 // Is the image accepted? Done: 0.
-#[unsafe(no_mangle)]
-pub extern "C" fn brawnesk_check(image: &[u8]) -> u64
+pub fn brawnesk_check(image: &[u8]) -> u64
     ensures { result ≡ check_answer image.now }
 {
     checked_code(image::check(image))
 }
 
 // Where the name of the component of that class and place stands. Done: its offset in the image + 65,536 × its length.
-#[unsafe(no_mangle)]
-pub extern "C" fn brawnesk_name(image: &[u8], class: u8, place: u8) -> u64
+pub fn brawnesk_name(image: &[u8], class: u8, place: u8) -> u64
     ensures { result ≡ name_span image.now class place }
 {
     let answer = image::name_answer(image, class, place);
@@ -63,8 +61,7 @@ pub(crate) fn after_check(image: &[u8], refusal: Refusal) -> u64
 }
 
 // The label that the text names, in 48 bytes. Done: 0.
-#[unsafe(no_mangle)]
-pub extern "C" fn brawnesk_parse(image: &[u8], text: &[u8], label: &mut [u8; 48]) -> u64
+pub fn brawnesk_parse(image: &[u8], text: &[u8], label: &mut [u8; 48]) -> u64
     ensures { (result, label.new) ≡ parse_answer image.now text.now label.old }
 {
     let answer = labels::parse(image, text);
@@ -90,16 +87,14 @@ fn printed_code(answer: Printed) -> u64
 }
 
 // The label's text at the front of the buffer. Done: its length.
-#[unsafe(no_mangle)]
-pub extern "C" fn brawnesk_print(image: &[u8], label: &[u8; 48], text: &mut [u8]) -> u64
+pub fn brawnesk_print(image: &[u8], label: &[u8; 48], text: &mut [u8]) -> u64
     ensures { (result, text.new) ≡ print_answer image.now label.now text.old }
 {
     printed_code(printing::print(image, bytes48::label_in(label), text))
 }
 
 // Opens a session for the user of that name. Done: 0.
-#[unsafe(no_mangle)]
-pub extern "C" fn brawnesk_open(image: &[u8], name: &[u8], session: &mut [u8; 104]) -> u64
+pub fn brawnesk_open(image: &[u8], name: &[u8], session: &mut [u8; 104]) -> u64
     ensures { (result, session.new) ≡ open_answer image.now name.now session.old }
 {
     let answer = sessions::open(image, name);
@@ -113,8 +108,7 @@ pub extern "C" fn brawnesk_open(image: &[u8], name: &[u8], session: &mut [u8; 10
 }
 
 // Gives the session the label that the text names. Done: 0.
-#[unsafe(no_mangle)]
-pub extern "C" fn brawnesk_set_label(image: &[u8], session: &mut [u8; 104], text: &[u8]) -> u64
+pub fn brawnesk_set_label(image: &[u8], session: &mut [u8; 104], text: &[u8]) -> u64
     ensures { (result, session.new) ≡ set_label_answer image.now session.old text.now }
 {
     if !bytes104::one_user(session) {
@@ -125,8 +119,7 @@ pub extern "C" fn brawnesk_set_label(image: &[u8], session: &mut [u8; 104], text
 }
 
 // Gives the session the row label that the text names. Done: 0.
-#[unsafe(no_mangle)]
-pub extern "C" fn brawnesk_set_row_label(image: &[u8], session: &mut [u8; 104], text: &[u8]) -> u64
+pub fn brawnesk_set_row_label(image: &[u8], session: &mut [u8; 104], text: &[u8]) -> u64
     ensures { (result, session.new) ≡ set_row_label_answer image.now session.old text.now }
 {
     if !bytes104::one_user(session) {
@@ -137,8 +130,7 @@ pub extern "C" fn brawnesk_set_row_label(image: &[u8], session: &mut [u8; 104], 
 }
 
 // May the session read a row of that tag? Done: 1 yes, 0 no.
-#[unsafe(no_mangle)]
-pub extern "C" fn brawnesk_may_read(image: &[u8], session: &[u8; 104], tag: u32) -> u64
+pub fn brawnesk_may_read(image: &[u8], session: &[u8; 104], tag: u32) -> u64
     ensures { result ≡ may_read_answer image.now session.now tag }
 {
     if !bytes104::one_user(session) {
@@ -148,8 +140,7 @@ pub extern "C" fn brawnesk_may_read(image: &[u8], session: &[u8; 104], tag: u32)
 }
 
 // May the session write a row of that tag? Done: 1 yes, 0 no.
-#[unsafe(no_mangle)]
-pub extern "C" fn brawnesk_may_write(image: &[u8], session: &[u8; 104], tag: u32) -> u64
+pub fn brawnesk_may_write(image: &[u8], session: &[u8; 104], tag: u32) -> u64
     ensures { result ≡ may_write_answer image.now session.now tag }
 {
     if !bytes104::one_user(session) {
@@ -159,8 +150,7 @@ pub extern "C" fn brawnesk_may_write(image: &[u8], session: &[u8; 104], tag: u32
 }
 
 // Copies the rows that the session may read to the front of `out`. Done: how many.
-#[unsafe(no_mangle)]
-pub extern "C" fn brawnesk_read(
+pub fn brawnesk_read(
     image: &[u8],
     session: &[u8; 104],
     table: &[u8],
@@ -176,8 +166,7 @@ pub extern "C" fn brawnesk_read(
 }
 
 // Replaces the payload of the n-th row, from 0, among those that the session may read. Done: 0.
-#[unsafe(no_mangle)]
-pub extern "C" fn brawnesk_update(
+pub fn brawnesk_update(
     image: &[u8],
     session: &[u8; 104],
     table: &mut [u8],
@@ -202,8 +191,7 @@ pub extern "C" fn brawnesk_update(
 
 // Is the payload of the row at that place handed out? Places count from 0 among all rows. Done: 1, the payload, at place × width + 4; 0,
 // the mask, which is not looked at.
-#[unsafe(no_mangle)]
-pub extern "C" fn brawnesk_masked(
+pub fn brawnesk_masked(
     image: &[u8],
     session: &[u8; 104],
     table: &[u8],
@@ -220,8 +208,7 @@ pub extern "C" fn brawnesk_masked(
 }
 
 // Does label 1 dominate label 2? 1 yes, 0 no.
-#[unsafe(no_mangle)]
-pub extern "C" fn brawnesk_dominates(image: &[u8], label1: &[u8; 48], label2: &[u8; 48]) -> u64
+pub fn brawnesk_dominates(image: &[u8], label1: &[u8; 48], label2: &[u8; 48]) -> u64
     ensures { result ≡ dominates_answer image.now label1.now label2.now }
 {
     let first = bytes48::label_in(label1);
@@ -230,12 +217,7 @@ pub extern "C" fn brawnesk_dominates(image: &[u8], label1: &[u8; 48], label2: &[
 }
 
 // And the labels differ. 1 yes, 0 no.
-#[unsafe(no_mangle)]
-pub extern "C" fn brawnesk_strictly_dominates(
-    image: &[u8],
-    label1: &[u8; 48],
-    label2: &[u8; 48],
-) -> u64
+pub fn brawnesk_strictly_dominates(image: &[u8], label1: &[u8; 48], label2: &[u8; 48]) -> u64
     ensures { result ≡ strictly_dominates_answer image.now label1.now label2.now }
 {
     let first = bytes48::label_in(label1);
@@ -244,8 +226,7 @@ pub extern "C" fn brawnesk_strictly_dominates(
 }
 
 // One label of two, by three letters. Done: 0.
-#[unsafe(no_mangle)]
-pub extern "C" fn brawnesk_merge(
+pub fn brawnesk_merge(
     label1: &[u8; 48],
     label2: &[u8; 48],
     letters: &[u8],

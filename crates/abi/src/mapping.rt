@@ -9,8 +9,7 @@ use encoding::bytes104;
 use refusals::Refusal;
 
 // The map of the session at the front of `out`. Done: its length.
-#[unsafe(no_mangle)]
-pub extern "C" fn brawnesk_map(image: &[u8], session: &[u8; 104], out: &mut [u8]) -> u64
+pub fn brawnesk_map(image: &[u8], session: &[u8; 104], out: &mut [u8]) -> u64
     ensures { (result, out.new) ≡ make_map_answer image.now session.now out.old }
 {
     if !bytes104::one_user(session) {
@@ -20,8 +19,7 @@ pub extern "C" fn brawnesk_map(image: &[u8], session: &[u8; 104], out: &mut [u8]
 }
 
 // Is that the map of the session? Done: 0.
-#[unsafe(no_mangle)]
-pub extern "C" fn brawnesk_judge_map(image: &[u8], session: &[u8; 104], map: &[u8]) -> u64
+pub fn brawnesk_judge_map(image: &[u8], session: &[u8; 104], map: &[u8]) -> u64
     ensures { result ≡ judge_map_answer image.now session.now map.now }
 {
     if !bytes104::one_user(session) {
@@ -31,8 +29,7 @@ pub extern "C" fn brawnesk_judge_map(image: &[u8], session: &[u8; 104], map: &[u
 }
 
 // Copies the rows that the session may read to the front of `out`, by a map that is judged first. Done: how many.
-#[unsafe(no_mangle)]
-pub extern "C" fn brawnesk_read_mapped(
+pub fn brawnesk_read_mapped(
     image: &[u8],
     session: &[u8; 104],
     table: &[u8],

@@ -4,77 +4,94 @@
 
 #![tactic(auto)]
 
-ghost use Rattle.std.specs.Prelude.{◌≤◌, ◌≡◌, true, length};
+ghost use Rattle.std.specs.Prelude.{◌≤◌, ◌≡◌, true, length, IfOk};
 ghost use Rattle.hierarchy.specs.Below.{Tabled};
 ghost use Rattle.image.specs.Check.{IsAccepted};
 ghost use Rattle.lines.specs.Parts.{steps_at, steps_after};
 
 use hierarchy::table;
 use hierarchy::table::Table;
-use libc::{STDERR_FILENO, STDIN_FILENO, STDOUT_FILENO};
 use lines::parts::{Cursor, Part, first_part, next_part};
 use lines::refused::long_input_line;
+use std::io;
+use std::io::Read;
 
-fn write_front(text: &[u8], n: usize)
+fn write_front(rt: &impl Print, text: &[u8], n: usize) -> io::Result<()>
     requires { n ≤ length text.now }
 {
-    io::write_all(STDOUT_FILENO, &text[..n]);
+    rt.write_all(&text[..n])
 }
 
-fn write_first(image: &[u8], table: &mut Table) -> Part
-    ensures { result.more ≡ true → IsAccepted image.now × Tabled image.now table.new }
+// What is promised of a part holds once it is written.
+fn write_first(rt: &impl Print, image: &[u8], table: &mut Table) -> io::Result<Part>
+    ensures { IfOk result (λ part. part.more ≡ true → IsAccepted image.now × Tabled image.now table.new) }
 {
     let mut text = [0u8; 64];
     let part = first_part(image, table, &mut text);
-    write_front(&text, part.length);
-    part
+    write_front(rt, &text, part.length)?;
+    Ok(part)
 }
 
-fn write_next(image: &[u8], table: &Table, from: Cursor) -> Part
+fn write_next(rt: &impl Print, image: &[u8], table: &Table, from: Cursor) -> io::Result<Part>
     requires { IsAccepted image.now × Tabled image.now table.now }
-    ensures { steps_after image.now result ≤ steps_at image.now from }
+    ensures { IfOk result (λ part. steps_after image.now part ≤ steps_at image.now from) }
 {
     let mut text = [0u8; 8192];
     let part = next_part(image, table, from, &mut text);
-    write_front(&text, part.length);
-    part
+    write_front(rt, &text, part.length)?;
+    Ok(part)
 }
 
-fn write_output(image: &[u8]) {
+fn write_output(rt: &impl Print, image: &[u8]) -> io::Result<()> {
     let mut table = table::EMPTY;
-    let mut part = write_first(image, &mut table);
+    let mut part = write_first(rt, image, &mut table)?;
     while part.more {
         let from = part.next;
-        part = write_next(image, &table, from);
+        part = write_next(rt, image, &table, from)?;
     }
+    Ok(())
 }
 
-fn write_long_input_line() {
+fn write_long_input_line(rt: &impl Print) -> io::Result<()> {
     let mut text = [0u8; 64];
     let n = long_input_line(&mut text);
-    write_front(&text, n);
+    write_front(rt, &text, n)
 }
 
-// Reads on past the bytes that were read: 0 at the input's end, 1 where there is more, and -1 where the read fails.
-fn read_past() -> isize {
+// Reads until the buffer is full or the input ends, and tells how many bytes then stand at the buffer's front.
+fn read_full(input: &mut impl Read, buffer: &mut [u8]) -> io::Result<usize>
+    ensures { IfOk result (λ n. n ≤ length buffer.new) }
+{
+    let mut done = 0;
+    while done < buffer.len() {
+        let n = input.read(&mut buffer[done..])?;
+        if n == 0 {
+            break;
+        }
+        done += n;
+    }
+    Ok(done)
+}
+
+// Reads on past the bytes that were read: 0 at the input's end, and 1 where there is more.
+fn read_past(input: &mut impl Read) -> io::Result<usize> {
     let mut next = [0u8; 1];
-    libc::read(STDIN_FILENO, &mut next)
+    input.read(&mut next)
 }
 
 // A read that fails, or that stops before the input's end, is no image: it gives no report.
-fn main() {
+fn main(rt: HostRuntime) -> io::Result<()> {
     let mut image = [0; 65536];
-    let n = io::read_full(STDIN_FILENO, &mut image);
-    let past = read_past();
-    if past == 0 {
-        write_output(&image[..n]);
-        return;
-    }
-    if past > 0 {
-        if n == 65536 {
-            write_long_input_line();
-            return;
+    let mut input = rt.stdin();
+    if let Ok(n) = read_full(&mut input, &mut image) {
+        if let Ok(past) = read_past(&mut input) {
+            if past == 0 {
+                return write_output(&rt, &image[..n]);
+            }
+            if n == 65536 {
+                return write_long_input_line(&rt);
+            }
         }
     }
-    io::write_all(STDERR_FILENO, b"read failed\n");
+    eprintln!(rt; "read failed")
 }

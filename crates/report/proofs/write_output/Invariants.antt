@@ -6,7 +6,7 @@ use Rattle.lines.specs.Parts.{steps_after}
 use Rattle.report.proofs.write_output.Given as goal
 
 abbrev pub invariant-loop-part : goal.invariant-loop-part
-invariant-loop-part l = l.part.more ≡ true → IsAccepted l.image × Tabled l.image l.table
+invariant-loop-part g l = l.part.more ≡ true → IsAccepted l.image × Tabled l.image l.table
 
 abbrev pub decreases-loop-part : goal.decreases-loop-part
-decreases-loop-part l = steps_after l.image l.part
+decreases-loop-part g l = steps_after l.image l.part
