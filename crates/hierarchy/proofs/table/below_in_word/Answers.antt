@@ -43,10 +43,10 @@ loop-i-preserved c =
     let is = c.ordered-g.ensures in
     let up = c.stored-p.ensures in
     elim c.if-p-count.branch [
-      then-p-count+then-has w ↦
-        rw (w.groups-is, w.with-groups.ensures) (descend-put _ _ all _ _ _ _ _ so left is up w.if-p-count.true (sym w.has.ensures ∙ w.if-has.true))
+      | then-p-count+then-has w ↦
+          rw (w.groups-is, w.with-groups.ensures) (descend-put _ _ all _ _ _ _ _ so left is up w.if-p-count.true (sym w.has.ensures ∙ w.if-has.true))
       | then-p-count+else-has w ↦
-        rw w.groups-is (descend-pass _ _ all _ _ _ _ _ so left is up (λ h. sym w.has.ensures ∙ w.if-has.false))
+          rw w.groups-is (descend-pass _ _ all _ _ _ _ _ so left is up (λ h. sym w.has.ensures ∙ w.if-has.false))
       | else-p-count w ↦ rw w.groups-is (descend-pass _ _ all _ _ _ _ _ so left is up (λ h. absurd (omega (arith, w.if-p-count.false))))
     ]
 

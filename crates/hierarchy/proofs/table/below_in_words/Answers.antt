@@ -74,10 +74,10 @@ loop-i-preserved c =
     let is = c.ordered-g.ensures in
     let up = c.stored-p.ensures in
     elim c.if-p-count.branch [
-      then-p-count+then-has w ↦
-        words-put _ _ c.requires _ _ _ _ _ four so left is up _ _ w.if-p-count.true (sym w.has.ensures ∙ w.if-has.true) w.with.ensures w.words-is
+      | then-p-count+then-has w ↦
+          words-put _ _ c.requires _ _ _ _ _ four so left is up _ _ w.if-p-count.true (sym w.has.ensures ∙ w.if-has.true) w.with.ensures w.words-is
       | then-p-count+else-has w ↦
-        words-pass _ _ c.requires _ _ _ _ _ four so left is up _ (λ h. sym w.has.ensures ∙ w.if-has.false) w.words-is
+          words-pass _ _ c.requires _ _ _ _ _ four so left is up _ (λ h. sym w.has.ensures ∙ w.if-has.false) w.words-is
       | else-p-count w ↦ words-pass _ _ c.requires _ _ _ _ _ four so left is up _ (λ h. absurd (omega arith)) w.words-is
     ]
 

@@ -95,6 +95,9 @@ read_names-after_name-requires t c =
 
 pub read_names-returns : goal.read_names-returns
 read_names-returns t c =
-    let p = c.requires in record { words_after = c.after_name.ensures.words_after
+    let p = c.requires in record {
+      words_after = c.after_name.ensures.words_after
           ∙ words-next _ _ _ _ _ c.args.words.now p.1.1.0 c.mark_from-end.ensures.0 c.mark_from-end.ensures.1.1 _
-          (sym c.find_by-found.ensures ∙ c.in-At.is) (accepted-counted _ p.0) p.1.1.1 (sym c.has.ensures ∙ c.if-has.false) _ c.with.ensures; words_len = c.after_name.ensures.words_len }
+          (sym c.find_by-found.ensures ∙ c.in-At.is) (accepted-counted _ p.0) p.1.1.1 (sym c.has.ensures ∙ c.if-has.false) _ c.with.ensures;
+      words_len = c.after_name.ensures.words_len;
+    }

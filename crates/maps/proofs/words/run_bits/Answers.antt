@@ -122,9 +122,9 @@ loop-at-preserved c =
       (
         room turn_at,
         elim c.if-reads_record.branch [
-          then-reads_record w ↦
-            w.set-is ∙ w.with-set.ensures ∙ ap (λ (x : ℕ). union x (one l.i)) l.invariant.1.1
-            ∙ sym (collect-put f l.i (asked ∙ w.if-reads_record.true))
+          | then-reads_record w ↦
+              w.set-is ∙ w.with-set.ensures ∙ ap (λ (x : ℕ). union x (one l.i)) l.invariant.1.1
+              ∙ sym (collect-put f l.i (asked ∙ w.if-reads_record.true))
           | else-reads_record w ↦ w.set-is ∙ l.invariant.1.1 ∙ sym (collect-pass f l.i (asked ∙ w.if-reads_record.false))
         ],
       ),

@@ -33,8 +33,11 @@ returns-then-is_empty-2 c =
 pub write_groups-requires : goal.write_groups-requires
 write_groups-requires c =
     let some-list : (empty (marks_of c.args.label).groups && empty (marks_of c.args.label).compartments) ≡ false = told c.is_empty.ensures c.is_empty-2.ensures c.if-is_empty.false in
-    record { accepted = c.requires.accepted.0; set_in_bounds = room-second _ _ _ _ c.name_of-name.ensures.0 c.requires.label_in_bounds some-list c.put-level.ensures
-          c.write_compartments-first.ensures (sym c.is_empty-3.ensures ∙ c.if-is_empty-2.false) }
+    record {
+      accepted = c.requires.accepted.0;
+      set_in_bounds = room-second _ _ _ _ c.name_of-name.ensures.0 c.requires.label_in_bounds some-list c.put-level.ensures
+          c.write_compartments-first.ensures (sym c.is_empty-3.ensures ∙ c.if-is_empty-2.false);
+    }
 
 pub returns : goal.returns
 returns c =

@@ -119,17 +119,17 @@ put16-requires-then-n-lt40 c =
     let more = c.if-n-le16.false in
     let less = c.if-n-lt40.true in
     elim c.if-last-gt8.branch [
-      then-last-gt8 w ↦
-        let some : 8 < n - 16 = w.if-last-gt8.true in
-        record {
-          upto = 24;
-          low = omega (arith, less);
-          high = omega arith;
-          begun = next _ 8 first-put 8 16 (omega arith) (omega arith) (omega arith) _ (w.buffer-is ∙ w.put16.ensures);
-        }
+      | then-last-gt8 w ↦
+          let some : 8 < n - 16 = w.if-last-gt8.true in
+          record {
+            upto = 24;
+            low = omega (arith, less);
+            high = omega arith;
+            begun = next _ 8 first-put 8 16 (omega arith) (omega arith) (omega arith) _ (w.buffer-is ∙ w.put16.ensures);
+          }
       | else-last-gt8 w ↦
-        let none : n - 16 ≤ 8 = w.if-last-gt8.false in
-        record { upto = 8; low = none; high = omega (arith, more); begun = rw w.buffer-is first-put }
+          let none : n - 16 ≤ 8 = w.if-last-gt8.false in
+          record { upto = 8; low = none; high = omega (arith, more); begun = rw w.buffer-is first-put }
     ]
     ) in
     let more = c.if-n-le16.false in
@@ -152,17 +152,17 @@ shape_of-buffer-then-n-lt40 c =
     let more = c.if-n-le16.false in
     let less = c.if-n-lt40.true in
     elim c.if-last-gt8.branch [
-      then-last-gt8 w ↦
-        let some : 8 < n - 16 = w.if-last-gt8.true in
-        record {
-          upto = 24;
-          low = omega (arith, less);
-          high = omega arith;
-          begun = next _ 8 first-put 8 16 (omega arith) (omega arith) (omega arith) _ (w.buffer-is ∙ w.put16.ensures);
-        }
+      | then-last-gt8 w ↦
+          let some : 8 < n - 16 = w.if-last-gt8.true in
+          record {
+            upto = 24;
+            low = omega (arith, less);
+            high = omega arith;
+            begun = next _ 8 first-put 8 16 (omega arith) (omega arith) (omega arith) _ (w.buffer-is ∙ w.put16.ensures);
+          }
       | else-last-gt8 w ↦
-        let none : n - 16 ≤ 8 = w.if-last-gt8.false in
-        record { upto = 8; low = none; high = omega (arith, more); begun = rw w.buffer-is first-put }
+          let none : n - 16 ≤ 8 = w.if-last-gt8.false in
+          record { upto = 8; low = none; high = omega (arith, more); begun = rw w.buffer-is first-put }
     ]
     ) in
     let medium-put : (Stands c.put16-then-n-lt40.new.buffer (length c.args.text.now - 16 + 16)) = (
@@ -189,17 +189,17 @@ returns-then-n-lt40 c =
     let more = c.if-n-le16.false in
     let less = c.if-n-lt40.true in
     elim c.if-last-gt8.branch [
-      then-last-gt8 w ↦
-        let some : 8 < n - 16 = w.if-last-gt8.true in
-        record {
-          upto = 24;
-          low = omega (arith, less);
-          high = omega arith;
-          begun = next _ 8 first-put 8 16 (omega arith) (omega arith) (omega arith) _ (w.buffer-is ∙ w.put16.ensures);
-        }
+      | then-last-gt8 w ↦
+          let some : 8 < n - 16 = w.if-last-gt8.true in
+          record {
+            upto = 24;
+            low = omega (arith, less);
+            high = omega arith;
+            begun = next _ 8 first-put 8 16 (omega arith) (omega arith) (omega arith) _ (w.buffer-is ∙ w.put16.ensures);
+          }
       | else-last-gt8 w ↦
-        let none : n - 16 ≤ 8 = w.if-last-gt8.false in
-        record { upto = 8; low = none; high = omega (arith, more); begun = rw w.buffer-is first-put }
+          let none : n - 16 ≤ 8 = w.if-last-gt8.false in
+          record { upto = 8; low = none; high = omega (arith, more); begun = rw w.buffer-is first-put }
     ]
     ) in
     let medium-put : (Stands c.put16-then-n-lt40.new.buffer (length c.args.text.now - 16 + 16)) = (
@@ -254,7 +254,7 @@ shape_of-buffer-then-n-le72 c =
     begun-word _ _ _ c.requires.in_bounds.1 c.requires.in_bounds.0 bytes _ c.requires.first_value _ _ c.put_word.ensures refl
     ) in
     let second-put : Stands c.put32.new.buffer 40 = next _ 8 first-put 8 32 (omega (arith, c.if-n-lt40.false)) (omega arith) (omega arith) _ c.put32.ensures in
-    let long-put : ( Stands c.put32-then-n-le72.new.buffer (length c.args.text.now - 32 + 32)) = (
+    let long-put : (Stands c.put32-then-n-le72.new.buffer (length c.args.text.now - 32 + 32)) = (
     let n = length c.args.text.now in
     let more : 40 ≤ n = c.if-n-lt40.false in
     let less : n ≤ 72 = c.if-n-le72.true in
@@ -275,7 +275,7 @@ returns-then-n-le72 c =
     begun-word _ _ _ c.requires.in_bounds.1 c.requires.in_bounds.0 bytes _ c.requires.first_value _ _ c.put_word.ensures refl
     ) in
     let second-put : Stands c.put32.new.buffer 40 = next _ 8 first-put 8 32 (omega (arith, c.if-n-lt40.false)) (omega arith) (omega arith) _ c.put32.ensures in
-    let long-put : ( Stands c.put32-then-n-le72.new.buffer (length c.args.text.now - 32 + 32)) = (
+    let long-put : (Stands c.put32-then-n-le72.new.buffer (length c.args.text.now - 32 + 32)) = (
     let n = length c.args.text.now in
     let more : 40 ≤ n = c.if-n-lt40.false in
     let less : n ≤ 72 = c.if-n-le72.true in
@@ -360,7 +360,7 @@ shape_of-buffer c =
     begun-word _ _ _ c.requires.in_bounds.1 c.requires.in_bounds.0 bytes _ c.requires.first_value _ _ c.put_word.ensures refl
     ) in
     let room-then : c.args.at + length c.args.text.now ≤ length buffer-of = begun-room first-put c.requires.in_bounds.1 in
-    let last-put : ( let a = c.args in Begun buffer-of a.at a.text.now c.put32-2.new.buffer (length a.text.now - 32 + 32)) = (
+    let last-put : (let a = c.args in Begun buffer-of a.at a.text.now c.put32-2.new.buffer (length a.text.now - 32 + 32)) = (
     begun-turn _ _ _ room-then _ _ c.loop-i.invariant.1 (length c.args.text.now - 32) 32 (omega (arith, c.if-n-lt40.false))
     c.loop-i-test.false c.loop-i.invariant.0 _ c.put32-2.ensures
     ) in
@@ -378,7 +378,7 @@ returns c =
     begun-word _ _ _ c.requires.in_bounds.1 c.requires.in_bounds.0 bytes _ c.requires.first_value _ _ c.put_word.ensures refl
     ) in
     let room-then : c.args.at + length c.args.text.now ≤ length buffer-of = begun-room first-put c.requires.in_bounds.1 in
-    let last-put : ( let a = c.args in Begun buffer-of a.at a.text.now c.put32-2.new.buffer (length a.text.now - 32 + 32)) = (
+    let last-put : (let a = c.args in Begun buffer-of a.at a.text.now c.put32-2.new.buffer (length a.text.now - 32 + 32)) = (
     begun-turn _ _ _ room-then _ _ c.loop-i.invariant.1 (length c.args.text.now - 32) 32 (omega (arith, c.if-n-lt40.false))
     c.loop-i-test.false c.loop-i.invariant.0 _ c.put32-2.ensures
     ) in

@@ -74,12 +74,12 @@ loop-p-preserved c =
       (
         c.next_record-here.ensures,
         elim c.if-bit_of.branch [
-          then-bit_of+else-not-add w ↦
-            subst (Holding im bits (p + 1)) (sym w.slots-is)
-            (holding-add im bits p _ holding c.requires.mapping.accepted inside (sym c.bit_of.ensures ∙ w.if-bit_of.true) _
-            (w.number4-tag.ensures ∙ ap tag_of w.placed_part.ensures.0) _ (w.add.ensures w.if-not-add.false))
+          | then-bit_of+else-not-add w ↦
+              subst (Holding im bits (p + 1)) (sym w.slots-is)
+              (holding-add im bits p _ holding c.requires.mapping.accepted inside (sym c.bit_of.ensures ∙ w.if-bit_of.true) _
+              (w.number4-tag.ensures ∙ ap tag_of w.placed_part.ensures.0) _ (w.add.ensures w.if-not-add.false))
           | else-bit_of w ↦
-            subst (Holding im bits (p + 1)) (sym w.slots-is) (holding-pass im bits p _ holding (sym c.bit_of.ensures ∙ w.if-bit_of.false))
+              subst (Holding im bits (p + 1)) (sym w.slots-is) (holding-pass im bits p _ holding (sym c.bit_of.ensures ∙ w.if-bit_of.false))
         ],
       ),
     )
