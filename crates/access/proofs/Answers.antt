@@ -76,30 +76,30 @@ means-session-label im u new row k =
 -- the rules in turn, as `session_label_answer` asks them of the user's record: the first that fails gives its refusal
 module _ (im : List ℕ) (u : ℕ) (new row : Marks) (rec : List ℕ) (user : rec ≡ user_record im u) (level : Bool)
     (l : level ≡ between (minimum_level rec) (maximum_level rec) new.level) where
-  pub level-refused : not level ≡ true → Refused LevelNotAllowed ≡ session_label_answer im u new row
+  pub level-refused : level ≡ false → Refused LevelNotAllowed ≡ session_label_answer im u new row
   unfolding session_label_answer
-  level-refused h = rw (← user, sym l ∙ not-true level h)
+  level-refused h = rw (← user, sym l ∙ h)
 
-  module _ (met : not level ≡ false) (compartments : Bool) (c : compartments ≡ within new.compartments (read_compartments rec)) where
-    pub compartments-refused : not compartments ≡ true → Refused CompartmentsNotAllowed ≡ session_label_answer im u new row
+  module _ (met : level ≡ true) (compartments : Bool) (c : compartments ≡ within new.compartments (read_compartments rec)) where
+    pub compartments-refused : compartments ≡ false → Refused CompartmentsNotAllowed ≡ session_label_answer im u new row
     unfolding session_label_answer
-    compartments-refused h = rw (← user, sym l ∙ not-false level met, sym c ∙ not-true compartments h)
+    compartments-refused h = rw (← user, sym l ∙ met, sym c ∙ h)
 
-    module _ (met2 : not compartments ≡ false) (groups : Bool) (g : groups ≡ session_groups_rule im rec new.groups) where
-      pub groups-refused : not groups ≡ true → Refused GroupsNotAllowed ≡ session_label_answer im u new row
+    module _ (met2 : compartments ≡ true) (groups : Bool) (g : groups ≡ session_groups_rule im rec new.groups) where
+      pub groups-refused : groups ≡ false → Refused GroupsNotAllowed ≡ session_label_answer im u new row
       unfolding session_label_answer
-      groups-refused h = rw (← user, sym l ∙ not-false level met, sym c ∙ not-false compartments met2, sym g ∙ not-true groups h)
+      groups-refused h = rw (← user, sym l ∙ met, sym c ∙ met2, sym g ∙ h)
 
-      module _ (met3 : not groups ≡ false) (rights : Rights) (found : rights ≡ rights_at im u new) (inside : Bool) (i : inside ≡ row_inside rights row) where
-        pub outside-refused : not inside ≡ true → Refused RowLabelOutside ≡ session_label_answer im u new row
+      module _ (met3 : groups ≡ true) (rights : Rights) (found : rights ≡ rights_at im u new) (inside : Bool) (i : inside ≡ row_inside rights row) where
+        pub outside-refused : inside ≡ false → Refused RowLabelOutside ≡ session_label_answer im u new row
         unfolding session_label_answer
         outside-refused h =
-            rw (← user, sym l ∙ not-false level met, sym c ∙ not-false compartments met2, sym g ∙ not-false groups met3, ← found, sym i ∙ not-true inside h)
+            rw (← user, sym l ∙ met, sym c ∙ met2, sym g ∙ met3, ← found, sym i ∙ h)
 
-        pub label-accepted : not inside ≡ false → Accepted ≡ session_label_answer im u new row
+        pub label-accepted : inside ≡ true → Accepted ≡ session_label_answer im u new row
         unfolding session_label_answer
         label-accepted h =
-            rw (← user, sym l ∙ not-false level met, sym c ∙ not-false compartments met2, sym g ∙ not-false groups met3, ← found, sym i ∙ not-false inside h)
+            rw (← user, sym l ∙ met, sym c ∙ met2, sym g ∙ met3, ← found, sym i ∙ h)
 
 -- ---- a new row label
 pub record RowLabelKept (rights : Rights) (new : Marks) : Type 0 where

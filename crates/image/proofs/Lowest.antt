@@ -201,6 +201,7 @@ module _ (rule : ℕ → Bool) (fault : ℕ → Fault) (rise : (i j : ℕ) → i
 
 -- ---- it is the lowest: it is one of them, and none has a key before its own
 pub all_among : {P : Fault → Type 0} {f : Fault} {fs : List Fault} → All P fs → Among f fs → P f
+all_among none x = elim x [ ]
 all_among (also p ps) here = p
 all_among (also p ps) (later there) = all_among ps there
 

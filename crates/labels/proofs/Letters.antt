@@ -9,6 +9,7 @@ use lib.ListN.{length}
 use Rattle.fields.specs.Bytes.{all}
 use Rattle.fields.specs.Names.{folded, folded_name}
 use Rattle.fields.proofs.Folding.{folded-length, folded-mark, folded-text, folded-name-twice}
+use Rattle.sets.specs.Sets.{one, union}
 use Rattle.labels.specs.Text.{comma, colon, text_byte, all_text_bytes, onto, split, is_empty, is_name, all_names, is_list, shape_of_parts, shape_rule}
 use Rattle.labels.specs.Parse.{matches, place_of_name, Reading, read, refused, then_read, read_names, read_list, groups_after, read_sets, read_parts, read_text}
 
@@ -73,7 +74,9 @@ module _ (im : List ℕ) where
   read-names-folded : (class offset set : ℕ) (names : List (List ℕ)) → read_names im class offset set (folded_all names) ≡ read_names im class offset set names
   unfolding read_names
   read-names-folded class offset set [] = refl
-  read-names-folded class offset set (n ∷ ns) = rw (place-folded class n, folded-length n, read-names-folded class _ _ ns)
+  read-names-folded class offset set (n ∷ ns) =
+      let later = read-names-folded class (offset + length n + 1) (union set (one (place_of_name im class n))) ns in
+      rw (place-folded class n, folded-length n, later)
 
   read-list-folded : (class offset : ℕ) (text : List ℕ) → read_list im class offset (folded_name text) ≡ read_list im class offset text
   read-list-folded class offset [] = refl

@@ -74,7 +74,7 @@ pub fn mark_from(text: &[u8], at: usize, mark: u8) -> usize
 }
 
 // A list is one name, or one name, a comma and a list. `words` have the names before this one.
-#[cycle(after_name_read_names)]
+#[cycle(names)]
 fn read_names(
     image: &[u8],
     class: u8,
@@ -101,7 +101,7 @@ fn read_names(
 }
 
 // After a name the list ends, or a comma and a list follow.
-#[cycle(after_name_read_names)]
+#[cycle(names)]
 fn after_name(
     image: &[u8],
     class: u8,

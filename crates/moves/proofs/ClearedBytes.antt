@@ -1,13 +1,12 @@
 -- The clearing move changes no byte but holders' privileges and the checks of their blocks; without holders it changes none. Assumes nothing.
 use Prim.Native.Nat.{ℕ, zero, suc, ◌+◌, ◌*◌, ◌/◌, ◌%◌, ◌≤◌, ◌<◌}
 use mathlib.Core.Path.{◌≡◌, refl, sym, ap, ◌∙◌, subst}
-use mathlib.Core.Bool.{Bool, true, false, not, ◌&&◌, true≢false, and-true, and-false}
+use mathlib.Core.Bool.{Bool, true, false, true≢false}
 use mathlib.Core.List.{List, []}
 use mathlib.Core.Logic.{◌⊎◌, inl, inr, ⊎_elim}
 use native.Mathlib.Nat.{div-add-mod, eq-or-lt_of_le}
-use native.Mathlib.Numerals.{lt_of_le_of_ne}
 use native.Mathlib.Omega.{arith}
-use borrow.Author.Tests.{eqb-true, eqb-false, ltb-true, ltb-false, eq-eqb, ne_eqb}
+use borrow.Author.Tests.{eqb-true, eqb-false, ltb-true, ltb-false}
 use lib.Dec.{eqb, ltb}
 use lib.ListN.{length, get_or-eq_default}
 use lib.Seq.{ext_get_or}
@@ -18,7 +17,8 @@ use Rattle.header.specs.declared.edition.Edition.TheVariants.{One, Two}
 use Rattle.header.specs.declared.layout.Kind.{Kind}
 use Rattle.header.specs.declared.layout.Kind.TheVariants.{Component, Label, User}
 use Rattle.header.specs.declared.layout.Shape.{Shape}
-use Rattle.header.specs.Layout.{edition_of, profile_of, levels, compartments, groups, users, labels, counts_of, record_size, capacity_of, count_of, blocks_needed, shape_of, record_block, record_offset, record_at, user_record, kind_at, contents_of}
+use Rattle.header.specs.Layout.{edition_of, profile_of, levels, compartments, groups, users, labels, counts_of}
+use Rattle.header.specs.Layout.{record_size, count_of, blocks_needed, shape_of, record_block, record_offset, record_at, user_record, contents_of}
 use Rattle.header.proofs.Inside.{shape-roomy, slot-inside, blocks-after, held-is}
 use Rattle.records.specs.Fields.{privileges}
 use Rattle.image.specs.Check.{IsAccepted}

@@ -1,29 +1,25 @@
 -- What the clearing move keeps: the image is accepted, nobody holds COMPACCESS any more, the same sessions open and are accepted, users without the bit
 -- keep every verdict, and holders lose none but what COMPACCESS gave. Assumes nothing.
 use Prim.Native.Nat.{ℕ, ◌≤◌, ◌<◌}
-use mathlib.Core.Path.{◌≡◌, refl, sym, ap, ap₂, ◌∙◌}
+use mathlib.Core.Path.{◌≡◌, refl, sym, ap, ◌∙◌}
 use mathlib.Core.Bool.{Bool, true, false, cond, ◌||◌}
 use mathlib.Core.List.{List, []}
 use native.Mathlib.Omega.{arith}
 use borrow.Author.Tests.{eq-eqb}
-use lib.Dec.{eqb, leb}
+use lib.Dec.{leb}
 use lib.ListN.{length, take, drop}
 use Rattle.fields.specs.Bytes.{AreBytes}
 use Rattle.fields.proofs.PlacesWhere.{nowhere}
 use Rattle.refusals.specs.declared.Refusal.TheVariants.{Room, CompaccessHolders, MoveLimits}
-use Rattle.refusals.specs.declared.answers.Checked.TheVariants.{Accepted}
 use Rattle.refusals.specs.declared.answers.Verdict.TheVariants as verdict
 use Rattle.refusals.specs.Refusals.{number_of}
 use Rattle.refusals.specs.Answers.{verdict_of}
 use Rattle.buffers.specs.Pasting.{at_front}
 use Rattle.header.specs.declared.edition.Edition.TheVariants.{One}
-use Rattle.header.specs.declared.layout.Kind.TheVariants.{User}
 use Rattle.header.specs.Layout.{edition_of, users, user_record}
 use Rattle.records.specs.Fields.{privileges, has_compaccess}
 use Rattle.image.specs.Check.{IsAccepted}
-use Rattle.image.specs.Lookup.{label_of_tag}
 use Rattle.image.proofs.Accepted.{accepted-counted}
-use Rattle.labels.specs.Label.{label_at}
 use Rattle.access.specs.Rights.{Rights, rights_at, with_privileges}
 use Rattle.access.specs.Verdicts.{known_tag, may_read, may_write}
 use Rattle.sessions.specs.Session.{SessionMarks, lent_answer, session_rights}
@@ -32,9 +28,9 @@ use Rattle.sessions.specs.Asking.{may_read_of, may_write_of}
 use Rattle.buffers.specs.declared.answers.Filled.{Filled}
 use Rattle.buffers.specs.declared.answers.Filled.TheVariants as filled
 use Rattle.moves.specs.declared.target.Move.TheVariants.{Up, Clear}
-use Rattle.moves.specs.Moved.{without_compaccess, new_image}
+use Rattle.moves.specs.Moved.{new_image}
 use Rattle.moves.specs.Holders.{is_holder, holders}
-use Rattle.buffers.specs.Filling.{unfilled, written_to}
+use Rattle.buffers.specs.Filling.{unfilled}
 use Rattle.moves.specs.Moving.{old_check_of, move_limits_rule, move_up_of, clear_compaccess_of}
 use Rattle.moves.proofs.RecordsAlike.{held_after}
 use Rattle.moves.proofs.HoldsSame.{HoldsTheSame}
@@ -46,7 +42,7 @@ use Rattle.moves.proofs.OldAccepted.{old-accepted, accepted-old}
 use Rattle.moves.proofs.CompaccessBits.{bit-gone, none-gone}
 use Rattle.moves.proofs.ClearedBytes.{ClearedOnly, cleared-only}
 use Rattle.moves.proofs.LessPrivileges.{cleared, adds_reading, adds_writing, less-reads, less-writes}
-use Rattle.buffers.proofs.FrontWritten.{FrontDone, checked-done}
+use Rattle.buffers.proofs.FrontWritten.{checked-done}
 
 pub record KeptByClearing (im new : List ℕ) : Type 0 where
   -- the new image is accepted, and of edition 1

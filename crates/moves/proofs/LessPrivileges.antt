@@ -1,7 +1,7 @@
 -- What rights without COMPACCESS grant: all that they granted but what COMPACCESS alone gave. Assumes nothing.
 use Prim.Native.Nat.{ℕ}
 use mathlib.Core.Path.{◌≡◌, refl}
-use mathlib.Core.Bool.{Bool, true, false, cond, not, ◌&&◌, ◌||◌, or-false}
+use mathlib.Core.Bool.{Bool, true, false, cond, ◌&&◌, ◌||◌, or-false}
 use mathlib.Core.List.{List}
 use native.Mathlib.Omega.{arith}
 use Rattle.header.specs.declared.edition.Edition.{Edition}
@@ -10,8 +10,10 @@ use Rattle.header.specs.Layout.{edition_of}
 use Rattle.image.specs.Lookup.{label_of_tag}
 use Rattle.labels.specs.Label.{Marks, label_at}
 use Rattle.access.specs.Rights.{Rights, with_privileges}
-use Rattle.access.specs.Verdicts.{reads_all, writes_all, holds_compaccess, read_level_rule, read_groups_rule, read_compartments_rule, compaccess_reads, read_tests, reads_label}
-use Rattle.access.specs.Verdicts.{write_level_rule, write_groups_rule, write_compartments_rule, write_sets_rule, compaccess_writes, write_tests, writes_label, tree_sets_rule, release_sets_rule}
+use Rattle.access.specs.Verdicts.{reads_all, writes_all, holds_compaccess, read_level_rule, read_groups_rule, read_compartments_rule}
+use Rattle.access.specs.Verdicts.{compaccess_reads, read_tests, reads_label}
+use Rattle.access.specs.Verdicts.{write_level_rule, write_groups_rule, write_compartments_rule, write_sets_rule, compaccess_writes}
+use Rattle.access.specs.Verdicts.{write_tests, writes_label, tree_sets_rule, release_sets_rule}
 use Rattle.access.specs.Verdicts.{known_tag, unknown_rule, may_read, may_write}
 use Rattle.moves.specs.Moved.{without_compaccess}
 use Rattle.moves.proofs.CompaccessBits.{bit-gone, bit-stays}
@@ -52,7 +54,8 @@ module _ (rights : Rights) where
       (apart (reads_all rights) (read_level_rule rights row && read_groups_rule rights row && read_compartments_rule rights row) (compaccess_reads rights row))
 
   pub less-written : (row : Marks) → writes_label rights row ≡ (writes_label (cleared rights) row || compaccess_writes rights row)
-  unfolding writes_label write_tests compaccess_writes write_level_rule write_sets_rule tree_sets_rule release_sets_rule write_groups_rule write_compartments_rule read_compartments_rule read_groups_rule
+  unfolding writes_label write_tests compaccess_writes write_level_rule write_sets_rule tree_sets_rule release_sets_rule write_groups_rule
+      write_compartments_rule read_compartments_rule read_groups_rule
   less-written row =
       rw (all-written, none-held)
       (apart (writes_all rights) (write_level_rule rights row && write_sets_rule rights row) (compaccess_writes rights row))

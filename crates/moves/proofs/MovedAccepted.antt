@@ -92,7 +92,8 @@ module _ (which : Move) (im : List ℕ) (acc : IsAccepted im) (old : edition_of 
         let here = record_of im User i h in
         let before = subst (λ (rec : List ℕ). PrivilegesKept One (profile_of im) (privileges rec)) here among.kept.privileges_kept in
         let after =
-        subst (λ (rec : List ℕ). PrivilegesKept (edition_after which) (profile_of im) (held_after which (privileges rec))) (sym here) (held_kept im which taken i h before) in
+        subst (λ (rec : List ℕ). PrivilegesKept (edition_after which) (profile_of im) (held_after which (privileges rec))) (sym here)
+        (held_kept im which taken i h before) in
         user-holds (new_counts which im) (new_records which im User) i
         (user-among-up which (profile_of im) (levels im) (compartments im) (groups im) (records_of im User) i (listed User i h) (sized User) after among)
 

@@ -62,14 +62,13 @@ module _ (im : List ℕ) (k : HeaderKept im) (old : edition_of im ≡ One) where
       → Limited (new_counts which im) (length (new_records which im User)) (length (new_records which im Label))
   unfolding move_limits_rule
   new-limited Up taken =
-      let q = parts _ _ (parts _ _ taken).0 in
       record {
         levels_some = k.levels_some;
         levels_limit = k.levels_limit;
         compartments_limit = k.compartments_limit;
         groups_limit = let few : groups im ≤ (limits_in Two).groups = omega (arith, old-groups im old k.groups_limit) in few;
-        users_limit = rw (new-count Up im User) (leb-true _ _ q.1);
-        labels_limit = rw (new-count Up im Label) (leb-true _ _ q.0);
+        users_limit = rw (new-count Up im User) (leb-true _ _ (parts _ _ (parts _ _ taken).0).1);
+        labels_limit = rw (new-count Up im Label) (leb-true _ _ (parts _ _ (parts _ _ taken).0).0);
       }
   new-limited Clear taken =
       record {

@@ -33,7 +33,8 @@ use Rattle.moves.proofs.HoldsSame.{wide-same}
 
 -- ---- a record by itself
 -- none stays none, and a group that exists stays that group
-parent_up : (which : Move) (class count p : ℕ) → count ≤ 255 → ParentKept One class count p → ParentKept (edition_after which) class count (cond (eqb p 255) (no_parent (edition_after which)) p)
+parent_up : (which : Move) (class count p : ℕ) → count ≤ 255 → ParentKept One class count p
+    → ParentKept (edition_after which) class count (cond (eqb p 255) (no_parent (edition_after which)) p)
 parent_up which class count p few =
     ⊎_elim (λ e. inl (rw (eq-eqb p 255 e)))
     (λ q. inr (q.0, rw (wide-same count p few which (lt-ltb p count q.1)) q.1))
@@ -52,7 +53,8 @@ component-up which class count few rec long k =
 
 module _ (which : Move) (profile : Profile) (levels compartments groups : ℕ) where
   label-up : (rec : List ℕ) → length rec ≡ record_size One Label
-      → LabelKept (counts_from One profile levels compartments groups) rec → LabelKept (counts_from (edition_after which) profile levels compartments groups) (new_record which Label rec)
+      → LabelKept (counts_from One profile levels compartments groups) rec
+      → LabelKept (counts_from (edition_after which) profile levels compartments groups) (new_record which Label rec)
   label-up rec long k =
       let a = label-alike which rec long in
       record {

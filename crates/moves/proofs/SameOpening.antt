@@ -14,7 +14,7 @@ use Rattle.records.specs.Fields.{user_name}
 use Rattle.image.specs.Check.{IsAccepted}
 use Rattle.image.specs.Lookup.{user_of_name}
 use Rattle.refusals.specs.declared.Refusal.TheVariants.{NoUser}
-use Rattle.sessions.specs.Opening.{Opening, session, refused, default_label, default_row_label, default_session, open_accepted, open_of}
+use Rattle.sessions.specs.Opening.{session, refused, default_label, default_row_label, default_session, open_accepted, open_of}
 use Rattle.moves.proofs.HoldsSame.{HoldsTheSame}
 
 module _ {change : ℕ → ℕ} (im new : List ℕ) (same : HoldsTheSame change im new) where

@@ -16,7 +16,7 @@ use Rattle.header.specs.declared.counts.Counts.{Counts}
 use Rattle.header.specs.Layout.{edition_of, counts_of, record_size, capacity_of, count_of, first_block, blocks_needed, Fitted, shape_of, Roomy, Shaped, record_slot, record_offset, record_at, records_of, OneBlock, held, contents_of}
 use Rattle.header.proofs.Editions.{size-least}
 use Rattle.header.proofs.Inside.{shape-roomy, room_for, from-among, block_inside, blocks-among, blocks-after, kind-of, one_block, record_of}
-use Rattle.records.specs.Rules.{record_in, run_record, class_start, after_rule, run_rule, first_bad_of_run, fresh_rule, rule_of, record_rule}
+use Rattle.records.specs.Rules.{record_in, run_record, class_start, after_rule, run_rule, first_bad_of_run, fresh_rule, rule_of}
 use Rattle.records.specs.Fresh.{NamesKept, HoldsFrom}
 use Rattle.records.specs.Kinds.{OfKind, RunOf}
 use Rattle.records.proofs.MeaningComponents.{class-begun}

@@ -52,6 +52,17 @@ module _ (im : List ℕ) (first from to : ℕ) (fit : Fitted im) (few : to ≤ c
       ≡ first_bad (λ j. rule (record_at im Component j)) (to - from) from
   block-bad = run-bad _ (to - from) from (record_at im Component) (part_length im first (40 * (to - from)) block_inside) held-is
 
+  -- the same of the run as code takes it
+  abbrev taken : List ℕ
+  taken = take (first + 40 * (to - from) - first) (drop first im)
+
+  pub block-whole : length taken % 40 ≡ 0
+  block-whole = rw run-taken (run-whole im first (to - from) block_inside)
+
+  pub block-found : (rule : List ℕ → Bool)
+      → from + first_bad (λ q. rule (run_record 40 taken q)) (length taken / 40) 0 ≡ first_bad (λ j. rule (record_at im Component j)) (to - from) from
+  block-found rule = rw run-taken (block-bad rule)
+
 -- in a run, the records from `start` up to `end`
 module _ (bytes : List ℕ) (start end : ℕ) (low : start ≤ end) (whole : length bytes % 40 ≡ 0) (few : end ≤ length (run_records 40 bytes)) where
   upto : end ≤ length bytes / 40

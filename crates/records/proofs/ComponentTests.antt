@@ -186,7 +186,8 @@ module _ (n : Counts) (k : ℕ) (previous run : List ℕ) (j to low : ℕ) (upto
       let at : 40 * j + 40 * q ≡ 40 * (j + q) = omega arith in
       part-part run (40 * j) (40 * (to - j)) (40 * q) 40 (omega arith) ∙ ap (λ (p : ℕ). part run p 40) at
 
-  module _ (same : (i : ℕ) → k + j ≤ i → i < k + to → class_at n i ≡ class_at n (k + j)) (is : low ≡ lowest_form n (k + j) (run_before 40 previous run j)) where
+  module _ (same : (i : ℕ) → k + j ≤ i → i < k + to → class_at n i ≡ class_at n (k + j))
+      (is : low ≡ lowest_form n (k + j) (run_before 40 previous run j)) where
     -- only the first of them may be the first of its class
     low-is : (q : ℕ) → q < to - j → low_at low class_run q ≡ lowest_form n (k + (j + q)) (run_before 40 previous run (j + q))
     unfolding lowest_form

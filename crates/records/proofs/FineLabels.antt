@@ -79,6 +79,9 @@ module _ {edition : Edition} {size : ℕ} {run : List ℕ} {before levels : ℕ}
     pub gathering-end : length run ≤ at → GatheredOf edition size run before levels (length run / size) last c g
     gathering-end past = let e : at ≡ length run = omega (arith, w.inside) in rw e at w.done
 
+    pub gathering-at : length run % size ≡ 0 → at < length run → Turn size run at (at / size)
+    gathering-at whole more = record { some = some; whole = whole; stands = w.stands; more = more }
+
     pub gathering-turn : (t : Turn size run at (at / size)) (rec : List ℕ) → rec ≡ run_record size run (at / size)
         → last < tag_of rec → number4 rec 4 < levels
         → (tag c' g' : ℕ) → tag ≡ tag_of rec → c' ≡ union c (label_compartments rec) → g' ≡ union g (label_groups edition rec)

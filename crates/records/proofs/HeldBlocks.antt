@@ -22,6 +22,10 @@ pub record Block (im : List ℕ) (given : Counts) (shape : Shape) (b : ℕ) (h :
   pub among : OfKind im h.kind b
   pub is : h ≡ contents_of im b
 
+pub block_of : {im : List ℕ} {given : Counts} {shape : Shape} {b : ℕ} {h : Contents} → Counted im → given ≡ counts_of im
+    → Shaped im h.kind shape × (OfKind im h.kind b × (h ≡ contents_of im b)) → Block im given shape b h
+block_of counted counts held = record { counted = counted; counts = counts; shaped = held.0; among = held.1.0; is = held.1.1 }
+
 module _ {im : List ℕ} {given : Counts} {shape : Shape} {b : ℕ} {h : Contents} (k : Block im given shape b h) where
   placed : h ≡ held h.kind (shape_of im h.kind) b
   placed = k.is ∙ holds-it im h.kind b k.among

@@ -40,8 +40,11 @@ module _ (filter : List ℕ) (key : ℕ) (room : word_of_key key < length filter
       at true q =
           let same : word_of_key other ≡ word_of_key key = eqb-true _ _ q in
           rw (same, get_or-set_same filter (word_of_key key) (union (get_or filter (word_of_key key) 0) (bits_of_key key)) 0 room)
-          (within-trans (bits_of_key other) (get_or filter (word_of_key key) 0) _ (rw same at e) (within-union-left (get_or filter (word_of_key key) 0) (bits_of_key key)))
-      at false q = rw (get_or-set_other filter (word_of_key key) (word_of_key other) (union (get_or filter (word_of_key key) 0) (bits_of_key key)) 0 (eqb-false _ _ q)) e
+          (within-trans (bits_of_key other) (get_or filter (word_of_key key) 0) _ (rw same at e)
+          (within-union-left (get_or filter (word_of_key key) 0) (bits_of_key key)))
+      at false q =
+          let added : ℕ = union (get_or filter (word_of_key key) 0) (bits_of_key key) in
+          rw (get_or-set_other filter (word_of_key key) (word_of_key other) added 0 (eqb-false _ _ q)) e
 
   pub mark-too : MarkedToo key filter with_mark
   mark-too = record { here = mark-here; still = mark-still }

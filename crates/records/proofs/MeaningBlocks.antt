@@ -1,6 +1,6 @@
 -- What the rules of a block after the header mean, both ways, and that the blocks hold every record: where each block is right, so is
 -- every record of each kind. Assumes nothing.
-use Rattle.std.proofs.Common.{◌≡◌, ℕ, ◌+◌, ◌-◌, ◌*◌, ◌/◌, ◌<◌, ◌≤◌, min, true, List, sym, refl, ap, subst, arith, eq-eqb, eqb-true}
+use Rattle.std.proofs.Common.{◌≡◌, ℕ, ◌+◌, ◌-◌, ◌*◌, ◌<◌, ◌≤◌, true, List, sym, subst, arith, eq-eqb, eqb-true}
 use native.Mathlib.Nat.{div-add-mod, add-sub_cancel_left}
 use Rattle.fields.specs.Bytes.{byte_at}
 use Rattle.fields.specs.Scan.{first_bad}
@@ -8,10 +8,9 @@ use Rattle.fields.proofs.Both.{parts, both}
 use Rattle.fields.proofs.Meaning.{zero-part, part-zero}
 use Rattle.fields.proofs.Scan.{good-before, all-good}
 use Rattle.header.specs.declared.layout.Kind.{Kind}
-use Rattle.header.specs.declared.layout.Shape.{Shape}
 use Rattle.header.specs.declared.layout.Contents.{Contents}
-use Rattle.header.specs.Layout.{edition_of, count_of, capacity_of, blocks_of, first_block, blocks_needed, kind_byte, shape_of, record_block, held, kind_at, contents_of}
-use Rattle.header.proofs.Inside.{Held, held-is, shape-roomy, slot-below, block-among, blocks-among, blocks-after, kind-of}
+use Rattle.header.specs.Layout.{edition_of, count_of, capacity_of, blocks_of, first_block, blocks_needed, kind_byte, shape_of, record_block, held, contents_of}
+use Rattle.header.proofs.Inside.{held-is, shape-roomy, slot-below, block-among, blocks-among, blocks-after, kind-of}
 use Rattle.records.specs.Rules.{record_rule, layout_rule, first_bad_record, content_rule}
 
 -- ---- one block
@@ -92,7 +91,9 @@ module _ (im : List ℕ) (kind : Kind) (i : ℕ) (here : i < count_of im kind) w
   held-from = rw add-sub_cancel_left (omega (arith, div-add-mod i (capacity_of (edition_of im) kind)))
 
   held-upto : i < (held kind (shape_of im kind) block).to
-  held-upto = rw add-sub_cancel_left (omega (arith, here, div-add-mod i (capacity_of (edition_of im) kind), slot-below (shape_of im kind) (shape-roomy im kind) i))
+  held-upto =
+      rw add-sub_cancel_left
+      (omega (arith, here, div-add-mod i (capacity_of (edition_of im) kind), slot-below (shape_of im kind) (shape-roomy im kind) i))
 
 -- so where every block is right, every record keeps its rule
 pub records-kept : (im : List ℕ) → ((b : ℕ) → 1 ≤ b → b < blocks_needed im → content_rule im b ≡ true)

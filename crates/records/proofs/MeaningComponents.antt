@@ -3,7 +3,7 @@ use Rattle.std.proofs.Common.{◌≡◌, ℕ, suc, ◌+◌, ◌-◌, ◌<◌, �
 use borrow.Author.Tests.{not-true}
 use Rattle.fields.specs.Bytes.{byte_at}
 use Rattle.fields.specs.Names.{same_bytes}
-use Rattle.fields.proofs.Both.{parts, either, both, or_left, or_right}
+use Rattle.fields.proofs.Both.{parts, either, or_left, or_right}
 use Rattle.fields.proofs.Meaning.{zero_rest, rest-zero, NameKept, name-means, name-holds, differ-means, same-means}
 use Rattle.fields.proofs.Scan.{everywhere-at, all-good}
 use Rattle.header.specs.declared.edition.Edition.{Edition}

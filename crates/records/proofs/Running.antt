@@ -1,6 +1,6 @@
 -- A loop over a run of records, one right after the other: where the record at place j stands, the record before it, and what is left of a
 -- search for the first that breaks a rule. The laws hold at any rule and any size of a record. Assumes nothing.
-use Rattle.std.proofs.Common.{◌≡◌, ℕ, zero, suc, ◌+◌, ◌-◌, ◌*◌, ◌/◌, ◌%◌, ◌<◌, ◌≤◌, Bool, true, false, cond, ltb, List, length, take, drop, sym, refl, ap, ◌∙◌, subst, mul-le-mul_right, mul-le-mul_left, mul-zero, mul-suc, add-one, arith, le-ltb, lt-ltb}
+use Rattle.std.proofs.Common.{◌≡◌, ℕ, zero, suc, ◌+◌, ◌-◌, ◌*◌, ◌/◌, ◌%◌, ◌<◌, ◌≤◌, Bool, true, false, cond, ltb, List, length, take, drop, sym, ap, ◌∙◌, subst, mul-le-mul_right, mul-le-mul_left, mul-zero, mul-suc, add-one, arith, le-ltb, lt-ltb}
 use native.Mathlib.Nat.{sub-zero, lt_of_mul-lt-mul_left, le_of_mul-le-mul_left, mul-div_right, div-add-mod, add-sub_cancel_left}
 use Rattle.fields.specs.Bytes.{part}
 use Rattle.fields.specs.Scan.{first_bad}
@@ -26,6 +26,11 @@ pub record Turn (size : ℕ) (run : List ℕ) (at j : ℕ) : Type 0 where
   pub whole : length run % size ≡ 0
   pub stands : at ≡ size * j
   pub more : at < length run
+
+-- where the loop stands, and more is left, a turn begins
+pub turn_of : {rule : ℕ → Bool} {size : ℕ} {run : List ℕ} {at j : ℕ} → Walked rule size run at j → 1 ≤ size → length run % size ≡ 0 → at < length run
+    → Turn size run at j
+turn_of w some whole more = record { some = some; whole = whole; stands = w.stands; more = more }
 
 module _ {size : ℕ} {run : List ℕ} {at j : ℕ} (t : Turn size run at j) where
   pub among : j < length run / size

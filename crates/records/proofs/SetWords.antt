@@ -1,5 +1,5 @@
 -- Several sets tested at once: a union or an intersection in place of two sets, and a set of several words word by word. Assumes nothing.
-use Rattle.std.proofs.Common.{◌≡◌, ℕ, zero, suc, ◌+◌, ◌*◌, ◌/◌, ◌%◌, ◌^◌, ◌<◌, ◌≤◌, Bool, true, false, ◌&&◌, eqb, List, [], ◌∷◌, length, drop, sym, refl, ap, ◌∙◌, ap₂, le_of_eq, mod-lt, arith, drop_of_length-le, pow_pos, eq-eqb, eqb-true}
+use Rattle.std.proofs.Common.{◌≡◌, ℕ, zero, suc, ◌+◌, ◌*◌, ◌/◌, ◌%◌, ◌^◌, ◌<◌, Bool, true, false, ◌&&◌, eqb, List, [], ◌∷◌, length, drop, sym, refl, ap, ◌∙◌, ap₂, le_of_eq, mod-lt, arith, drop_of_length-le, pow_pos, eq-eqb, eqb-true}
 use mathlib.Core.Bool.{and_assoc, and-true}
 use mathlib.Core.List.{zip_with}
 use Rattle.fields.specs.Bytes.{part, number4, number8, all, all_zero}
@@ -10,12 +10,12 @@ use Rattle.header.specs.declared.edition.Edition.TheVariants.{One, Two}
 use Rattle.records.specs.Fields.{words_at, groups_at, read_compartments, write_compartments, default_compartments, row_compartments}
 use Rattle.records.specs.Rules.{user_compartments_rule, user_groups_rule}
 use Rattle.records.specs.Users.{four_within}
-use Rattle.sets.specs.Sets.{has, union, intersection, within, empty, all_below}
+use Rattle.sets.specs.Sets.{union, intersection, within, empty, all_below}
 use Rattle.sets.specs.Words.{word_of, words_of, joined}
 use Rattle.sets.proofs.Bounds.{below-has}
 use Rattle.sets.proofs.EachWord.{all_of, each, each-word_of, joined-within}
 use Rattle.sets.proofs.Within.{within_has, has_within, within-trans, within-le, within-intersection, intersection-within-left, intersection-within-right, within-union-left, within-union-right, within-union-both}
-use Rattle.sets.proofs.Words.{AreWords, low-has, low_same, joined-below, joined-words_of}
+use Rattle.sets.proofs.Words.{AreWords, low_same, joined-below, joined-words_of}
 
 -- ---- two sets at once
 pub union-within : (a b c : ℕ) → within (union a b) c ≡ (within a c && within b c)

@@ -1,6 +1,6 @@
 -- The rules of an image's records: of a record by itself, and of a record among those before it in the list of its kind; and of a block:
 -- its layout and its records. Each is a Boolean; proofs/Meaning*.antt say what each means for places and bytes.
-use Rattle.std.specs.Prelude.{ℕ, zero, suc, ◌+◌, ◌-◌, ◌*◌, ◌/◌, Bool, true, false, cond, not, ◌&&◌, ◌||◌, List, [], length, drop, ◌==◌, nat_le, nat_lt, slice_index_or}
+use Rattle.std.specs.Prelude.{ℕ, zero, suc, ◌+◌, ◌-◌, ◌*◌, ◌/◌, Bool, true, false, not, ◌&&◌, ◌||◌, List, [], length, drop, ◌==◌, nat_le, nat_lt, slice_index_or}
 use Rattle.fields.specs.Bytes.{byte_at, part, all_zero}
 use Rattle.fields.specs.Names.{name_rule, same_bytes, name_before}
 use Rattle.fields.specs.Scan.{first_bad, everywhere, list_from}

@@ -136,7 +136,8 @@ module _ (edition : Edition) (kind : Kind) (rs : List (List ℕ)) where
 
     pub kind-long : (place : ℕ) → length (all_blocks place) ≡ 512 * blocks_for (capacity_of edition kind) (length rs)
     kind-long place =
-        kind-length (kind_byte kind) (record_size edition kind) (capacity_of edition kind) room (blocks_for (capacity_of edition kind) (length rs)) place rs sized
+        kind-length (kind_byte kind) (record_size edition kind) (capacity_of edition kind) room
+        (blocks_for (capacity_of edition kind) (length rs)) place rs sized
 
     module _ (from to : ℕ) (low : from ≤ to) (high : to ≤ length rs) (few : to ≤ from + capacity_of edition kind) where
       run-sized : Sized (record_size edition kind) (run_of from to)
@@ -154,3 +155,30 @@ module _ (edition : Edition) (kind : Kind) (rs : List (List ℕ)) where
 
       pub block-long : (place : ℕ) → length (block_of (kind_byte kind) place (run_of from to)) ≡ 512
       block-long place = block-length (kind_byte kind) (record_size edition kind) (capacity_of edition kind) room place (run_of from to) run-sized run-few
+
+-- ---- a turn of the loop: a block holds the records from `from` up to `to`, and it is the first of those that are left
+pub record KindTurn (edition : Edition) (kind : Kind) (rs : List (List ℕ)) (from to b : ℕ) : Type 0 where
+  pub low : from ≤ to
+  pub here : from < length rs
+  pub upto : to ≤ length rs
+  pub few : to ≤ from + capacity_of edition kind
+  pub long : length (block_of (kind_byte kind) b (run_of edition kind rs from to)) ≡ 512
+  pub step : blocks_left edition kind rs from b ≡ block_of (kind_byte kind) b (run_of edition kind rs from to) ++ blocks_left edition kind rs to (b + 1)
+
+-- by the numbers that code has
+pub kind-turn : (edition : Edition) (kind : Kind) (rs : List (List ℕ)) (from to b : ℕ) {count held : ℕ} → Sized (record_size edition kind) rs
+    → count ≡ length rs → held ≡ capacity_of edition kind → to ≡ min count (from + held) → from < count → KindTurn edition kind rs from to b
+kind-turn edition kind rs from to b sized n h e more =
+    let last = last-place from e n h in
+    let here : from < length rs = omega arith in
+    let low : from ≤ to = omega arith in
+    let upto : to ≤ length rs = omega arith in
+    let few : to ≤ from + capacity_of edition kind = omega arith in
+    record {
+      low = low;
+      here = here;
+      upto = upto;
+      few = few;
+      long = block-long edition kind rs sized from to low upto few b;
+      step = kind-step edition kind rs from b to here last;
+    }

@@ -14,7 +14,8 @@ use Rattle.fields.proofs.Scan.{all-good}
 use Rattle.header.specs.declared.layout.Kind.{Kind}
 use Rattle.header.specs.declared.layout.Kind.TheVariants.{Component, Label, User}
 use Rattle.header.specs.declared.counts.Counts.{Counts}
-use Rattle.header.specs.Layout.{edition_of, groups, users, labels, components, counts_of, record_size, count_of, blocks_needed, record_at, contents_of, records_of}
+use Rattle.header.specs.Layout.{edition_of, groups, users, labels, components, counts_of}
+use Rattle.header.specs.Layout.{record_size, count_of, blocks_needed, record_at, contents_of, records_of}
 use Rattle.header.proofs.Inside.{held-is, record-length, records-count, record_of}
 use Rattle.records.specs.Rules.{rule_of}
 use Rattle.hierarchy.specs.Forest.{first_ring_in}

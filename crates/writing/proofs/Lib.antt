@@ -5,6 +5,7 @@ pub mod Ended
 pub mod ImageWritten
 pub mod KindSteps
 pub mod LentLayout
+mod LentNumbers
 mod LentRuns
 pub mod Packed
 pub mod Faults

@@ -7,13 +7,13 @@ use Rattle.rows.proofs.table_ok.Goals as goal
 
 pub returns-then-not-width : goal.returns-then-not-width
 unfolding table_rule
-returns-then-not-width c = rw (not-true (width_rule c.args.width) c.if-not-width.true)
+returns-then-not-width c = rw (c.if-not-width.true)
 
 pub nonzero_rem-result : goal.nonzero_rem-result
 nonzero_rem-result c =
-    let low : 5 ≤ c.args.width = leb-true _ _ (parts _ _ (not-false (width_rule c.args.width) c.if-not-width.false)).0 in
+    let low : 5 ≤ c.args.width = leb-true _ _ (parts _ _ (c.if-not-width.false)).0 in
     omega arith
 
 pub returns : goal.returns
 unfolding table_rule
-returns c = rw (not-false (width_rule c.args.width) c.if-not-width.false)
+returns c = rw (c.if-not-width.false)

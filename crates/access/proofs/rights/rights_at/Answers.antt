@@ -25,13 +25,6 @@ pub write_groups_of-requires : goal.write_groups_of-requires
 write_groups_of-requires c =
     (c.requires.0, c.requires.1.0)
 
--- UNMATCHED shared-slice-read-t16
--- shared-slice-read-t16 : tie.Need-shared-slice-read-t16
--- shared-slice-read-t16 c =
---     let levels = c.before.before.before.before.before.before.before.before in
---     let placed = levels.before in
---     omega (arith, placed.record-part.ensures.1.1)
-
 pub returns : goal.returns
 unfolding rights_at write_compartments_of write_groups_of
 returns c =

@@ -17,10 +17,10 @@ overflow_add-odd c =
 
 pub loop-j-preserved : goal.loop-j-preserved
 loop-j-preserved c =
-    let often = c.wrapping_add_u16.ensures in
+    let often = c.wrapping_add_u16.ensures.value in
     let next =
     adding-next _ _ _ _ (omega arith) (omega arith) c.loop-j.invariant.1.1 _ _ _ (omega arith) c.pair-x.ensures.0 c.pair-x.ensures.1
-    c.wrapping_add_u16-in-loop-j.ensures often in
+    c.wrapping_add_u16-in-loop-j.ensures.value often in
     (omega arith, (c.loop-j.invariant.1.0, next))
 
 pub returns : goal.returns

@@ -4,7 +4,7 @@ use Rattle.blocks.proofs.columns.add_row.Given as goal
 
 abbrev pub invariant-loop-j : goal.invariant-loop-j
 invariant-loop-j l =
-    (l.j ≤ 8) × ((l.at ≡ 16 * l.r) × Adding l.half l.r l.j record { l.mixed = l.mixed; l.odd = l.odd; mixed_above = l.mixed_above; odd_above = l.odd_above })
+    (l.j ≤ 8) × ((l.at ≡ 16 * l.r) × Adding l.half l.r l.j record { mixed = l.mixed; odd = l.odd; mixed_above = l.mixed_above; odd_above = l.odd_above })
 
 abbrev pub decreases-loop-j : goal.decreases-loop-j
 decreases-loop-j l = 8 - l.j

@@ -14,7 +14,7 @@ overflow_add-s c =
 pub loop-j-preserved : goal.loop-j-preserved
 loop-j-preserved c =
     let low = c.requires c.loop-j.j (omega arith) in
-    (omega arith, (omega arith, ap (λ (n : ℕ). n + get_or c.args.t1 c.loop-j.j 0) c.loop-j.invariant.1.1 ∙ sym (sum-next _ c.loop-j.j)))
+    (omega arith, (omega arith, ap (λ (n : ℕ). n + get_or c.args.a c.loop-j.j 0) c.loop-j.invariant.1.1 ∙ sym (sum-next _ c.loop-j.j)))
 
 pub returns : goal.returns
 returns c =

@@ -1,4 +1,4 @@
-use Rattle.std.proofs.Common.{ap₂}
+use Rattle.std.proofs.Common.{◌&&◌, ap₂}
 use Rattle.fields.proofs.Laws.{part-taken}
 use Rattle.blocks.specs.Blocks.{block_rule, block_at}
 use Rattle.blocks.proofs.frame.block_ok.Goals as goal

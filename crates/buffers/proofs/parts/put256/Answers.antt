@@ -37,16 +37,13 @@ loop-k-preserved c =
       (
         omega (arith, inv.1.0),
         (
-          c.put32.auto.1.1.0 ∙ inv.1.1.0,
+          c.put32.auto.buffer ∙ inv.1.1.0,
           c.put32.ensures
               ∙ ap (λ (b : List ℕ). pasted b (a.at + (a.i + k)) (take 32 (drop (a.i + k) text))) inv.1.1.1
               ∙ part_then text a.i k inside _ a.at 32 c.requires.1,
         ),
       ),
     )
-
-pub shape_of-buffer : goal.shape_of-buffer
-shape_of-buffer c = c.loop-k.invariant.1.1.0
 
 pub returns : goal.returns
 returns c =

@@ -38,9 +38,6 @@ loop-i-preserved c =
       ),
     )
 
-pub shape_of-buffer : goal.shape_of-buffer
-shape_of-buffer c = c.loop-i.invariant.1.1.1.long
-
 pub returns : goal.returns
 returns c =
     let inv = c.loop-i.invariant in

@@ -1,5 +1,4 @@
 use Prim.Native.Nat.{◌+◌, ◌-◌, ◌≤◌}
-use mathlib.Core.Path.{◌∙◌}
 use native.Mathlib.Omega.{arith}
 use lib.ListN.{length}
 use Rattle.buffers.proofs.Stored.{begun-start, begun-turn, begun-end}
@@ -33,10 +32,6 @@ loop-i-preserved c =
 pub put32-requires-2 : goal.put32-requires-2
 put32-requires-2 c =
     omega (arith, c.loop-i.invariant.1.long)
-
-pub shape_of-buffer : goal.shape_of-buffer
-shape_of-buffer c =
-    c.put32-2.auto.1.1.0 ∙ c.loop-i.invariant.1.long
 
 pub returns : goal.returns
 returns c =

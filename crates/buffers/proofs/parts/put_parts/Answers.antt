@@ -1,5 +1,4 @@
 use Prim.Native.Nat.{◌+◌, ◌-◌, ◌≤◌}
-use mathlib.Core.Path.{◌∙◌}
 use native.Mathlib.Omega.{arith}
 use lib.ListN.{length}
 use Rattle.buffers.proofs.Stored.{begun-start, begun-turn, begun-end}
@@ -13,11 +12,7 @@ overflow_sub-n c = omega (arith, c.requires.0)
 
 pub put8-requires-then-n-lt16 : goal.put8-requires-then-n-lt16
 put8-requires-then-n-lt16 c =
-    omega (arith, c.put8.auto.1.1.0, c.requires)
-
-pub shape_of-buffer-then-n-lt16 : goal.shape_of-buffer-then-n-lt16
-shape_of-buffer-then-n-lt16 c =
-    c.put8-then-n-lt16.auto.1.1.0 ∙ c.put8.auto.1.1.0
+    omega (arith, c.put8.auto.buffer, c.requires)
 
 pub returns-then-n-lt16 : goal.returns-then-n-lt16
 returns-then-n-lt16 c =
@@ -54,10 +49,6 @@ loop-i-preserved c =
 pub put16-requires-2 : goal.put16-requires-2
 put16-requires-2 c =
     omega (arith, c.loop-i.invariant.1.long, c.if-n-lt16.false)
-
-pub shape_of-buffer : goal.shape_of-buffer
-shape_of-buffer c =
-    c.put16-2.auto.1.1.0 ∙ c.loop-i.invariant.1.long
 
 pub returns : goal.returns
 returns c =

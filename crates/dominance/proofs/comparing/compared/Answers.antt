@@ -1,3 +1,4 @@
+use mathlib.Core.Bool.{◌&&◌}
 use mathlib.Core.Path.{sym, ◌∙◌, ap₂}
 use Rattle.image.proofs.Accepted.{accepted-counted}
 use Rattle.dominance.specs.TwoLabels.{compared_answer}

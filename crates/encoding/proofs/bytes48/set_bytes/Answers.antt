@@ -1,43 +1,13 @@
-use native.Mathlib.Omega.{arith}
 use Rattle.encoding.specs.Labels.{set_bytes}
-use borrow.Author.Rules.{rules}
 use Rattle.encoding.proofs.bytes48.set_bytes.Goals as goal
-
--- UNMATCHED slice-aggregate-copy
--- slice-aggregate-copy : tie.Need-slice-aggregate-copy
--- slice-aggregate-copy c = search rules
-
--- UNMATCHED overflow-sub-copy
--- sub-copy : tie.Need-overflow-sub-copy
--- sub-copy c = search rules
-
--- UNMATCHED copy-requires
--- copy-requires : tie.Need-copy-requires
--- copy-requires c κs = search rules
-
--- UNMATCHED slice-aggregate-copy-2
--- slice-aggregate-copy-2 : tie.Need-slice-aggregate-copy-2
--- slice-aggregate-copy-2 c = search rules
-
--- UNMATCHED overflow-sub-copy-2
--- sub-copy-2 : tie.Need-overflow-sub-copy-2
--- sub-copy-2 c = search rules
-
-pub slice_bounds-b-end-2 : goal.slice_bounds-b-end-2
-slice_bounds-b-end-2 c =
-    rw (c.copy.ensures.1, c.two_words-low.ensures) (omega arith)
-
--- UNMATCHED copy-requires-2
--- copy-requires-2 : tie.Need-copy-requires-2
--- copy-requires-2 c κs = search rules
 
 pub returns : goal.returns
 unfolding set_bytes
 returns c =
     rw (
-      c.copy2.ensures.1,
+      c.copy_from_slice-2.ensures.after,
       c.two_words-high.ensures,
-      c.copy.ensures.1,
+      c.copy_from_slice.ensures.after,
       c.two_words-low.ensures,
       c.word-4.ensures,
       c.word-3.ensures,

@@ -27,8 +27,8 @@ put_walk-requires c =
     let differ = walk-room-differ _ _ _ _ _ _ _ inv.placing c.walk_length-n.ensures c.if-n-count.false c.requires.count_le_table_room.0 in
     record { table_len = (inv.long, inv.room); from_le_end = (omega arith, (omega (arith, room, c.requires.count_le_table_room.0), differ)) }
 
-pub overflow_add-end : goal.overflow_add-end
-overflow_add-end c = omega arith
+pub overflow_add-end-in-loop-g : goal.overflow_add-end-in-loop-g
+overflow_add-end-in-loop-g c = omega arith
 
 pub overflow_add-g : goal.overflow_add-g
 overflow_add-g c = omega arith

@@ -1,6 +1,5 @@
 use Prim.Native.Nat.{ℕ, ◌<◌}
 use mathlib.Core.Path.{◌≡◌, sym, ap, ◌∙◌}
-use mathlib.Core.Logic.{⊎_elim}
 use mathlib.Core.List.{List}
 use native.Mathlib.Omega.{arith}
 use Rattle.sets.specs.Sets.{intersection}
@@ -8,6 +7,7 @@ use Rattle.hierarchy.specs.Forest.{below_in, forest_by, order_at, OrderedBy}
 use Rattle.hierarchy.proofs.Under.{below-groups}
 use Rattle.hierarchy.proofs.InOrder.{descend-start, descend-put, descend-pass, descend-end}
 use Rattle.hierarchy.proofs.table.below_in_word.Goals as goal
+use Rattle.hierarchy.proofs.table.below_in_word.Goals.{then-p-count+then-has, then-p-count+else-has, else-p-count}
 
 -- a group of the order is one of those
 group : (count : ℕ) (table : List ℕ) (i g : ℕ) → OrderedBy count table → i < count → g ≡ order_at table i → g < count
@@ -42,12 +42,13 @@ loop-i-preserved c =
     let left = c.loop-i-test.true in
     let is = c.ordered-g.ensures in
     let up = c.stored-p.ensures in
-    ⊎_elim
-    (λ t. rw (t.4, t.3.ensures) (descend-put _ _ all _ _ _ _ _ so left is up t.0.taken (sym t.1.ensures ∙ t.2.taken)))
-    (⊎_elim
-    (λ t. rw t.3 (descend-pass _ _ all _ _ _ _ _ so left is up (λ h. sym t.1.ensures ∙ t.2.left)))
-    (λ t. rw t.1 (descend-pass _ _ all _ _ _ _ _ so left is up (λ h. absurd (omega (arith, t.0.left))))))
-    c.if-p-count.branch
+    elim c.if-p-count.branch [
+      then-p-count+then-has w ↦
+        rw (w.groups-is, w.with-groups.ensures) (descend-put _ _ all _ _ _ _ _ so left is up w.if-p-count.true (sym w.has.ensures ∙ w.if-has.true))
+      | then-p-count+else-has w ↦
+        rw w.groups-is (descend-pass _ _ all _ _ _ _ _ so left is up (λ h. sym w.has.ensures ∙ w.if-has.false))
+      | else-p-count w ↦ rw w.groups-is (descend-pass _ _ all _ _ _ _ _ so left is up (λ h. absurd (omega (arith, w.if-p-count.false))))
+    ]
 
 pub returns : goal.returns
 returns c =

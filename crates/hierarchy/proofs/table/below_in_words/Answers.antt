@@ -1,6 +1,5 @@
 use Prim.Native.Nat.{ℕ, ◌<◌}
 use mathlib.Core.Path.{◌≡◌, refl, sym, ap, ◌∙◌}
-use mathlib.Core.Logic.{⊎_elim}
 use mathlib.Core.List.{List}
 use native.Mathlib.Omega.{arith}
 use Rattle.sets.specs.Sets.{intersection}
@@ -12,6 +11,7 @@ use Rattle.hierarchy.specs.Forest.{below_in, table_room, forest_by, order_at, Or
 use Rattle.hierarchy.proofs.Under.{below-groups}
 use Rattle.hierarchy.proofs.InOrder.{descend-start, descend-end, four-words, words-put, words-pass}
 use Rattle.hierarchy.proofs.table.below_in_words.Goals as goal
+use Rattle.hierarchy.proofs.table.below_in_words.Goals.{then-p-count+then-has, then-p-count+else-has, else-p-count}
 
 -- a group of the order is one that there is room for
 group : (count : ℕ) (table : List ℕ) (i g : ℕ) → OrderedBy count table → i < count → g ≡ order_at table i → g < table_room
@@ -73,12 +73,13 @@ loop-i-preserved c =
     let left = c.loop-i-test.true in
     let is = c.ordered-g.ensures in
     let up = c.stored-p.ensures in
-    ⊎_elim
-    (λ t. words-put _ _ c.requires _ _ _ _ _ four so left is up _ _ t.0.taken (sym t.1.ensures ∙ t.2.taken) t.3.ensures t.4)
-    (⊎_elim
-    (λ t. words-pass _ _ c.requires _ _ _ _ _ four so left is up _ (λ h. sym t.1.ensures ∙ t.2.left) t.3)
-    (λ t. words-pass _ _ c.requires _ _ _ _ _ four so left is up _ (λ h. absurd (omega arith)) t.1))
-    c.if-p-count.branch
+    elim c.if-p-count.branch [
+      then-p-count+then-has w ↦
+        words-put _ _ c.requires _ _ _ _ _ four so left is up _ _ w.if-p-count.true (sym w.has.ensures ∙ w.if-has.true) w.with.ensures w.words-is
+      | then-p-count+else-has w ↦
+        words-pass _ _ c.requires _ _ _ _ _ four so left is up _ (λ h. sym w.has.ensures ∙ w.if-has.false) w.words-is
+      | else-p-count w ↦ words-pass _ _ c.requires _ _ _ _ _ four so left is up _ (λ h. absurd (omega arith)) w.words-is
+    ]
 
 pub bounds-words-0 : goal.bounds-words-0
 bounds-words-0 c = omega arith

@@ -7,8 +7,8 @@ groups-requires c = header-inside _ c.requires.fitted
 
 pub put_order-requires : goal.put_order-requires
 put_order-requires c =
-    tabled-fits _ c.fill_parents.new.1.0 _ c.groups.ensures.0 c.requires
+    tabled-fits _ c.fill_parents.new.table _ c.groups.ensures.0 c.requires
 
 pub returns : goal.returns
 returns c =
-    ring-found _ c.fill_parents.new.1.0 _ _ _ c.groups.ensures.0 c.requires c.fill_parents.ensures c.put_order.ensures
+    ring-found _ c.fill_parents.new.table _ _ _ c.groups.ensures.0 c.requires c.fill_parents.ensures c.put_order.ensures

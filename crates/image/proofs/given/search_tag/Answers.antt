@@ -17,10 +17,10 @@ pub overflow_shl-middle : goal.overflow_shl-middle
 overflow_shl-middle c = omega arith
 
 pub overflow_add-middle : goal.overflow_add-middle
-overflow_add-middle c = omega (arith, half-fits c.loop-left.false c.loop-left-test.true c.loop-left.invariant.steps)
+overflow_add-middle c = omega (arith, half-fits c.loop-left.left c.loop-left-test.true c.loop-left.invariant.steps)
 
 pub overflow_sub-middle : goal.overflow_sub-middle
-overflow_sub-middle c = omega (arith, half-fits c.loop-left.false c.loop-left-test.true c.loop-left.invariant.steps)
+overflow_sub-middle c = omega (arith, half-fits c.loop-left.left c.loop-left-test.true c.loop-left.invariant.steps)
 
 pub tag_at-found-requires : goal.tag_at-found-requires
 tag_at-found-requires c =

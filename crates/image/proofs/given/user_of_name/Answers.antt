@@ -1,24 +1,17 @@
 use Prim.Native.Nat.{ℕ, ◌^◌, ◌≤◌, ◌<◌, zero-le}
 use mathlib.Core.Path.{ap}
-use mathlib.Core.Bool.{Bool}
 use mathlib.Core.List.{List}
 use native.Mathlib.Nat.{sub-zero}
 use native.Mathlib.Omega.{arith}
 use lib.ListN.{length}
-use Rattle.fields.specs.Names.{same_bytes}
 use Rattle.fields.proofs.Scan.{loop-bad, loop-good, loop-end}
 use Rattle.header.specs.declared.layout.Kind.TheVariants.{User}
 use Rattle.header.specs.declared.layout.Shape.{Shape}
-use Rattle.header.specs.Layout.{users, user_record, Shaped, record_offset}
+use Rattle.header.specs.Layout.{users, Shaped, record_offset}
 use Rattle.header.specs.Limits.{Counted}
 use Rattle.header.proofs.Inside.{header-inside, record-upto}
-use Rattle.records.specs.Fields.{user_name}
 use Rattle.image.specs.Lookup.{user_of_name}
 use Rattle.image.proofs.given.user_of_name.Goals as goal
-
--- does the user at place u have that name?
-abbrev named : List ℕ → List ℕ → ℕ → Bool
-named im name u = same_bytes (user_name (user_record im u)) name
 
 -- the walk over users stays in the image
 walk_inside : (im : List ℕ) → Counted im → (shape : Shape) → Shaped im User shape → length im < 2 ^ 63 → (u : ℕ) → u ≤ users im → record_offset shape u < 2 ^ 63

@@ -10,4 +10,4 @@ find-requires c = (accepted-counted _ c.requires.0, c.requires.1)
 
 pub returns : goal.returns
 returns c =
-    told_at _ c.requires.0 _ c.requires.1.0 c.requires.1.1 _ _ _ c.told.given.1 c.hinted-told.ensures
+    told_at _ c.requires.0 _ c.requires.1.0 c.requires.1.1 _ _ _ c.in-At.is c.hinted-told.ensures

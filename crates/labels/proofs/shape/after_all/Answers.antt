@@ -35,8 +35,8 @@ loop-i-preserved-then-text_byte c =
     let inside : l.i + 1 ≤ length text = omega arith in
     rw c.after_name_byte-state.ensures (run_step text l.state _ (l.i + 1) _ inside c.name_end-i.ensures first)
 
-pub overflow_add-i : goal.overflow_add-i
-overflow_add-i c = omega arith
+pub overflow_add-i-else-text_byte : goal.overflow_add-i-else-text_byte
+overflow_add-i-else-text_byte c = omega arith
 
 pub loop-i-smaller : goal.loop-i-smaller
 loop-i-smaller c = omega arith

@@ -7,9 +7,8 @@ pub put_number-requires : goal.put_number-requires
 put_number-requires c = rw (length-set, c.tag-tag.ensures) c.requires.k_in_bounds
 
 pub shape_of-buffer : goal.shape_of-buffer
-shape_of-buffer c = rw length-set at c.put_number.auto.1.0
+shape_of-buffer c = rw length-set at c.put_number.auto.buffer
 
 pub returns : goal.returns
 returns c =
-    let pre = (c.requires.counted, c.requires.k_in_bounds) in
-    byte-then _ _ _ (omega (arith, pre.1)) (rw c.tag-tag.ensures at c.put_number.ensures)
+    byte-then _ _ _ (omega (arith, c.requires.k_in_bounds)) (rw c.tag-tag.ensures at c.put_number.ensures)

@@ -25,7 +25,7 @@ pub line-length-requires : goal.line-length-requires
 line-length-requires c =
     let pre = c.requires in
     let f = c.loop-next.invariant in
-    ((pre, omega (arith, c.loop-next-test.true, c.labels-count.ensures.0)), omega (arith, c.if-buffer-length-lt43.false, f.inside, f.long))
+    record { at_opening = (pre, omega (arith, c.loop-next-test.true, c.labels-count.ensures.0)); at_in_bounds = omega (arith, c.if-buffer-length-lt43.false, f.inside, f.long) }
 
 pub overflow_add-next : goal.overflow_add-next
 overflow_add-next c = omega arith

@@ -3,26 +3,6 @@ use Rattle.lines.proofs.RefusalText.{told_none}
 use borrow.Author.Rules.{rules}
 use Rattle.lines.proofs.refused.put_place.Goals as goal
 
--- UNMATCHED slice-aggregate-put-value
--- slice-aggregate-put-value : tie.Need-slice-aggregate-put-value
--- slice-aggregate-put-value c = search rules
-
--- UNMATCHED slice-aggregate-put-value-2
--- slice-aggregate-put-value-2 : tie.Need-slice-aggregate-put-value-2
--- slice-aggregate-put-value-2 c = search rules
-
--- UNMATCHED slice-aggregate-put-value-3
--- slice-aggregate-put-value-3 : tie.Need-slice-aggregate-put-value-3
--- slice-aggregate-put-value-3 c = search rules
-
--- UNMATCHED slice-aggregate-put-value-4
--- slice-aggregate-put-value-4 : tie.Need-slice-aggregate-put-value-4
--- slice-aggregate-put-value-4 c = search rules
-
--- UNMATCHED slice-aggregate-put-value-5
--- slice-aggregate-put-value-5 : tie.Need-slice-aggregate-put-value-5
--- slice-aggregate-put-value-5 c = search rules
-
 pub returns-in-BlockCheck : goal.returns-in-BlockCheck
 returns-in-BlockCheck c =
     rw c.in-BlockCheck.is c.put_value.ensures
@@ -57,4 +37,8 @@ returns-in-CompaccessHolders c =
 
 pub returns-in_default : goal.returns-in_default
 returns-in_default c =
-    told_none c.args.refusal _ _ (others-none c.args.refusal c.in_default.in_default-own.keys9)
+    let o = c.in_default in
+    let none =
+    others-none c.args.refusal o.not-BlockCheck o.not-ComponentRecord o.not-LabelRecord o.not-UserRecord o.not-ParentRing o.not-UnknownName
+    o.not-RepeatedName o.not-CompaccessHolders in
+    told_none c.args.refusal _ _ none

@@ -2,17 +2,9 @@ use Rattle.lines.proofs.RefusalText.{room-block, room-slot, record-told}
 use borrow.Author.Rules.{rules}
 use Rattle.lines.proofs.refused.put_record.Goals as goal
 
--- UNMATCHED slice-aggregate-put-named
--- slice-aggregate-put-named : tie.Need-slice-aggregate-put-named
--- slice-aggregate-put-named c = search rules
-
 pub put_named-told-requires : goal.put_named-told-requires
 put_named-told-requires c =
     room-block _ _ c.ranges.block.fits c.ranges.slot.fits c.args.buffer.now _ c.requires
-
--- UNMATCHED slice-aggregate-put-named-2
--- slice-aggregate-put-named-2 : tie.Need-slice-aggregate-put-named-2
--- slice-aggregate-put-named-2 c = search rules
 
 pub put_named-requires : goal.put_named-requires
 put_named-requires c =

@@ -6,10 +6,6 @@ use Rattle.lines.proofs.RefusalText.{room-front, room-place, room-newline, writt
 use borrow.Author.Rules.{rules}
 use Rattle.lines.proofs.refused.refusal_line.Goals as goal
 
--- UNMATCHED slice-aggregate-put-named
--- slice-aggregate-put-named : tie.Need-slice-aggregate-put-named
--- slice-aggregate-put-named c = search rules
-
 pub put_named-numbered-requires : goal.put_named-numbered-requires
 put_named-numbered-requires c =
     room-front c.args.refusal c.args.buffer.now c.requires c.number-n.ensures
@@ -20,18 +16,18 @@ put_place-placed-requires c =
 
 pub bounds-buffer-placed : goal.bounds-buffer-placed
 bounds-buffer-placed c =
-    let newline-room : c.put_place-placed.result < length c.put_place-placed.new.1.0 = room-newline c.args.refusal c.args.buffer.now c.requires c.number-n.ensures c.put_named-numbered.ensures c.put_place-placed.ensures in
+    let newline-room : c.put_place-placed.result < length c.put_place-placed.new.buffer = room-newline c.args.refusal c.args.buffer.now c.requires c.number-n.ensures c.put_named-numbered.ensures c.put_place-placed.ensures in
     newline-room
 
 pub overflow_add-result : goal.overflow_add-result
 overflow_add-result c =
-    let newline-room : c.put_place-placed.result < length c.put_place-placed.new.1.0 = room-newline c.args.refusal c.args.buffer.now c.requires c.number-n.ensures c.put_named-numbered.ensures c.put_place-placed.ensures in
+    let newline-room : c.put_place-placed.result < length c.put_place-placed.new.buffer = room-newline c.args.refusal c.args.buffer.now c.requires c.number-n.ensures c.put_named-numbered.ensures c.put_place-placed.ensures in
     let h = newline-room in
     omega arith
 
 pub shape_of-buffer : goal.shape_of-buffer
 shape_of-buffer c =
-    simp length-set (c.put_place-placed.auto.1.0 ∙ c.put_named-numbered.auto.1.1.0)
+    simp length-set (c.put_place-placed.auto.buffer ∙ c.put_named-numbered.auto.buffer)
 
 pub returns : goal.returns
 returns c =

@@ -42,10 +42,7 @@ map_word-word-requires c =
     let im = c.args.image.now in
     let l = c.loop-at in
     let inside : 64 * l.k < labels im = omega (arith, c.loop-at-test.true, l.invariant.0, c.requires.count_value, length-least im) in
-    let here : min (64 * l.k) (labels im) ≡ 64 * l.k = omega arith in (
-      (c.requires.counted.0, (c.shape_of-shape.ensures, c.edition_of-edition.ensures)),
-      (inside, subst (λ (p : ℕ). Standing c.shape_of-shape.result p l.here) here l.invariant.1.0),
-    )
+    let here : min (64 * l.k) (labels im) ≡ 64 * l.k = omega arith in record { counted = (c.requires.counted.0, (c.shape_of-shape.ensures, c.edition_of-edition.ensures)); k_bound = (inside, subst (λ (p : ℕ). Standing c.shape_of-shape.result p l.here) here l.invariant.1.0) }
 
 pub overflow_add-at : goal.overflow_add-at
 overflow_add-at c =

@@ -12,11 +12,8 @@ use Rattle.buffers.specs.Pasting.{Written}
 use Rattle.buffers.proofs.Left.{Left, left-start, left-turn, left_end, byte-alone}
 use Rattle.maps.specs.Whole.{whole_byte, whole_map}
 use Rattle.maps.proofs.EveryLabel.{byte_full, byte_last, whole_long}
+use Rattle.maps.proofs.whole.put_whole.Invariants.{rest}
 use Rattle.maps.proofs.whole.put_whole.Goals as goal
-
--- what is left to write from byte k on
-abbrev rest : ℕ → ℕ → List ℕ
-rest n k = list_from (whole_byte n) ((n + 7) / 8 - k) k
 
 -- one more byte of the map
 turn : (n : ℕ) (b₀ b : List ℕ) (k v : ℕ) → (n + 7) / 8 ≤ length b₀ → Left b₀ 0 (whole_map n) b k (rest n k) → k < (n + 7) / 8 → v ≡ whole_byte n k

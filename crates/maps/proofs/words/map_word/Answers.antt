@@ -18,11 +18,8 @@ use Rattle.access.specs.Verdicts.{reads_label}
 use Rattle.maps.specs.Map.{reads_record}
 use Rattle.maps.proofs.Bits.{word-upto}
 use Rattle.maps.proofs.Runs.{Run, run-joined, size_is, run_fits, run-whole, run-count, run-reads}
+use Rattle.maps.proofs.words.map_word.Invariants.{told}
 use Rattle.maps.proofs.words.map_word.Goals as goal
-
--- what bit i of word k tells
-abbrev told : List ℕ → Rights → ℕ → ℕ → Bool
-told im rights k i = reads_record im rights (64 * k + i)
 
 -- the shape counts the labels
 count-is : {im : List ℕ} {shape : Shape} → Shaped im Label shape → shape.count ≡ labels im
@@ -184,7 +181,7 @@ forward-here-requires c =
     let inside : 64 * a.k + l.i ≤ labels a.image.now = omega (arith, run.among) in
     let low : record_offset a.shape (64 * a.k + l.i) < 2 ^ 63 =
     rw run.shaped.is (omega (arith, record-upto _ run.fitted Label (64 * a.k + l.i) inside)) in
-    ((run.shaped.roomy, (l.invariant.1.0, low)), omega (arith, c.lower-n.ensures))
+    record { roomy = (run.shaped.roomy, (l.invariant.1.0, low)); n_le_left = omega (arith, c.lower-n.ensures) }
 
 pub overflow_add-i : goal.overflow_add-i
 overflow_add-i c =

@@ -2,7 +2,6 @@ use Prim.Native.Nat.{ℕ, ◌+◌, ◌≤◌}
 use mathlib.Core.Path.{refl, sym, ap, ◌∙◌}
 use mathlib.Core.Bool.{Bool}
 use mathlib.Core.List.{List}
-use mathlib.Core.Logic.{⊎_elim}
 use native.Mathlib.Nat.{mul-zero, mul-suc}
 use native.Mathlib.Numerals.{add-one}
 use native.Mathlib.Omega.{arith}
@@ -19,11 +18,9 @@ use Rattle.labels.specs.Label.{record_label}
 use Rattle.access.specs.Rights.{Rights, rights_of}
 use Rattle.access.specs.Verdicts.{reads_label}
 use Rattle.maps.proofs.Runs.{run-ended}
+use Rattle.maps.proofs.words.run_bits.Invariants.{told}
 use Rattle.maps.proofs.words.run_bits.Goals as goal
-
--- what bit i tells
-abbrev told : Rights → Edition → ℕ → List ℕ → ℕ → Bool
-told rights edition size run i = reads_label rights (record_label edition (run_record size run i))
+use Rattle.maps.proofs.words.run_bits.Goals.{then-reads_record, else-reads_record}
 
 pub loop-at-init : goal.loop-at-init
 unfolding collect
@@ -124,10 +121,12 @@ loop-at-preserved c =
       rw (add-one, mul-suc) (ap (λ (n : ℕ). n + a.size) l.invariant.0),
       (
         room turn_at,
-        ⊎_elim
-            (λ t. t.2 ∙ t.1.ensures ∙ ap (λ (x : ℕ). union x (one l.i)) l.invariant.1.1 ∙ sym (collect-put f l.i (asked ∙ t.0.taken)))
-            (λ e. e.1 ∙ l.invariant.1.1 ∙ sym (collect-pass f l.i (asked ∙ e.0.left)))
-            c.if-reads_record.branch,
+        elim c.if-reads_record.branch [
+          then-reads_record w ↦
+            w.set-is ∙ w.with-set.ensures ∙ ap (λ (x : ℕ). union x (one l.i)) l.invariant.1.1
+            ∙ sym (collect-put f l.i (asked ∙ w.if-reads_record.true))
+          | else-reads_record w ↦ w.set-is ∙ l.invariant.1.1 ∙ sym (collect-pass f l.i (asked ∙ w.if-reads_record.false))
+        ],
       ),
     )
 

@@ -1,9 +1,19 @@
-use Prim.Native.Nat.{◌-◌, ◌*◌, ◌≤◌}
+use Prim.Native.Nat.{◌-◌, ◌*◌, ◌≤◌, ℕ}
 use mathlib.Core.Path.{◌≡◌}
 use lib.ListN.{length}
 use Rattle.sets.specs.Sets.{collect}
-use Rattle.access.specs.Rights.{rights_of}
+use Rattle.access.specs.Rights.{rights_of, Rights}
+use mathlib.Core.Bool.{Bool}
+use mathlib.Core.List.{List}
+use Rattle.header.specs.declared.edition.Edition.{Edition}
+use Rattle.records.specs.Rules.{run_record}
+use Rattle.labels.specs.Label.{record_label}
+use Rattle.access.specs.Verdicts.{reads_label}
 use Rattle.maps.proofs.words.run_bits.Given as goal
+
+-- what bit i tells
+abbrev pub told : Rights → Edition → ℕ → List ℕ → ℕ → Bool
+told rights edition size run i = reads_label rights (record_label edition (run_record size run i))
 
 abbrev pub invariant-loop-at : goal.invariant-loop-at
 invariant-loop-at l =

@@ -1,5 +1,4 @@
 use mathlib.Core.Path.{sym, ap, ◌∙◌}
-use mathlib.Core.Logic.{⊎_elim}
 use native.Mathlib.Nat.{sub-zero, zero-add}
 use native.Mathlib.Omega.{arith}
 use lib.ListN.{length}
@@ -7,6 +6,7 @@ use Rattle.fields.proofs.PlacesWhere.{turn-here, turn-not, turn_end}
 use Rattle.header.proofs.Inside.{header-inside}
 use Rattle.moves.specs.Holders.{is_holder, holders}
 use Rattle.moves.proofs.holders.holder_count.Goals as goal
+use Rattle.moves.proofs.holders.holder_count.Goals.{then-is_holder, else-is_holder}
 
 pub users-count-requires : goal.users-count-requires
 users-count-requires c = header-inside _ c.requires.fitted
@@ -35,10 +35,10 @@ loop-u-preserved c =
     let u = c.loop-u.u in
     let here = c.loop-u-test.true in
     let told = sym c.is_holder.ensures in
-    ⊎_elim
-    (λ t. let step = ap length (turn-here (is_holder im) n u here (told ∙ t.0.taken)) in (omega (arith, t.1, inv.0), omega (arith, t.1, inv.1)))
-    (λ f. let step = ap length (turn-not (is_holder im) n u here (told ∙ f.0.left)) in (omega (arith, f.1, inv.0), omega (arith, f.1, inv.1)))
-    c.if-is_holder.branch
+    elim c.if-is_holder.branch [
+      | then-is_holder w ↦ let step = ap length (turn-here (is_holder im) n u here (told ∙ w.if-is_holder.true)) in (omega arith, omega arith)
+      | else-is_holder w ↦ let step = ap length (turn-not (is_holder im) n u here (told ∙ w.if-is_holder.false)) in (omega arith, omega arith)
+    ]
 
 pub returns : goal.returns
 unfolding holders

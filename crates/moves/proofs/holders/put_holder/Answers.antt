@@ -1,7 +1,6 @@
 use mathlib.Core.Path.{refl, sym, ◌∙◌}
 use mathlib.Core.List.{[]}
 use native.Mathlib.Omega.{arith}
-use borrow.Author.Tests.{not-true, not-false}
 use Rattle.buffers.proofs.Left.{written_none}
 use Rattle.header.proofs.Editions.{counted-users}
 use Rattle.moves.proofs.holders.put_holder.Goals as goal

@@ -17,10 +17,11 @@ pub put_holder-end-requires : goal.put_holder-end-requires
 put_holder-end-requires c =
     let im = c.args.image.now in
     let u = c.loop-u.u in
-    let step = turn (is_holder im) c.users-count.result u c.loop-u-test.true in (
-      (c.requires.0, omega (arith, c.loop-u-test.true, c.users-count.ensures.0)),
-      left-room _ _ _ _ _ _ c.loop-u.invariant (holder_at im u) _ step (rw zero-add c.requires.1),
-    )
+    let step = turn (is_holder im) c.users-count.result u c.loop-u-test.true in
+    record {
+      counted = (c.requires.0, omega (arith, c.loop-u-test.true, c.users-count.ensures.0));
+      u_in_bounds = left-room _ _ _ _ _ _ c.loop-u.invariant (holder_at im u) _ step (rw zero-add c.requires.1);
+    }
 
 pub overflow_add-u : goal.overflow_add-u
 overflow_add-u c = omega arith

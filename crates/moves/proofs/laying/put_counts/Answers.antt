@@ -13,7 +13,14 @@ few-groups Clear count h = omega arith
 
 pub put_header-requires : goal.put_header-requires
 put_header-requires c =
-    let few = few-groups c.args.which _ c.requires.1.0 in record { groups_bound = (rw (c.edition_after.ensures, c.groups-groups.ensures.0) few, (omega (arith, c.users-users.ensures.1), omega (arith, c.labels-labels.ensures.1))); at_in_bounds = omega (arith, c.requires.1.1) }
+    let few = few-groups c.args.which _ c.requires.1.0 in
+    record {
+      groups_bound = (
+        rw (c.edition_after.ensures, c.groups-groups.ensures.0) few,
+        (omega (arith, c.users-users.ensures.1), omega (arith, c.labels-labels.ensures.1)),
+      );
+      at_in_bounds = omega (arith, c.requires.1.1);
+    }
 
 pub returns : goal.returns
 returns c =

@@ -3,10 +3,11 @@ use mathlib.Core.Path.{◌≡◌, refl, sym, ap, ap₂, ◌∙◌}
 use mathlib.Core.List.{List}
 use native.Mathlib.Omega.{arith}
 use lib.ListN.{length}
+use Rattle.header.specs.declared.edition.Edition.TheVariants.{One}
 use Rattle.header.specs.declared.counts.Counts.{Counts}
 use Rattle.header.specs.declared.layout.Kind.{Kind}
 use Rattle.header.specs.declared.layout.Kind.TheVariants.{Component, Label, User}
-use Rattle.header.specs.Layout.{users, labels, components, record_size, blocks_for}
+use Rattle.header.specs.Layout.{edition_of, users, labels, components, record_size, blocks_for}
 use Rattle.header.specs.Limits.{Counted}
 use Rattle.header.proofs.Editions.{counted-groups, counted-users, counted-labels}
 use Rattle.header.proofs.Inside.{header-inside}
@@ -36,25 +37,12 @@ place-fits which im k =
     )
 
 -- what is written, by the new records
-module _ (s : goal.Start) where
-  abbrev which : Move
-  which = c.args.which
-
-  abbrev im : List ℕ
-  im = c.args.image.now
-
+module _ (which : Move) (im : List ℕ) where
   abbrev counts : Counts
   counts = new_counts which im
 
   abbrev records : Kind → List (List ℕ)
   records = new_records which im
-
-  sizes : (kind : Kind) → Sized (record_size (edition_after which) kind) (records kind)
-  sizes = (new-fits which im c.requires.counted.0.fitted c.requires.counted.1).sizes
-
-  room : length (image_of counts records) ≤ length c.args.buffer.now
-  unfolding new_image
-  room = c.requires.image_in_bounds
 
   header_is : new_header which im ≡ header_block counts (length (records User)) (length (records Label))
   header_is = ap₂ (header_block counts) (sym (new-count which im User)) (sym (new-count which im Label))
@@ -65,13 +53,21 @@ module _ (s : goal.Start) where
   laid : (kind : Kind) (place : ℕ) → place ≡ first_in counts records kind → new_kind which im kind place ≡ kind_laid counts records kind
   laid kind place e = rw (e, ← new-count which im kind)
 
--- where the labels and the users start
-module _ (k : goal.After-blocks_for) where
-  label-place : 1 + c.blocks_for-label_place.result ≡ first_in (counts k) (records k) Label
-  label-place = ap (λ (x : ℕ). 1 + x) (c.blocks_for-label_place.ensures.0 ∙ blocks-are k Component)
+  -- where the labels and the users start
+  label-place : {components : ℕ} → components ≡ new_blocks which im Component → 1 + components ≡ first_in counts records Label
+  label-place c = ap (λ (x : ℕ). 1 + x) (c ∙ blocks-are Component)
 
-  user-place : 1 + c.blocks_for-label_place.result + c.blocks_for.result ≡ first_in (counts k) (records k) User
-  user-place = ap₂ (λ (x y : ℕ). x + y) label-place (c.blocks_for.ensures.0 ∙ blocks-are k Label)
+  user-place : {components labels : ℕ} → components ≡ new_blocks which im Component → labels ≡ new_blocks which im Label
+      → 1 + components + labels ≡ first_in counts records User
+  user-place c l = ap₂ (λ (x y : ℕ). x + y) (label-place c) (l ∙ blocks-are Label)
+
+  module _ (old : Counted im × (edition_of im ≡ One)) where
+    sizes : (kind : Kind) → Sized (record_size (edition_after which) kind) (records kind)
+    sizes = (new-fits which im old.0.fitted old.1).sizes
+
+    room : {long : ℕ} → length (new_image which im) ≤ long → length (image_of counts records) ≤ long
+    unfolding new_image
+    room h = h
 
 pub blocks_for-label_place-requires : goal.blocks_for-label_place-requires
 blocks_for-label_place-requires c = header-inside _ c.requires.counted.0.fitted
@@ -81,38 +77,61 @@ blocks_for-requires c = header-inside _ c.requires.counted.0.fitted
 
 pub put_counts-head-requires : goal.put_counts-head-requires
 put_counts-head-requires c =
-    let fit = c.requires.counted.0.fitted in
-    let long = moved_length (which s) (im s) fit c.requires.counted.1 in
-    (header-inside _ fit, (old-groups _ c.requires.counted.1 c.requires.counted.0.groups_limit, omega (arith, c.requires.image_in_bounds)))
+    let old = c.requires.counted in
+    let long = moved_length c.args.which c.args.image.now old.0.fitted old.1 in
+    (header-inside _ old.0.fitted, (old-groups _ old.1 old.0.groups_limit, omega (arith, c.requires.image_in_bounds)))
 
 pub move_kind-components-requires : goal.move_kind-components-requires
 move_kind-components-requires c =
-    let head = written_same (header_is s) c.put_counts-head.ensures in (
-      (c.requires.counted.0.fitted, (c.requires.counted.1, (place-fits (which s) (im s) c.requires.counted.0).0)),
-      rw (blocks-are s Component) (components-room (counts s) (records s) (sizes s) (room s) head),
-    )
+    let which = c.args.which in
+    let im = c.args.image.now in
+    let old = c.requires.counted in
+    let inside = room which im old c.requires.image_in_bounds in
+    let head = written_same (header_is which im) c.put_counts-head.ensures in
+    record {
+      fitted = (old.0.fitted, (old.1, (place-fits which im old.0).0));
+      kind_in_bounds = rw (blocks-are which im Component) (components-room (counts which im) (records which im) (sizes which im old) inside head);
+    }
 
 pub move_kind-labels-requires : goal.move_kind-labels-requires
 move_kind-labels-requires c =
-    let place = (place-fits (which s) (im s) c.requires.counted.0).1.0 in
-    let head = written_same (header_is s) c.put_counts-head.ensures in
-    let first = written_same (laid s Component 1 refl) c.move_kind-components.ensures in (
-      (c.requires.counted.0.fitted, (c.requires.counted.1, omega (arith, c.blocks_for-label_place.ensures.0))),
-      rw (blocks-are s Label) (labels-room (counts s) (records s) (sizes s) (room s) head first),
-    )
+    let which = c.args.which in
+    let im = c.args.image.now in
+    let old = c.requires.counted in
+    let place = (place-fits which im old.0).1.0 in
+    let inside = room which im old c.requires.image_in_bounds in
+    let head = written_same (header_is which im) c.put_counts-head.ensures in
+    let first = written_same (laid which im Component 1 refl) c.move_kind-components.ensures in
+    record {
+      fitted = (old.0.fitted, (old.1, omega (arith, c.blocks_for-label_place.ensures.0)));
+      kind_in_bounds = rw (blocks-are which im Label) (labels-room (counts which im) (records which im) (sizes which im old) inside head first);
+    }
 
 pub move_kind-requires : goal.move_kind-requires
 move_kind-requires c =
-    let place = (place-fits (which s) (im s) c.requires.counted.0).1.1 in
-    let head = written_same (header_is s) c.put_counts-head.ensures in
-    let first = written_same (laid s Component 1 refl) c.move_kind-components.ensures in
-    let second = written_same (laid s Label _ (label-place n)) c.move_kind-labels.ensures in record { fitted = (c.requires.counted.0.fitted, (c.requires.counted.1, omega (arith, c.blocks_for-label_place.ensures.0, c.blocks_for.ensures.0))); kind_in_bounds = rw (blocks-are s User) (users-room (counts s) (records s) (sizes s) (room s) head first second) }
+    let which = c.args.which in
+    let im = c.args.image.now in
+    let old = c.requires.counted in
+    let place = (place-fits which im old.0).1.1 in
+    let inside = room which im old c.requires.image_in_bounds in
+    let head = written_same (header_is which im) c.put_counts-head.ensures in
+    let first = written_same (laid which im Component 1 refl) c.move_kind-components.ensures in
+    let second = written_same (laid which im Label _ (label-place which im c.blocks_for-label_place.ensures.0)) c.move_kind-labels.ensures in
+    record {
+      fitted = (old.0.fitted, (old.1, omega (arith, c.blocks_for-label_place.ensures.0, c.blocks_for.ensures.0)));
+      kind_in_bounds = rw (blocks-are which im User) (users-room (counts which im) (records which im) (sizes which im old) inside head first second);
+    }
 
 pub returns : goal.returns
 unfolding new_image
 returns c =
-    let head = written_same (header_is s) c.put_counts-head.ensures in
-    let first = written_same (laid s Component 1 refl) c.move_kind-components.ensures in
-    let second = written_same (laid s Label _ (label-place n)) c.move_kind-labels.ensures in
-    let third = written_same (laid s User _ (user-place n)) c.move_kind.ensures in
-    image-written (counts s) (records s) (sizes s) (room s) head first second third
+    let which = c.args.which in
+    let im = c.args.image.now in
+    let old = c.requires.counted in
+    let inside = room which im old c.requires.image_in_bounds in
+    let head = written_same (header_is which im) c.put_counts-head.ensures in
+    let first = written_same (laid which im Component 1 refl) c.move_kind-components.ensures in
+    let second = written_same (laid which im Label _ (label-place which im c.blocks_for-label_place.ensures.0)) c.move_kind-labels.ensures in
+    let users = user-place which im c.blocks_for-label_place.ensures.0 c.blocks_for.ensures.0 in
+    let third = written_same (laid which im User _ users) c.move_kind.ensures in
+    image-written (counts which im) (records which im) (sizes which im old) inside head first second third

@@ -1,6 +1,5 @@
 use mathlib.Core.Path.{sym, ◌∙◌}
 use native.Mathlib.Omega.{arith}
-use borrow.Author.Tests.{not-true, not-false}
 use Rattle.blocks.specs.Blocks.{block_count}
 use Rattle.blocks.proofs.Meaning.{length-means}
 use Rattle.moves.specs.Moving.{framed_two}

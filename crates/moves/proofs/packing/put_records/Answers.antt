@@ -11,16 +11,17 @@ loop-i-init c = left-start _ _ _ _ refl
 
 pub put_record-end-requires : goal.put_record-end-requires
 put_record-end-requires c =
-    let pre = (c.requires.fitted, c.requires.to_in_bounds) in
+    let fitted = c.requires.fitted in
     let im = c.args.image.now in
     let kind = c.args.kind in
     let which = c.args.which in
     let i = c.loop-i.i in
-    let step = run_step which im kind i _ c.loop-i-test.true pre.0.1.1 in
-    let fits = left-room _ _ _ _ _ _ c.loop-i.invariant (new_record which kind (record_at im kind i)) _ step pre.1 in (
-      (pre.0.0, (pre.0.1.0, omega arith)),
-      rw (new-long which im kind pre.0.0 pre.0.1.0 i (omega arith)) at fits,
-    )
+    let step = run_step which im kind i _ c.loop-i-test.true fitted.1.1 in
+    let fits = left-room _ _ _ _ _ _ c.loop-i.invariant (new_record which kind (record_at im kind i)) _ step c.requires.to_in_bounds in
+    record {
+      fitted = (fitted.0, (fitted.1.0, omega arith));
+      kind_in_bounds = rw (new-long which im kind fitted.0 fitted.1.0 i (omega arith)) at fits;
+    }
 
 pub overflow_add-i : goal.overflow_add-i
 overflow_add-i c = omega arith
@@ -30,9 +31,8 @@ loop-i-smaller c = omega arith
 
 pub loop-i-preserved : goal.loop-i-preserved
 loop-i-preserved c =
-    let pre = (c.requires.fitted, c.requires.to_in_bounds) in
-    let step = run_step c.args.which _ _ _ _ c.loop-i-test.true pre.0.1.1 in
-    left-turn _ _ _ _ _ _ c.loop-i.invariant _ _ step _ _ pre.1 c.put_record-end.ensures
+    let step = run_step c.args.which _ _ _ _ c.loop-i-test.true c.requires.fitted.1.1 in
+    left-turn _ _ _ _ _ _ c.loop-i.invariant _ _ step _ _ c.requires.to_in_bounds c.put_record-end.ensures
 
 pub shape_of-buffer : goal.shape_of-buffer
 shape_of-buffer c = c.loop-i.invariant.long

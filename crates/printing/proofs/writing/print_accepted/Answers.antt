@@ -20,10 +20,7 @@ returns-then-buffer-text_length c =
 
 pub write_text-length-requires : goal.write_text-length-requires
 write_text-length-requires c =
-    (
-      (c.requires, sym c.label_exists.ensures ∙ c.if-not-label_exists.false),
-      rw (← c.text_length.ensures) c.if-buffer-text_length.false,
-    )
+    record { accepted = (c.requires, sym c.label_exists.ensures ∙ c.if-not-label_exists.false); label_in_bounds = rw (← c.text_length.ensures) c.if-buffer-text_length.false }
 
 pub returns : goal.returns
 returns c =

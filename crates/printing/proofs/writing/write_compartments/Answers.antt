@@ -6,11 +6,13 @@ use Rattle.printing.proofs.writing.write_compartments.Goals as goal
 pub compartments-count-requires : goal.compartments-count-requires
 compartments-count-requires c = header-inside _ (accepted-counted _ c.requires.accepted).fitted
 
-pub write_section-requires : goal.write_section-requires
-write_section-requires c =
-    let pre = (c.requires.accepted, c.requires.set_in_bounds) in
-    let whole = rw (c.compartments-count.ensures.0, c.of_word-places.ensures) (named-compartments _ pre.0, pre.1) in
-    record { named = whole.0; set_in_bounds = whole.1 }
+pub write_section-requires-clause-named : goal.write_section-requires-clause-named
+write_section-requires-clause-named c =
+    rw c.compartments-count.ensures.0 (named-compartments _ c.requires.accepted)
+
+pub write_section-requires-clause-set_in_bounds : goal.write_section-requires-clause-set_in_bounds
+write_section-requires-clause-set_in_bounds c =
+    rw (c.compartments-count.ensures.0, c.of_word-places.ensures) c.requires.set_in_bounds
 
 pub returns : goal.returns
 returns c =

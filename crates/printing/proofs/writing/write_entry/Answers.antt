@@ -22,7 +22,7 @@ put-requires c =
     rw length-set (entry-room _ _ _ _ _ _ h c.name_of-name.ensures.0 c.requires.place_in_bounds)
 
 pub shape_of-buffer : goal.shape_of-buffer
-shape_of-buffer c = rw length-set at c.put.auto.1.0
+shape_of-buffer c = rw length-set at c.put.auto.buffer
 
 pub returns : goal.returns
 returns c =

@@ -12,14 +12,10 @@ loop-p-init c = (zero-le, left-start _ _ _ _ (rw sub-zero))
 
 pub write_entry-end-requires : goal.write_entry-end-requires
 write_entry-end-requires c =
-    let pre = (c.requires.named, c.requires.count_in_bounds) in
     let a = c.args in
     let p = c.loop-p.p in
     let turn = c.loop-p-test.true in
-    let step = listed-step a.image.now a.class (places_of a.set) a.count p turn in (
-      (pre.0.accepted, pre.0.present _ turn),
-      left-room _ _ _ _ _ _ c.loop-p.invariant.1 (entry_at a.image.now a.class (places_of a.set) p) _ step pre.1,
-    )
+    let step = listed-step a.image.now a.class (places_of a.set) a.count p turn in record { accepted = (c.requires.named.accepted, c.requires.named.present _ turn); place_in_bounds = left-room _ _ _ _ _ _ c.loop-p.invariant.1 (entry_at a.image.now a.class (places_of a.set) p) _ step c.requires.count_in_bounds }
 
 pub overflow_add-p : goal.overflow_add-p
 overflow_add-p c = omega arith

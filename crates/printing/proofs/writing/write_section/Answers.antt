@@ -4,12 +4,11 @@ use Rattle.printing.proofs.writing.write_section.Goals as goal
 
 pub write_list-end-requires : goal.write_list-end-requires
 write_list-end-requires c =
-    let pre = (c.requires.named, c.requires.set_in_bounds) in
-    (pre.0, list-room _ _ _ _ _ _ pre.1)
+    record { named = c.requires.named; count_in_bounds = list-room _ _ _ _ _ _ c.requires.set_in_bounds }
 
 pub bounds-buffer-at : goal.bounds-buffer-at
 bounds-buffer-at c =
-    let e = c.write_list-end.auto.1.1.1.1.0 in
+    let e = c.write_list-end.auto.buffer in
     let h = colon-room _ _ _ _ _ _ c.requires.set_in_bounds in
     omega (arith, e, h)
 

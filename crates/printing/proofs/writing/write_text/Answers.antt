@@ -7,8 +7,7 @@ use Rattle.printing.proofs.writing.write_text.Goals as goal
 
 pub name_of-name-requires : goal.name_of-name-requires
 name_of-name-requires c =
-    let pre = (c.requires.accepted, c.requires.label_in_bounds) in
-    (pre.0.0, has-level _ _ pre.0.1)
+    (c.requires.accepted.0, has-level _ _ c.requires.accepted.1)
 
 pub put-level-requires : goal.put-level-requires
 put-level-requires c =
@@ -23,10 +22,7 @@ returns-then-is_empty c =
 pub write_compartments-first-requires : goal.write_compartments-first-requires
 write_compartments-first-requires c =
     let some-list : (empty (marks_of c.args.label).groups && empty (marks_of c.args.label).compartments) ≡ false = told c.is_empty.ensures c.is_empty-2.ensures c.if-is_empty.false in
-    (
-      c.requires.accepted.0,
-      room-first _ _ _ _ c.name_of-name.ensures.0 c.requires.label_in_bounds some-list c.put-level.ensures,
-    )
+    record { accepted = c.requires.accepted.0; set_in_bounds = room-first _ _ _ _ c.name_of-name.ensures.0 c.requires.label_in_bounds some-list c.put-level.ensures }
 
 pub returns-then-is_empty-2 : goal.returns-then-is_empty-2
 returns-then-is_empty-2 c =

@@ -39,26 +39,11 @@ pub overflow_add-i : goal.overflow_add-i
 overflow_add-i c =
     omega (arith, c.requires.1.1, c.loop-j-test.true)
 
-pub overflow_sub-n : goal.overflow_sub-n
-overflow_sub-n c = omega (arith, c.loop-j-test.true)
-
-pub class_left-requires : goal.class_left-requires
-class_left-requires c = omega (arith, c.loop-j-test.true)
-
 pub overflow_add-to : goal.overflow_add-to
 overflow_add-to c = omega (arith, c.class_left.ensures.upto, c.loop-j-test.true)
 
-pub overflow_mul-j : goal.overflow_mul-j
-overflow_mul-j c = omega (arith, c.loop-j-test.true)
-
 pub overflow_mul-to : goal.overflow_mul-to
 overflow_mul-to c = omega (arith, c.class_left.ensures.upto, c.loop-j-test.true)
-
-pub slice_bounds-first_bad_in_class-count : goal.slice_bounds-first_bad_in_class-count
-slice_bounds-first_bad_in_class-count c = omega arith
-
-pub slice_bounds-first_bad_in_class-start : goal.slice_bounds-first_bad_in_class-start
-slice_bounds-first_bad_in_class-start c = omega arith
 
 pub slice_bounds-first_bad_in_class-end : goal.slice_bounds-first_bad_in_class-end
 slice_bounds-first_bad_in_class-end c = omega (arith, c.class_left.ensures.upto, c.loop-j-test.true)
@@ -73,36 +58,31 @@ first_bad_in_class-requires c =
 
 pub overflow_add-bad : goal.overflow_add-bad
 overflow_add-bad c =
-    let found_in : let l = c.loop-j in let a = c.args in l.j + c.first_bad_in_class.result ≡ first_bad (run_rule Component a.counts a.k a.previous.now a.run.now) (l.j + c.class_left.result - l.j) l.j = (
     let l = c.loop-j in
     let a = c.args in
     let ends : l.j + (length a.run.now / 40 - l.j) ≡ length a.run.now / 40 = omega (arith, c.loop-j-test.true) in
+    let rule = run_rule Component a.counts a.k a.previous.now a.run.now in
+    let found : l.j + c.first_bad_in_class.result ≡ first_bad rule (l.j + c.class_left.result - l.j) l.j =
     ap (λ (m : ℕ). l.j + m) c.first_bad_in_class.ensures
     ∙ in-class a.counts a.k a.previous.now a.run.now l.j _ _ _ c.class_left.ensures ends _ c.asked_at.ensures
-    (l.invariant.1.0 c.loop-j-test.true) (λ i. (c.type_inv.run i).fits)
-    ) in
-    let l = c.loop-j in
-    let a = c.args in
-    let rule = run_rule Component a.counts a.k a.previous.now a.run.now in
+    (l.invariant.1.0 c.loop-j-test.true) (λ i. (c.type_inv.run i).fits) in
     let upto = bad-upto rule (l.j + c.class_left.result - l.j) l.j in
-    omega (arith, found_in, upto, c.class_left.ensures.upto, c.loop-j-test.true)
+    omega (arith, found, upto, c.class_left.ensures.upto, c.loop-j-test.true)
 
 pub returns-then-bad-to : goal.returns-then-bad-to
 returns-then-bad-to c =
-    let found_in : let l = c.loop-j in let a = c.args in l.j + c.first_bad_in_class.result ≡ first_bad (run_rule Component a.counts a.k a.previous.now a.run.now) (l.j + c.class_left.result - l.j) l.j = (
     let l = c.loop-j in
     let a = c.args in
     let ends : l.j + (length a.run.now / 40 - l.j) ≡ length a.run.now / 40 = omega (arith, c.loop-j-test.true) in
+    let rule = run_rule Component a.counts a.k a.previous.now a.run.now in
+    let found : l.j + c.first_bad_in_class.result ≡ first_bad rule (l.j + c.class_left.result - l.j) l.j =
     ap (λ (m : ℕ). l.j + m) c.first_bad_in_class.ensures
     ∙ in-class a.counts a.k a.previous.now a.run.now l.j _ _ _ c.class_left.ensures ends _ c.asked_at.ensures
-    (l.invariant.1.0 c.loop-j-test.true) (λ i. (c.type_inv.run i).fits)
-    ) in
-    let l = c.loop-j in
-    let a = c.args in
+    (l.invariant.1.0 c.loop-j-test.true) (λ i. (c.type_inv.run i).fits) in
     let to : ℕ = l.j + c.class_left.result in
     let low : l.j ≤ to = omega arith in
     let high : to ≤ length a.run.now / 40 = omega (arith, c.class_left.ensures.upto, c.loop-j-test.true) in
-    part-bad _ _ _ _ _ _ low high l.invariant.1.1 found_in c.if-bad-to.true
+    part-bad _ _ _ _ _ _ low high l.invariant.1.1 found c.if-bad-to.true
 
 pub loop-j-smaller : goal.loop-j-smaller
 loop-j-smaller c =
@@ -110,16 +90,14 @@ loop-j-smaller c =
 
 pub loop-j-preserved : goal.loop-j-preserved
 loop-j-preserved c =
-    let found_in : let l = c.loop-j in let a = c.args in l.j + c.first_bad_in_class.result ≡ first_bad (run_rule Component a.counts a.k a.previous.now a.run.now) (l.j + c.class_left.result - l.j) l.j = (
     let l = c.loop-j in
     let a = c.args in
     let ends : l.j + (length a.run.now / 40 - l.j) ≡ length a.run.now / 40 = omega (arith, c.loop-j-test.true) in
+    let rule = run_rule Component a.counts a.k a.previous.now a.run.now in
+    let found : l.j + c.first_bad_in_class.result ≡ first_bad rule (l.j + c.class_left.result - l.j) l.j =
     ap (λ (m : ℕ). l.j + m) c.first_bad_in_class.ensures
     ∙ in-class a.counts a.k a.previous.now a.run.now l.j _ _ _ c.class_left.ensures ends _ c.asked_at.ensures
-    (l.invariant.1.0 c.loop-j-test.true) (λ i. (c.type_inv.run i).fits)
-    ) in
-    let l = c.loop-j in
-    let a = c.args in
+    (l.invariant.1.0 c.loop-j-test.true) (λ i. (c.type_inv.run i).fits) in
     let class = c.class_left.ensures in
     let to : ℕ = l.j + c.class_left.result in
     let low : l.j ≤ to = omega arith in
@@ -127,7 +105,7 @@ loop-j-preserved c =
     let at : a.k + l.j + c.class_left.result ≡ a.k + to = omega arith in
     let begins : to < length a.run.now / 40 → a.k + to ≡ class_start a.counts (a.k + to) =
     λ h. subst (λ (i : ℕ). i ≡ class_start a.counts i) at (class.begins (omega arith)) in
-    (high, ((λ h. low_first _ _ _ (begins h)), part-good _ _ _ _ _ _ low high l.invariant.1.1 found_in c.if-bad-to.false))
+    (high, ((λ h. low_first _ _ _ (begins h)), part-good _ _ _ _ _ _ low high l.invariant.1.1 found c.if-bad-to.false))
 
 pub returns : goal.returns
 returns c = loop-end _ _ _ _ c.loop-j-test.false c.loop-j.invariant.1.1

@@ -1,9 +1,8 @@
 use Rattle.std.proofs.Common.{◌≡◌, ℕ, ◌+◌, ◌/◌, sym, refl, ap, ◌∙◌, ap₂, arith}
-use borrow.Author.Tests.{not-true, not-false}
 use Rattle.records.specs.Fields.{numeric_form}
 use Rattle.records.specs.ComponentRuns.{component_after, low_at, run_asked}
 use Rattle.records.proofs.ComponentTests.{low-next}
-use Rattle.records.proofs.Running.{Turn, room, part-is, part-long, walk_start, walk-next, walk-bad, walk_end, place_is, walk-placed}
+use Rattle.records.proofs.Running.{turn_of, room, part-is, part-long, walk_start, walk-next, walk-bad, walk_end, place_is, walk-placed}
 use Rattle.records.proofs.component_run.first_bad_in_class.Goals as goal
 
 pub loop-at-init : goal.loop-at-init
@@ -11,56 +10,22 @@ loop-at-init c = (walk-placed _ 40 _ 0 0 (omega arith) (walk_start _ 40 _), refl
 
 pub overflow_add-rec : goal.overflow_add-rec
 overflow_add-rec c =
-    let turn_at : Turn 40 c.args.run.now c.loop-at.at (c.loop-at.at / 40) = (
-    record {
-      some = omega arith;
-      whole = c.requires;
-      stands = c.loop-at.invariant.0.stands;
-      more = c.loop-at-test.true;
-    }
-    ) in
+    let turn_at = turn_of c.loop-at.invariant.0 (omega arith) c.requires c.loop-at-test.true in
     omega (arith, room turn_at)
-
-pub slice_bounds-rec-count : goal.slice_bounds-rec-count
-slice_bounds-rec-count c = omega arith
-
-pub slice_bounds-rec-start : goal.slice_bounds-rec-start
-slice_bounds-rec-start c = omega arith
 
 pub slice_bounds-rec-end : goal.slice_bounds-rec-end
 slice_bounds-rec-end c =
-    let turn_at : Turn 40 c.args.run.now c.loop-at.at (c.loop-at.at / 40) = (
-    record {
-      some = omega arith;
-      whole = c.requires;
-      stands = c.loop-at.invariant.0.stands;
-      more = c.loop-at-test.true;
-    }
-    ) in
+    let turn_at = turn_of c.loop-at.invariant.0 (omega arith) c.requires c.loop-at-test.true in
     omega (arith, room turn_at)
 
 pub component_fits-requires : goal.component_fits-requires
 component_fits-requires c =
-    let turn_at : Turn 40 c.args.run.now c.loop-at.at (c.loop-at.at / 40) = (
-    record {
-      some = omega arith;
-      whole = c.requires;
-      stands = c.loop-at.invariant.0.stands;
-      more = c.loop-at-test.true;
-    }
-    ) in
+    let turn_at = turn_of c.loop-at.invariant.0 (omega arith) c.requires c.loop-at-test.true in
     part-long turn_at
 
 pub returns-then-not-component_fits : goal.returns-then-not-component_fits
 returns-then-not-component_fits c =
-    let turn_at : Turn 40 c.args.run.now c.loop-at.at (c.loop-at.at / 40) = (
-    record {
-      some = omega arith;
-      whole = c.requires;
-      stands = c.loop-at.invariant.0.stands;
-      more = c.loop-at-test.true;
-    }
-    ) in
+    let turn_at = turn_of c.loop-at.invariant.0 (omega arith) c.requires c.loop-at-test.true in
     let rule-asked : let a = c.args in c.component_fits.result ≡ run_asked a.asked a.first a.run.now (c.loop-at.at / 40) = (
     let a = c.args in
     c.component_fits.ensures ∙ ap₂ (component_after a.asked) c.loop-at.invariant.1 (part-is turn_at)
@@ -69,14 +34,7 @@ returns-then-not-component_fits c =
 
 pub number2-low-requires : goal.number2-low-requires
 number2-low-requires c =
-    let turn_at : Turn 40 c.args.run.now c.loop-at.at (c.loop-at.at / 40) = (
-    record {
-      some = omega arith;
-      whole = c.requires;
-      stands = c.loop-at.invariant.0.stands;
-      more = c.loop-at-test.true;
-    }
-    ) in
+    let turn_at = turn_of c.loop-at.invariant.0 (omega arith) c.requires c.loop-at-test.true in
     omega (arith, part-long turn_at)
 
 pub overflow_add-low : goal.overflow_add-low
@@ -84,30 +42,12 @@ overflow_add-low c = omega (arith, c.number2-low.ensures.1)
 
 pub overflow_add-at : goal.overflow_add-at
 overflow_add-at c =
-    let turn_at : Turn 40 c.args.run.now c.loop-at.at (c.loop-at.at / 40) = (
-    record {
-      some = omega arith;
-      whole = c.requires;
-      stands = c.loop-at.invariant.0.stands;
-      more = c.loop-at-test.true;
-    }
-    ) in
+    let turn_at = turn_of c.loop-at.invariant.0 (omega arith) c.requires c.loop-at-test.true in
     omega (arith, room turn_at)
-
-pub loop-at-smaller : goal.loop-at-smaller
-loop-at-smaller c =
-    omega (arith, c.loop-at-test.true)
 
 pub loop-at-preserved : goal.loop-at-preserved
 loop-at-preserved c =
-    let turn_at : Turn 40 c.args.run.now c.loop-at.at (c.loop-at.at / 40) = (
-    record {
-      some = omega arith;
-      whole = c.requires;
-      stands = c.loop-at.invariant.0.stands;
-      more = c.loop-at-test.true;
-    }
-    ) in
+    let turn_at = turn_of c.loop-at.invariant.0 (omega arith) c.requires c.loop-at-test.true in
     let rule-asked : let a = c.args in c.component_fits.result ≡ run_asked a.asked a.first a.run.now (c.loop-at.at / 40) = (
     let a = c.args in
     c.component_fits.ensures ∙ ap₂ (component_after a.asked) c.loop-at.invariant.1 (part-is turn_at)

@@ -2,7 +2,7 @@ use Rattle.std.proofs.Common.{◌≡◌, ℕ, Bool, not, List, sym, ap, ◌∙�
 use Rattle.fields.specs.Names.{same_bytes, in_letters}
 use Rattle.records.specs.Fields.{component_name}
 use Rattle.records.specs.Rules.{other_name, run_named}
-use Rattle.records.proofs.Running.{Turn, places-few, room, part-is, part-long, walk_start, walk-next, walk-bad, walk_end}
+use Rattle.records.proofs.Running.{turn_of, places-few, room, part-is, part-long, walk_start, walk-next, walk-bad, walk_end}
 use Rattle.records.proofs.components.first_in_run.Goals as goal
 
 pub loop-at-init : goal.loop-at-init
@@ -10,54 +10,23 @@ loop-at-init c = walk_start _ 40 _
 
 pub overflow_add-at : goal.overflow_add-at
 overflow_add-at c =
-    let turn_at : Turn 40 c.args.run.now c.loop-at.at c.loop-at.j = (
-    record {
-      some = omega arith;
-      whole = c.requires;
-      stands = c.loop-at.invariant.stands;
-      more = c.loop-at-test.true;
-    }
-    ) in
+    let turn_at = turn_of c.loop-at.invariant (omega arith) c.requires c.loop-at-test.true in
     omega (arith, room turn_at)
-
-pub slice_bounds-is_named-count : goal.slice_bounds-is_named-count
-slice_bounds-is_named-count c = omega arith
 
 pub slice_bounds-is_named-end : goal.slice_bounds-is_named-end
 slice_bounds-is_named-end c =
-    let turn_at : Turn 40 c.args.run.now c.loop-at.at c.loop-at.j = (
-    record {
-      some = omega arith;
-      whole = c.requires;
-      stands = c.loop-at.invariant.stands;
-      more = c.loop-at-test.true;
-    }
-    ) in
+    let turn_at = turn_of c.loop-at.invariant (omega arith) c.requires c.loop-at-test.true in
     omega (arith, room turn_at)
 
 pub is_named-requires : goal.is_named-requires
 is_named-requires c =
-    let turn_at : Turn 40 c.args.run.now c.loop-at.at c.loop-at.j = (
-    record {
-      some = omega arith;
-      whole = c.requires;
-      stands = c.loop-at.invariant.stands;
-      more = c.loop-at-test.true;
-    }
-    ) in
+    let turn_at = turn_of c.loop-at.invariant (omega arith) c.requires c.loop-at-test.true in
     part-long turn_at
 
 pub returns-then-is_named : goal.returns-then-is_named
 unfolding other_name
 returns-then-is_named c =
-    let turn_at : Turn 40 c.args.run.now c.loop-at.at c.loop-at.j = (
-    record {
-      some = omega arith;
-      whole = c.requires;
-      stands = c.loop-at.invariant.stands;
-      more = c.loop-at-test.true;
-    }
-    ) in
+    let turn_at = turn_of c.loop-at.invariant (omega arith) c.requires c.loop-at-test.true in
     let rule-asked : let a = c.args in run_named a.run.now (in_letters a.letters a.name.now) c.loop-at.j ≡ not c.is_named.result = (
     let a = c.args in
     let named : List ℕ → Bool = λ rec. not (same_bytes (component_name rec) (in_letters a.letters a.name.now)) in
@@ -65,45 +34,20 @@ returns-then-is_named c =
     ) in
     walk-bad turn_at _ c.loop-at.invariant.left (rule-asked ∙ ap not c.if-is_named.true)
 
-pub overflow_add-at : goal.overflow_add-at
-overflow_add-at c =
-    let turn_at : Turn 40 c.args.run.now c.loop-at.at c.loop-at.j = (
-    record {
-      some = omega arith;
-      whole = c.requires;
-      stands = c.loop-at.invariant.stands;
-      more = c.loop-at-test.true;
-    }
-    ) in
+pub overflow_add-at-in-loop-at : goal.overflow_add-at-in-loop-at
+overflow_add-at-in-loop-at c =
+    let turn_at = turn_of c.loop-at.invariant (omega arith) c.requires c.loop-at-test.true in
     omega (arith, room turn_at)
 
 pub overflow_add-j : goal.overflow_add-j
 overflow_add-j c =
-    let turn_at : Turn 40 c.args.run.now c.loop-at.at c.loop-at.j = (
-    record {
-      some = omega arith;
-      whole = c.requires;
-      stands = c.loop-at.invariant.stands;
-      more = c.loop-at-test.true;
-    }
-    ) in
+    let turn_at = turn_of c.loop-at.invariant (omega arith) c.requires c.loop-at-test.true in
     omega (arith, places-few turn_at)
-
-pub loop-at-smaller : goal.loop-at-smaller
-loop-at-smaller c =
-    omega (arith, c.loop-at-test.true)
 
 pub loop-at-preserved : goal.loop-at-preserved
 unfolding other_name
 loop-at-preserved c =
-    let turn_at : Turn 40 c.args.run.now c.loop-at.at c.loop-at.j = (
-    record {
-      some = omega arith;
-      whole = c.requires;
-      stands = c.loop-at.invariant.stands;
-      more = c.loop-at-test.true;
-    }
-    ) in
+    let turn_at = turn_of c.loop-at.invariant (omega arith) c.requires c.loop-at-test.true in
     let rule-asked : let a = c.args in run_named a.run.now (in_letters a.letters a.name.now) c.loop-at.j ≡ not c.is_named.result = (
     let a = c.args in
     let named : List ℕ → Bool = λ rec. not (same_bytes (component_name rec) (in_letters a.letters a.name.now)) in

@@ -1,13 +1,12 @@
-use Rattle.std.proofs.Common.{◌≡◌, ℕ, ◌+◌, ◌-◌, ◌*◌, ◌/◌, ◌%◌, ◌<◌, ◌≤◌, not, List, length, sym, refl, ap, ◌∙◌, subst, arith}
-use Rattle.fields.specs.Scan.{first_where}
+use Rattle.std.proofs.Common.{◌≡◌, ℕ, ◌+◌, ◌-◌, ◌<◌, ◌≤◌, not, sym, refl, ap, ◌∙◌, subst, arith}
+use Rattle.fields.specs.Scan.{first_bad}
 use Rattle.fields.proofs.Scan.{loop-end, part-bad, part-good, bad-upto}
 use Rattle.header.specs.declared.layout.Kind.TheVariants.{Component}
 use Rattle.header.specs.declared.layout.Shape.{Shape}
 use Rattle.header.specs.Layout.{count_of, shape_of, record_at, Standing, OneBlock}
 use Rattle.header.proofs.Inside.{header-inside, record-upto}
 use Rattle.records.specs.Fresh.{alike}
-use Rattle.records.specs.Rules.{run_record}
-use Rattle.records.proofs.ComponentRuns.{run-taken, run-whole, block_inside, block-bad}
+use Rattle.records.proofs.ComponentRuns.{block_inside, block-whole, block-found}
 use Rattle.records.proofs.fresh.alike_in_image.Goals as goal
 
 pub shape_of-shape-requires : goal.shape_of-shape-requires
@@ -31,108 +30,65 @@ overflow_add-from c =
     let n : c.shape_of-shape.result.count ≡ count_of c.args.image.now Component = ap (λ (x : Shape). x.count) s.is in
     omega (arith, stand.more, s.few)
 
-pub overflow_sub-last : goal.overflow_sub-last
-overflow_sub-last c = omega arith
-
 pub overflow_mul-last : goal.overflow_mul-last
 overflow_mul-last c =
-    let in_block : OneBlock c.args.image.now Component c.loop-from.here.at c.loop-from.from c.lower-to.result = (
-    let stand = c.loop-from.invariant.1.0 c.loop-from-test.true in
-    record { begins = stand.begins; upto = omega (arith, stand.more) }
-    ) in
-    let inside-at : c.loop-from.here.at + 40 * (c.lower-to.result - c.loop-from.from) ≤ length c.args.image.now = (
-    let stand = c.loop-from.invariant.1.0 c.loop-from-test.true in
-    block_inside _ _ _ _ c.requires.0 (omega arith) (omega arith) in_block
-    ) in
-    omega (arith, inside-at)
+    let l = c.loop-from in
+    let stand = l.invariant.1.0 c.loop-from-test.true in
+    let block : OneBlock c.args.image.now Component l.here.at l.from c.lower-to.result =
+    record { begins = stand.begins; upto = omega (arith, stand.more) } in
+    omega (arith, block_inside _ _ _ _ c.requires.0 (omega arith) (omega (arith, stand.more)) block)
 
 pub overflow_add-last : goal.overflow_add-last
 overflow_add-last c =
-    let in_block : OneBlock c.args.image.now Component c.loop-from.here.at c.loop-from.from c.lower-to.result = (
-    let stand = c.loop-from.invariant.1.0 c.loop-from-test.true in
-    record { begins = stand.begins; upto = omega (arith, stand.more) }
-    ) in
-    let inside-at : c.loop-from.here.at + 40 * (c.lower-to.result - c.loop-from.from) ≤ length c.args.image.now = (
-    let stand = c.loop-from.invariant.1.0 c.loop-from-test.true in
-    block_inside _ _ _ _ c.requires.0 (omega arith) (omega arith) in_block
-    ) in
-    omega (arith, inside-at)
-
-pub slice_bounds-first_alike-count : goal.slice_bounds-first_alike-count
-slice_bounds-first_alike-count c = omega arith
+    let l = c.loop-from in
+    let stand = l.invariant.1.0 c.loop-from-test.true in
+    let block : OneBlock c.args.image.now Component l.here.at l.from c.lower-to.result =
+    record { begins = stand.begins; upto = omega (arith, stand.more) } in
+    omega (arith, block_inside _ _ _ _ c.requires.0 (omega arith) (omega (arith, stand.more)) block)
 
 pub slice_bounds-first_alike-end : goal.slice_bounds-first_alike-end
 slice_bounds-first_alike-end c =
-    let in_block : OneBlock c.args.image.now Component c.loop-from.here.at c.loop-from.from c.lower-to.result = (
-    let stand = c.loop-from.invariant.1.0 c.loop-from-test.true in
-    record { begins = stand.begins; upto = omega (arith, stand.more) }
-    ) in
-    let inside-at : c.loop-from.here.at + 40 * (c.lower-to.result - c.loop-from.from) ≤ length c.args.image.now = (
-    let stand = c.loop-from.invariant.1.0 c.loop-from-test.true in
-    block_inside _ _ _ _ c.requires.0 (omega arith) (omega arith) in_block
-    ) in
-    omega (arith, inside-at)
+    let l = c.loop-from in
+    let stand = l.invariant.1.0 c.loop-from-test.true in
+    let block : OneBlock c.args.image.now Component l.here.at l.from c.lower-to.result =
+    record { begins = stand.begins; upto = omega (arith, stand.more) } in
+    omega (arith, block_inside _ _ _ _ c.requires.0 (omega arith) (omega (arith, stand.more)) block)
 
 pub first_alike-requires : goal.first_alike-requires
 first_alike-requires c =
-    let in_block : OneBlock c.args.image.now Component c.loop-from.here.at c.loop-from.from c.lower-to.result = (
-    let stand = c.loop-from.invariant.1.0 c.loop-from-test.true in
-    record { begins = stand.begins; upto = omega (arith, stand.more) }
-    ) in
-    let inside-at : c.loop-from.here.at + 40 * (c.lower-to.result - c.loop-from.from) ≤ length c.args.image.now = (
-    let stand = c.loop-from.invariant.1.0 c.loop-from-test.true in
-    block_inside _ _ _ _ c.requires.0 (omega arith) (omega arith) in_block
-    ) in
-    let im = c.args.image.now in
     let l = c.loop-from in
-    ap (λ (s : List ℕ). length s % 40) (run-taken im l.here.at (c.lower-to.result - l.from)) ∙ run-whole _ _ _ inside-at
+    let stand = l.invariant.1.0 c.loop-from-test.true in
+    let block : OneBlock c.args.image.now Component l.here.at l.from c.lower-to.result =
+    record { begins = stand.begins; upto = omega (arith, stand.more) } in
+    block-whole _ _ _ _ c.requires.0 (omega arith) (omega (arith, stand.more)) block
 
 pub overflow_add-j : goal.overflow_add-j
 overflow_add-j c =
-    let in_block : OneBlock c.args.image.now Component c.loop-from.here.at c.loop-from.from c.lower-to.result = (
-    let stand = c.loop-from.invariant.1.0 c.loop-from-test.true in
-    record { begins = stand.begins; upto = omega (arith, stand.more) }
-    ) in
-    let found_in : let a = c.args in c.loop-from.from + c.first_alike.result ≡ first_where (λ j. alike a.field (record_at a.image.now Component j)) (c.lower-to.result - c.loop-from.from) c.loop-from.from = (
-    let a = c.args in
     let l = c.loop-from in
-    let n : ℕ = c.lower-to.result - l.from in
     let stand = l.invariant.1.0 c.loop-from-test.true in
-    let few : c.lower-to.result ≤ count_of a.image.now Component = omega (arith, c.requires.1.0) in
-    let some : l.from < c.lower-to.result = omega (arith, stand.more) in
-    let is = c.first_alike.ensures
-    ∙ ap (λ (s : List ℕ). first_where (λ j. alike a.field (run_record 40 s j)) (length s / 40) 0) (run-taken a.image.now l.here.at n) in
-    ap (λ (k : ℕ). l.from + k) is
-    ∙ block-bad _ _ _ _ c.requires.0 few some in_block (λ rec. not (alike a.field rec))
-    ) in
+    let block : OneBlock c.args.image.now Component l.here.at l.from c.lower-to.result =
+    record { begins = stand.begins; upto = omega (arith, stand.more) } in
     let a = c.args in
-    let l = c.loop-from in
-    let rest = bad-upto (λ j. not (alike a.field (record_at a.image.now Component j))) (c.lower-to.result - l.from) l.from in
-    omega (arith, found_in, rest)
+    let alike_rule = λ (j : ℕ). not (alike a.field (record_at a.image.now Component j)) in
+    let found : l.from + c.first_alike.result ≡ first_bad alike_rule (c.lower-to.result - l.from) l.from =
+    ap (λ (k : ℕ). l.from + k) c.first_alike.ensures
+    ∙ block-found _ _ _ _ c.requires.0 (omega arith) (omega (arith, stand.more)) block (λ rec. not (alike a.field rec)) in
+    omega (arith, found, bad-upto alike_rule (c.lower-to.result - l.from) l.from)
 
 pub returns-then-j-to : goal.returns-then-j-to
 returns-then-j-to c =
-    let in_block : OneBlock c.args.image.now Component c.loop-from.here.at c.loop-from.from c.lower-to.result = (
-    let stand = c.loop-from.invariant.1.0 c.loop-from-test.true in
-    record { begins = stand.begins; upto = omega (arith, stand.more) }
-    ) in
-    let found_in : let a = c.args in c.loop-from.from + c.first_alike.result ≡ first_where (λ j. alike a.field (record_at a.image.now Component j)) (c.lower-to.result - c.loop-from.from) c.loop-from.from = (
-    let a = c.args in
     let l = c.loop-from in
-    let n : ℕ = c.lower-to.result - l.from in
     let stand = l.invariant.1.0 c.loop-from-test.true in
-    let few : c.lower-to.result ≤ count_of a.image.now Component = omega (arith, c.requires.1.0) in
-    let some : l.from < c.lower-to.result = omega (arith, stand.more) in
-    let is = c.first_alike.ensures
-    ∙ ap (λ (s : List ℕ). first_where (λ j. alike a.field (run_record 40 s j)) (length s / 40) 0) (run-taken a.image.now l.here.at n) in
-    ap (λ (k : ℕ). l.from + k) is
-    ∙ block-bad _ _ _ _ c.requires.0 few some in_block (λ rec. not (alike a.field rec))
-    ) in
+    let block : OneBlock c.args.image.now Component l.here.at l.from c.lower-to.result =
+    record { begins = stand.begins; upto = omega (arith, stand.more) } in
     let a = c.args in
-    let l = c.loop-from in
+    let alike_rule = λ (j : ℕ). not (alike a.field (record_at a.image.now Component j)) in
+    let found : l.from + c.first_alike.result ≡ first_bad alike_rule (c.lower-to.result - l.from) l.from =
+    ap (λ (k : ℕ). l.from + k) c.first_alike.ensures
+    ∙ block-found _ _ _ _ c.requires.0 (omega arith) (omega (arith, stand.more)) block (λ rec. not (alike a.field rec)) in
     let low : l.from ≤ c.lower-to.result = omega arith in
     let high : c.lower-to.result ≤ a.end = omega arith in
-    part-bad _ _ _ _ _ _ low high l.invariant.1.1 found_in c.if-j-to.true
+    part-bad _ _ _ _ _ _ low high l.invariant.1.1 found c.if-j-to.true
 
 pub next_block-here-requires : goal.next_block-here-requires
 next_block-here-requires c =
@@ -153,25 +109,15 @@ loop-from-smaller c =
 
 pub loop-from-preserved : goal.loop-from-preserved
 loop-from-preserved c =
-    let in_block : OneBlock c.args.image.now Component c.loop-from.here.at c.loop-from.from c.lower-to.result = (
-    let stand = c.loop-from.invariant.1.0 c.loop-from-test.true in
-    record { begins = stand.begins; upto = omega (arith, stand.more) }
-    ) in
-    let found_in : let a = c.args in c.loop-from.from + c.first_alike.result ≡ first_where (λ j. alike a.field (record_at a.image.now Component j)) (c.lower-to.result - c.loop-from.from) c.loop-from.from = (
-    let a = c.args in
     let l = c.loop-from in
-    let n : ℕ = c.lower-to.result - l.from in
     let stand = l.invariant.1.0 c.loop-from-test.true in
-    let few : c.lower-to.result ≤ count_of a.image.now Component = omega (arith, c.requires.1.0) in
-    let some : l.from < c.lower-to.result = omega (arith, stand.more) in
-    let is = c.first_alike.ensures
-    ∙ ap (λ (s : List ℕ). first_where (λ j. alike a.field (run_record 40 s j)) (length s / 40) 0) (run-taken a.image.now l.here.at n) in
-    ap (λ (k : ℕ). l.from + k) is
-    ∙ block-bad _ _ _ _ c.requires.0 few some in_block (λ rec. not (alike a.field rec))
-    ) in
-    let l = c.loop-from in
+    let block : OneBlock c.args.image.now Component l.here.at l.from c.lower-to.result =
+    record { begins = stand.begins; upto = omega (arith, stand.more) } in
     let a = c.args in
-    let im = a.image.now in
+    let alike_rule = λ (j : ℕ). not (alike a.field (record_at a.image.now Component j)) in
+    let found : l.from + c.first_alike.result ≡ first_bad alike_rule (c.lower-to.result - l.from) l.from =
+    ap (λ (k : ℕ). l.from + k) c.first_alike.ensures
+    ∙ block-found _ _ _ _ c.requires.0 (omega arith) (omega (arith, stand.more)) block (λ rec. not (alike a.field rec)) in
     let to = c.lower-to.result in
     let low : l.from ≤ to = omega arith in
     let high : to ≤ a.end = omega arith in
@@ -179,8 +125,9 @@ loop-from-preserved c =
     let next = subst (λ (x : Shape). Standing x (l.from + l.here.left) here) c.shape_of-shape.ensures.is c.next_block-here.ensures in (
       high,
       (
-        (λ (m : to < a.end). let q : l.from + l.here.left ≡ to = omega arith in subst (λ (n : ℕ). Standing (shape_of im Component) n here) q next),
-        part-good _ _ _ _ _ _ low high l.invariant.1.1 found_in c.if-j-to.false,
+        (λ (m : to < a.end). let q : l.from + l.here.left ≡ to = omega arith in
+            subst (λ (n : ℕ). Standing (shape_of a.image.now Component) n here) q next),
+        part-good _ _ _ _ _ _ low high l.invariant.1.1 found c.if-j-to.false,
       ),
     )
 

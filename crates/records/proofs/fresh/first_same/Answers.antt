@@ -42,74 +42,59 @@ alike_in_image-requires c =
 
 pub overflow_mul-start : goal.overflow_mul-start
 overflow_mul-start c =
-    let inside-at : let a = c.args in 40 * a.start + 40 * (a.end - a.start) ≤ length a.records.now = (
     let p = c.requires.whole in
     let is = c.in-Run.is in
-    run_inside _ _ _ p.1.1 (rw is at p.0) (rw is at p.1.0)
-    ) in
-    omega (arith, inside-at)
+    let inside = run_inside c.args.records.now c.args.start c.args.end p.1.1 (rw is at p.0) (rw is at p.1.0) in
+    omega (arith, inside)
 
 pub overflow_mul-end : goal.overflow_mul-end
 overflow_mul-end c =
-    let inside-at : let a = c.args in 40 * a.start + 40 * (a.end - a.start) ≤ length a.records.now = (
     let p = c.requires.whole in
     let is = c.in-Run.is in
-    run_inside _ _ _ p.1.1 (rw is at p.0) (rw is at p.1.0)
-    ) in
-    omega (arith, inside-at)
+    let inside = run_inside c.args.records.now c.args.start c.args.end p.1.1 (rw is at p.0) (rw is at p.1.0) in
+    omega (arith, inside)
 
 pub slice_bounds-first_alike-end : goal.slice_bounds-first_alike-end
 slice_bounds-first_alike-end c =
-    let inside-at : let a = c.args in 40 * a.start + 40 * (a.end - a.start) ≤ length a.records.now = (
     let p = c.requires.whole in
     let is = c.in-Run.is in
-    run_inside _ _ _ p.1.1 (rw is at p.0) (rw is at p.1.0)
-    ) in
-    omega (arith, inside-at)
+    let inside = run_inside c.args.records.now c.args.start c.args.end p.1.1 (rw is at p.0) (rw is at p.1.0) in
+    omega (arith, inside)
 
 pub first_alike-requires : goal.first_alike-requires
 first_alike-requires c =
-    let inside-at : let a = c.args in 40 * a.start + 40 * (a.end - a.start) ≤ length a.records.now = (
     let p = c.requires.whole in
     let is = c.in-Run.is in
-    run_inside _ _ _ p.1.1 (rw is at p.0) (rw is at p.1.0)
-    ) in
+    let inside = run_inside c.args.records.now c.args.start c.args.end p.1.1 (rw is at p.0) (rw is at p.1.0) in
     let a = c.args in
-    ap (λ (s : List ℕ). length s % 40) (upto-taken a.records.now a.start a.end) ∙ run-whole _ _ _ inside-at
+    ap (λ (s : List ℕ). length s % 40) (upto-taken a.records.now a.start a.end) ∙ run-whole _ _ _ inside
 
 pub overflow_add-result : goal.overflow_add-result
 overflow_add-result c =
-    let found_in : let a = c.args in a.start + c.first_alike.result ≡ first_bad (λ j. other_name (component_name a.rec.now) (record_in (run_records 40 a.records.now) j)) (a.end - a.start) a.start = (
-    let p = (c.requires.whole, c.requires.in_bounds, c.requires.names_kept) in
     let a = c.args in
     let is = c.in-Run.is in
+    let other = λ (j : ℕ). other_name (component_name a.rec.now) (record_in (run_records 40 a.records.now) j) in
+    let found : a.start + c.first_alike.result ≡ first_bad other (a.end - a.start) a.start =
     ap (λ (n : ℕ). a.start + n) c.first_alike.ensures
-    ∙ in-run a.records.now a.rec.now _ _ p.0.1.1 _ c.field_of-field.ensures p.1.0.1
-    (rw is at p.0.0) (rw is at p.0.1.0) (rw is at p.1.1)
-    ) in
-    let a = c.args in
-    let upto = bad-upto (λ j. other_name (component_name a.rec.now) (record_in (run_records 40 a.records.now) j)) (a.end - a.start) a.start in
-    omega (arith, found_in, upto)
+    ∙ in-run a.records.now a.rec.now _ _ c.requires.whole.1.1 _ c.field_of-field.ensures c.requires.in_bounds.1
+    (rw is at c.requires.whole.0) (rw is at c.requires.whole.1.0) (rw is at c.requires.names_kept) in
+    omega (arith, found, bad-upto other (a.end - a.start) a.start)
 
 pub returns-in-Image : goal.returns-in-Image
 returns-in-Image c =
-    let p = (c.requires.whole, c.requires.in_bounds, c.requires.names_kept) in
     let a = c.args in
     let is = c.in-Image.is in
-    let few : a.end ≤ count_of a.records.now Component = rw (is, records-count) at p.0.1.0 in
-    let kept : NamesKept (records_of a.records.now Component) a.end = rw is at p.1.1 in
+    let few : a.end ≤ count_of a.records.now Component = rw (is, records-count) at c.requires.whole.1.0 in
+    let kept : NamesKept (records_of a.records.now Component) a.end = rw is at c.requires.names_kept in
     rw is
     (c.alike_in_image.ensures
-    ∙ in_image a.records.now a.rec.now _ _ p.0.1.1 _ c.field_of-field.ensures p.1.0.1 few kept)
+    ∙ in_image a.records.now a.rec.now _ _ c.requires.whole.1.1 _ c.field_of-field.ensures c.requires.in_bounds.1 few kept)
 
 pub returns-in-Run : goal.returns-in-Run
 returns-in-Run c =
-    let found_in : let a = c.args in a.start + c.first_alike.result ≡ first_bad (λ j. other_name (component_name a.rec.now) (record_in (run_records 40 a.records.now) j)) (a.end - a.start) a.start = (
-    let p = (c.requires.whole, c.requires.in_bounds, c.requires.names_kept) in
     let a = c.args in
     let is = c.in-Run.is in
-    ap (λ (n : ℕ). a.start + n) c.first_alike.ensures
-    ∙ in-run a.records.now a.rec.now _ _ p.0.1.1 _ c.field_of-field.ensures p.1.0.1
-    (rw is at p.0.0) (rw is at p.0.1.0) (rw is at p.1.1)
-    ) in
-    rw c.in-Run.is found_in
+    rw is
+    (ap (λ (n : ℕ). a.start + n) c.first_alike.ensures
+    ∙ in-run a.records.now a.rec.now _ _ c.requires.whole.1.1 _ c.field_of-field.ensures c.requires.in_bounds.1
+    (rw is at c.requires.whole.0) (rw is at c.requires.whole.1.0) (rw is at c.requires.names_kept))

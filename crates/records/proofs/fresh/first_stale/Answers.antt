@@ -1,159 +1,100 @@
-use Rattle.std.proofs.Common.{◌≡◌, ℕ, ◌+◌, ◌-◌, ◌*◌, ◌<◌, ◌≤◌, List, length, refl, ◌∙◌, arith}
+use Rattle.std.proofs.Common.{◌≡◌, ℕ, ◌+◌, ◌-◌, ◌<◌, ◌≤◌, refl, ◌∙◌, arith}
 use Rattle.fields.specs.Scan.{first_bad}
 use Rattle.fields.proofs.Scan.{loop-end, part-bad, part-good, bad-upto}
-use Rattle.header.specs.declared.counts.Counts.{Counts}
 use Rattle.header.specs.declared.layout.Kind.TheVariants.{Component}
 use Rattle.records.specs.Rules.{fresh_rule}
-use Rattle.records.specs.Fresh.{components_in, Marked}
+use Rattle.records.specs.Fresh.{components_in}
 use Rattle.records.proofs.Marks.{class-marked, class-fresh, part_room, part-holds}
 use Rattle.records.proofs.fresh.first_stale.Goals as goal
-
--- the loop stands at place i; what is left gives what the whole gives
-record Searched (n : Counts) (records : List (List ℕ)) (from to i : ℕ) (filter : List ℕ) : Type 0 where
-  low : from ≤ i
-  upto : i ≤ to
-  marks : Marked n records i filter
-  left : first_bad (fresh_rule Component n records) (to - i) i ≡ first_bad (fresh_rule Component n records) (to - from) from
 
 pub loop-i-init : goal.loop-i-init
 loop-i-init c =
     record { low = omega arith; upto = c.requires.whole.1.0; marks = c.requires.names_kept.1; left = refl }
 
-pub overflow_sub-to : goal.overflow_sub-to
-overflow_sub-to c = omega (arith, c.loop-i-test.true)
-
-pub class_left-requires : goal.class_left-requires
-class_left-requires c = omega (arith, c.loop-i-test.true)
-
 pub overflow_add-end : goal.overflow_add-end
-overflow_add-end c =
-    let ends : let l = c.loop-i in (l.i < l.i + c.class_left.result) × (l.i + c.class_left.result ≤ c.args.to) = (
-    let class = c.class_left.ensures in
-    (class.more, omega (arith, class.upto, c.loop-i-test.true))
-    ) in
-    omega (arith, ends.1)
+overflow_add-end c = omega (arith, c.class_left.ensures.upto, c.loop-i-test.true)
 
 pub overflow_sub-part : goal.overflow_sub-part
 overflow_sub-part c = omega (arith, c.loop-i.invariant.low)
 
 pub overflow_mul-part : goal.overflow_mul-part
 overflow_mul-part c =
-    let ends : let l = c.loop-i in (l.i < l.i + c.class_left.result) × (l.i + c.class_left.result ≤ c.args.to) = (
-    let class = c.class_left.ensures in
-    (class.more, omega (arith, class.upto, c.loop-i-test.true))
-    ) in
-    let room : let l = c.loop-i in let a = c.args in 40 * (l.i + c.class_left.result - a.from) ≤ length a.run.now = (
     let l = c.loop-i in
-    let e = ends in
-    part_room c.requires.holds_from l.i (l.i + c.class_left.result) l.invariant.low (omega (arith, e.0)) e.1
-    ) in
-    omega (arith, room)
+    let class = c.class_left.ensures in
+    let end : ℕ = l.i + c.class_left.result in
+    let upto : end ≤ c.args.to = omega (arith, class.upto, c.loop-i-test.true) in
+    omega (arith, part_room c.requires.holds_from l.i end l.invariant.low (omega (arith, class.more)) upto)
 
 pub overflow_sub-part-in-loop-i : goal.overflow_sub-part-in-loop-i
 overflow_sub-part-in-loop-i c = omega (arith, c.loop-i.invariant.low)
 
 pub overflow_mul-part-in-loop-i : goal.overflow_mul-part-in-loop-i
 overflow_mul-part-in-loop-i c =
-    let ends : let l = c.loop-i in (l.i < l.i + c.class_left.result) × (l.i + c.class_left.result ≤ c.args.to) = (
-    let class = c.class_left.ensures in
-    (class.more, omega (arith, class.upto, c.loop-i-test.true))
-    ) in
-    let room : let l = c.loop-i in let a = c.args in 40 * (l.i + c.class_left.result - a.from) ≤ length a.run.now = (
     let l = c.loop-i in
-    let e = ends in
-    part_room c.requires.holds_from l.i (l.i + c.class_left.result) l.invariant.low (omega (arith, e.0)) e.1
-    ) in
-    omega (arith, room)
-
-pub slice_bounds-part-count : goal.slice_bounds-part-count
-slice_bounds-part-count c = omega arith
-
-pub slice_bounds-part-start : goal.slice_bounds-part-start
-slice_bounds-part-start c = omega arith
+    let class = c.class_left.ensures in
+    let end : ℕ = l.i + c.class_left.result in
+    let upto : end ≤ c.args.to = omega (arith, class.upto, c.loop-i-test.true) in
+    omega (arith, part_room c.requires.holds_from l.i end l.invariant.low (omega (arith, class.more)) upto)
 
 pub slice_bounds-part-end : goal.slice_bounds-part-end
 slice_bounds-part-end c =
-    let ends : let l = c.loop-i in (l.i < l.i + c.class_left.result) × (l.i + c.class_left.result ≤ c.args.to) = (
-    let class = c.class_left.ensures in
-    (class.more, omega (arith, class.upto, c.loop-i-test.true))
-    ) in
-    let room : let l = c.loop-i in let a = c.args in 40 * (l.i + c.class_left.result - a.from) ≤ length a.run.now = (
     let l = c.loop-i in
-    let e = ends in
-    part_room c.requires.holds_from l.i (l.i + c.class_left.result) l.invariant.low (omega (arith, e.0)) e.1
-    ) in
-    room
+    let class = c.class_left.ensures in
+    let end : ℕ = l.i + c.class_left.result in
+    let upto : end ≤ c.args.to = omega (arith, class.upto, c.loop-i-test.true) in
+    part_room c.requires.holds_from l.i end l.invariant.low (omega (arith, class.more)) upto
 
 pub stale_in_class-bad-requires : goal.stale_in_class-bad-requires
 stale_in_class-bad-requires c =
-    let ends : let l = c.loop-i in (l.i < l.i + c.class_left.result) × (l.i + c.class_left.result ≤ c.args.to) = (
-    let class = c.class_left.ensures in
-    (class.more, omega (arith, class.upto, c.loop-i-test.true))
-    ) in
     let l = c.loop-i in
-    let p = (c.requires.whole, c.requires.holds_from, c.requires.names_kept) in
-    let e = ends in
-    let class = c.class_start-start.ensures in (
-      (p.0.0, (class.1, (omega (arith, e.0), omega (arith, e.1, p.0.1.1)))),
-      (
-        part-holds p.1.0 l.i (l.i + c.class_left.result) l.invariant.low (omega (arith, e.0)) e.1,
-        (record { each = λ j h. p.1.1.0.each j (omega (arith, e.1)) }, rw class.0 l.invariant.marks),
-      ),
-    )
+    let class = c.class_left.ensures in
+    let begins = c.class_start-start.ensures in
+    let end : ℕ = l.i + c.class_left.result in
+    let more : l.i < end = omega (arith, class.more) in
+    let upto : end ≤ c.args.to = omega (arith, class.upto, c.loop-i-test.true) in
+    record {
+      whole = (c.requires.whole.0, (begins.1, (omega arith, omega (arith, c.requires.whole.1.1))));
+      holds_from = part-holds c.requires.holds_from l.i end l.invariant.low (omega arith) upto;
+      names_kept = (record { each = λ j h. c.requires.names_kept.0.each j (omega arith) }, rw begins.0 l.invariant.marks);
+    }
 
 pub returns-then-bad-end : goal.returns-then-bad-end
 returns-then-bad-end c =
-    let ends : let l = c.loop-i in (l.i < l.i + c.class_left.result) × (l.i + c.class_left.result ≤ c.args.to) = (
-    let class = c.class_left.ensures in
-    (class.more, omega (arith, class.upto, c.loop-i-test.true))
-    ) in
-    let found_in : let l = c.loop-i in let a = c.args in c.stale_in_class-bad.result ≡ first_bad (fresh_rule Component a.counts (components_in a.source a.records.now)) (l.i + c.class_left.result - l.i) l.i = (
     let l = c.loop-i in
     let a = c.args in
     let records = components_in a.source a.records.now in
-    let to : ℕ = l.i + c.class_left.result in
-    c.stale_in_class-bad.ensures.value ∙ class-fresh a.counts records l.i _ to c.class_left.ensures _ c.class_start-start.ensures.0
-    ) in
-    let l = c.loop-i in
-    let e = ends in
-    let upto = c.if-bad-end.true in
-    (part-bad _ _ _ _ _ _ (omega (arith, e.0)) e.1 l.invariant.left found_in upto, λ w. absurd (omega (arith, upto, e.1, w)))
+    let class = c.class_left.ensures in
+    let end : ℕ = l.i + c.class_left.result in
+    let more : l.i < end = omega (arith, class.more) in
+    let upto : end ≤ a.to = omega (arith, class.upto, c.loop-i-test.true) in
+    let found : c.stale_in_class-bad.result ≡ first_bad (fresh_rule Component a.counts records) (end - l.i) l.i =
+    c.stale_in_class-bad.ensures.value ∙ class-fresh a.counts records l.i _ end class _ c.class_start-start.ensures.0 in
+    record {
+      value = part-bad _ _ _ _ _ _ (omega arith) upto l.invariant.left found c.if-bad-end.true;
+      marked = λ w. absurd (omega (arith, c.if-bad-end.true, upto, w));
+    }
 
 pub loop-i-smaller : goal.loop-i-smaller
-loop-i-smaller c =
-    let ends : let l = c.loop-i in (l.i < l.i + c.class_left.result) × (l.i + c.class_left.result ≤ c.args.to) = (
-    let class = c.class_left.ensures in
-    (class.more, omega (arith, class.upto, c.loop-i-test.true))
-    ) in
-    omega (arith, ends.0, c.loop-i-test.true)
+loop-i-smaller c = omega (arith, c.class_left.ensures.more, c.loop-i-test.true)
 
 pub loop-i-preserved : goal.loop-i-preserved
 loop-i-preserved c =
-    let ends : let l = c.loop-i in (l.i < l.i + c.class_left.result) × (l.i + c.class_left.result ≤ c.args.to) = (
+    let l = c.loop-i in
+    let a = c.args in
+    let records = components_in a.source a.records.now in
     let class = c.class_left.ensures in
-    (class.more, omega (arith, class.upto, c.loop-i-test.true))
-    ) in
-    let found_in : let l = c.loop-i in let a = c.args in c.stale_in_class-bad.result ≡ first_bad (fresh_rule Component a.counts (components_in a.source a.records.now)) (l.i + c.class_left.result - l.i) l.i = (
-    let l = c.loop-i in
-    let a = c.args in
-    let records = components_in a.source a.records.now in
-    let to : ℕ = l.i + c.class_left.result in
-    c.stale_in_class-bad.ensures.value ∙ class-fresh a.counts records l.i _ to c.class_left.ensures _ c.class_start-start.ensures.0
-    ) in
-    let l = c.loop-i in
-    let a = c.args in
-    let records = components_in a.source a.records.now in
-    let to : ℕ = l.i + c.class_left.result in
-    let e = ends in
-    let low : l.i ≤ to = omega (arith, e.0) in
-    let most = bad-upto (fresh_rule Component a.counts records) (to - l.i) l.i in
-    let whole : c.stale_in_class-bad.result ≡ to = omega (arith, found_in, most, c.if-bad-end.false) in
+    let end : ℕ = l.i + c.class_left.result in
+    let low : l.i ≤ end = omega (arith, class.more) in
+    let upto : end ≤ a.to = omega (arith, class.upto, c.loop-i-test.true) in
+    let fresh = fresh_rule Component a.counts records in
+    let found : c.stale_in_class-bad.result ≡ first_bad fresh (end - l.i) l.i =
+    c.stale_in_class-bad.ensures.value ∙ class-fresh a.counts records l.i _ end class _ c.class_start-start.ensures.0 in
+    let whole : c.stale_in_class-bad.result ≡ end = omega (arith, found, bad-upto fresh (end - l.i) l.i, c.if-bad-end.false) in
     record {
       low = omega (arith, l.invariant.low);
-      upto = e.1;
-      marks = class-marked a.counts records l.i _ to c.class_left.ensures _ c.class_start-start.ensures.0 _
-          (c.stale_in_class-bad.ensures.marked_from whole);
-      left = part-good _ _ _ _ _ _ low e.1 l.invariant.left found_in c.if-bad-end.false;
+      upto = upto;
+      marks = class-marked a.counts records l.i _ end class _ c.class_start-start.ensures.0 _ (c.stale_in_class-bad.ensures.marked_from whole);
+      left = part-good _ _ _ _ _ _ low upto l.invariant.left found c.if-bad-end.false;
     }
 
 pub returns : goal.returns

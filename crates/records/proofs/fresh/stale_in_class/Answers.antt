@@ -1,21 +1,12 @@
-use Rattle.std.proofs.Common.{◌≡◌, ℕ, ◌+◌, ◌-◌, ◌*◌, ◌<◌, ◌≤◌, List, length, take, drop, sym, refl, ap, ◌∙◌, ⊎_elim, arith}
+use Rattle.std.proofs.Common.{◌≡◌, ℕ, ◌+◌, ◌-◌, ◌*◌, ◌<◌, ◌≤◌, List, length, take, drop, sym, refl, ap, ◌∙◌, arith}
 use native.Mathlib.Nat.{sub_self, add-sub_cancel_left}
-use borrow.Author.Tests.{not-true, not-false}
-use Rattle.fields.specs.Scan.{first_bad}
 use Rattle.fields.proofs.Laws.{part_length}
 use Rattle.fields.proofs.Scan.{loop-bad, loop-good, loop-end}
-use Rattle.records.specs.Rules.{record_in, new_name_from}
-use Rattle.records.specs.Fresh.{MarkedFrom, HoldsFrom}
+use Rattle.records.specs.Rules.{record_in}
+use Rattle.records.specs.Fresh.{HoldsFrom}
 use Rattle.records.proofs.Marks.{marked-none}
+use Rattle.records.proofs.fresh.stale_in_class.Goals.{then-from-start, else-from-start}
 use Rattle.records.proofs.fresh.stale_in_class.Goals as goal
-
--- the loop stands at the record of place i, which begins at `at`; what is left gives what the whole gives
-record Searched (start : ℕ) (records : List (List ℕ)) (from to at i : ℕ) (filter : List ℕ) : Type 0 where
-  low : from ≤ i
-  upto : i ≤ to
-  stands : at ≡ 40 * (i - from)
-  marks : MarkedFrom records start i filter
-  left : first_bad (new_name_from start records) (to - i) i ≡ first_bad (new_name_from start records) (to - from) from
 
 module _ (records : List (List ℕ)) (run : List ℕ) (from to at i : ℕ) (holds : HoldsFrom records from to run) (low : from ≤ i) (more : i < to)
     (stands : at ≡ 40 * (i - from)) where
@@ -32,12 +23,14 @@ module _ (records : List (List ℕ)) (run : List ℕ) (from to at i : ℕ) (hold
 
 pub loop-i-init : goal.loop-i-init
 loop-i-init c =
-    let p = (c.requires.whole, c.requires.holds_from, c.requires.names_kept) in
     record {
       low = omega arith;
-      upto = p.0.1.1.0;
+      upto = c.requires.whole.1.1.0;
       stands = rw sub_self;
-      marks = ⊎_elim (λ t. marked-none _ _ _ _ t.0.taken) (λ e. rw e.1 p.1.1.1) c.if-from-start.branch;
+      marks = elim c.if-from-start.branch [
+        | then-from-start w ↦ marked-none _ _ _ _ w.if-from-start.true
+        | else-from-start w ↦ rw w.seen-is c.requires.names_kept.1
+      ];
       left = refl;
     }
 
@@ -45,12 +38,6 @@ pub overflow_add-rec : goal.overflow_add-rec
 overflow_add-rec c =
     let turn = c.loop-i in
     omega (arith, room _ _ _ _ _ _ c.requires.holds_from turn.invariant.low c.loop-i-test.true turn.invariant.stands)
-
-pub slice_bounds-rec-count : goal.slice_bounds-rec-count
-slice_bounds-rec-count c = omega arith
-
-pub slice_bounds-rec-start : goal.slice_bounds-rec-start
-slice_bounds-rec-start c = omega arith
 
 pub slice_bounds-rec-end : goal.slice_bounds-rec-end
 slice_bounds-rec-end c =
@@ -60,40 +47,40 @@ slice_bounds-rec-end c =
 pub is_fresh-requires : goal.is_fresh-requires
 is_fresh-requires c =
     let l = c.loop-i in
-    let p = (c.requires.whole, c.requires.holds_from, c.requires.names_kept) in
-    let more = c.loop-i-test.true in record { whole = (p.0.0, (omega (arith, p.0.1.0, l.invariant.low), omega (arith, more, p.0.1.1.1))); rec_value = (held _ _ _ _ _ _ p.1.0 l.invariant.low more l.invariant.stands, held-long _ _ _ _ _ _ p.1.0 l.invariant.low more l.invariant.stands); names_kept = (record { each = λ j h. p.1.1.0.each j (omega arith) }, l.invariant.marks) }
+    let more = c.loop-i-test.true in
+    let holds = c.requires.holds_from in
+    let low = l.invariant.low in
+    let stands = l.invariant.stands in
+    record {
+      whole = (c.requires.whole.0, (omega (arith, c.requires.whole.1.0, low), omega (arith, more, c.requires.whole.1.1.1)));
+      rec_value = (held _ _ _ _ _ _ holds low more stands, held-long _ _ _ _ _ _ holds low more stands);
+      names_kept = (record { each = λ j h. c.requires.names_kept.0.each j (omega arith) }, l.invariant.marks);
+    }
 
 pub returns-then-not-is_fresh : goal.returns-then-not-is_fresh
 returns-then-not-is_fresh c =
     let l = c.loop-i in
-    let fresh = (c.is_fresh.ensures.value, c.is_fresh.ensures.marked_from) in (
-      loop-bad _ _ _ _ c.loop-i-test.true l.invariant.left (sym fresh.0 ∙ c.if-not-is_fresh.true),
-      λ e. absurd (omega (arith, c.loop-i-test.true, e)),
-    )
+    record {
+      value = loop-bad _ _ _ _ c.loop-i-test.true l.invariant.left (sym c.is_fresh.ensures.value ∙ c.if-not-is_fresh.true);
+      marked_from = λ e. absurd (omega (arith, c.loop-i-test.true, e));
+    }
 
 pub overflow_add-at : goal.overflow_add-at
 overflow_add-at c =
     let l = c.loop-i in
     omega (arith, room _ _ _ _ _ _ c.requires.holds_from l.invariant.low c.loop-i-test.true l.invariant.stands)
 
-pub overflow_add-i : goal.overflow_add-i
-overflow_add-i c = omega arith
-
-pub loop-i-smaller : goal.loop-i-smaller
-loop-i-smaller c = omega arith
-
 pub loop-i-preserved : goal.loop-i-preserved
 loop-i-preserved c =
     let l = c.loop-i in
     let inv = l.invariant in
     let more = c.loop-i-test.true in
-    let fresh = (c.is_fresh.ensures.value, c.is_fresh.ensures.marked_from) in
     record {
       low = omega arith;
       upto = omega arith;
       stands = omega (arith, inv.low, inv.stands);
-      marks = fresh.1;
-      left = loop-good _ _ _ _ more inv.left (sym fresh.0 ∙ c.if-not-is_fresh.false);
+      marks = c.is_fresh.ensures.marked_from;
+      left = loop-good _ _ _ _ more inv.left (sym c.is_fresh.ensures.value ∙ c.if-not-is_fresh.false);
     }
 
 pub returns : goal.returns

@@ -8,17 +8,16 @@ none-among capacity count = rw mul-zero (omega arith)
 
 pub fine_label_blocks-requires : goal.fine_label_blocks-requires
 fine_label_blocks-requires c =
-    let p = (c.requires.counted, c.requires.shaped) in
-    record { counted = p.0; shaped = rw c.in-Label.is at p.1 }
+    record { counted = c.requires.counted; shaped = rw c.in-Label.is at c.requires.shaped }
 
 pub returns-in-Component : goal.returns-in-Component
-returns-in-Component c = ((λ b low high. absurd (omega arith), none-among _ _), λ e. refl)
+returns-in-Component c = record { kept_upto = (λ b low high. absurd (omega arith), none-among _ _); value = λ e. refl }
 
 pub returns-in-Label : goal.returns-in-Label
 returns-in-Label c =
     let is = c.in-Label.is in
     let known = c.fine_label_blocks.ensures in
-    ((rw is known.0, known.1), λ e. absurd (omega (arith, ap kind_byte (sym is ∙ e))))
+    record { kept_upto = (rw is known.0, known.1); value = λ e. absurd (omega (arith, ap kind_byte (sym is ∙ e))) }
 
 pub returns-in-User : goal.returns-in-User
-returns-in-User c = ((λ b low high. absurd (omega arith), none-among _ _), λ e. refl)
+returns-in-User c = record { kept_upto = (λ b low high. absurd (omega arith), none-among _ _); value = λ e. refl }

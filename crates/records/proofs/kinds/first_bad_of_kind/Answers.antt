@@ -1,5 +1,4 @@
 use Rattle.std.proofs.Common.{◌-◌, ◌*◌, ◌≤◌, sym, ap, ◌∙◌, mul-le-mul_right, arith}
-use borrow.Author.Tests.{not-true, not-false}
 use Rattle.header.specs.declared.layout.Shape.{Shape}
 use Rattle.header.proofs.Inside.{header-inside, block_inside, blocks-among, room_for}
 use Rattle.records.proofs.BlockRuns.{of-needed}
@@ -10,7 +9,7 @@ pub shape_of-shape-requires : goal.shape_of-shape-requires
 shape_of-shape-requires c = header-inside _ c.requires.0.fitted
 
 pub fine_blocks-fine-requires : goal.fine_blocks-fine-requires
-fine_blocks-fine-requires c = (c.requires, c.shape_of-shape.ensures)
+fine_blocks-fine-requires c = record { counted = c.requires; shaped = c.shape_of-shape.ensures }
 
 -- the first block after those that are fine
 pub overflow_add-b : goal.overflow_add-b
@@ -28,8 +27,7 @@ overflow_mul-from c =
 
 pub loop-from-init : goal.loop-from-init
 loop-from-init c =
-    let known = (c.fine_blocks-fine.ensures.kept_upto, c.fine_blocks-fine.ensures.value) in
-    walk_from c.shape_of-shape.ensures _ _ known.0.0 known.1
+    walk_from c.shape_of-shape.ensures _ _ c.fine_blocks-fine.ensures.kept_upto.0 c.fine_blocks-fine.ensures.value
 
 pub overflow_add-from : goal.overflow_add-from
 overflow_add-from c =
@@ -70,7 +68,11 @@ first_bad_held-i-requires c =
     let w = c.loop-from.invariant in
     let more = c.loop-from-test.true in
     let p = c.requires in
-    (p, ((s, (of-kind s w more, held-said s w more _ c.lower-to.ensures)), w.passed more))
+    record {
+      counted = p;
+      shaped = (s, (of-kind s w more, held-said s w more _ c.lower-to.ensures));
+      passed = w.passed more;
+    }
 
 pub overflow_sub-result : goal.overflow_sub-result
 overflow_sub-result c =
@@ -84,8 +86,8 @@ returns-then-i-to c =
     let laid = sym c.laid_out.ensures ∙ c.if-not-laid_out.false in
     record-bad s c.loop-from.invariant c.loop-from-test.true _ c.lower-to.ensures laid _ c.first_bad_held-i.ensures.value c.if-i-to.true
 
-pub overflow_add-from : goal.overflow_add-from
-overflow_add-from c =
+pub overflow_add-from-in-loop-from : goal.overflow_add-from-in-loop-from
+overflow_add-from-in-loop-from c =
     let s = c.shape_of-shape.ensures in
     omega (arith, c.loop-from-test.true, s.few, s.roomy.few)
 

@@ -21,23 +21,32 @@ no-user kind p q = let z : ◌≡◌ {A = ℕ} 0 1 = cc in omega arith
 pub first_stale-requires : goal.first_stale-requires
 first_stale-requires c =
     let is = c.in-Component.is in
-    let p = (c.requires.fitted, c.requires.holds_from, c.requires.names_kept) in record { whole = (p.0.0, (p.0.1.1.0, rw records-count (rw is at p.0.1.1.1))); holds_from = p.1.0 is; names_kept = (p.1.1.0 is, rw p.0.1.0 (p.1.1.1.marks is)) }
+    record {
+      whole = (c.requires.fitted.0, (c.requires.fitted.1.1.0, rw records-count (rw is at c.requires.fitted.1.1.1)));
+      holds_from = c.requires.holds_from is;
+      names_kept = (c.requires.names_kept.0 is, rw c.requires.fitted.1.0 (c.requires.names_kept.1.marks is));
+    }
 
 pub returns-in-Component : goal.returns-in-Component
 returns-in-Component c =
-    let p = (c.requires.fitted, c.requires.holds_from, c.requires.names_kept) in
     let is = c.in-Component.is in
-    let found = (c.first_stale.ensures.value, c.first_stale.ensures.marked) in
-    (rw is found.0, λ e. record { names = p.1.1.0; marks = λ k. rw p.0.1.0 at (found.1 e) })
+    record {
+      value = rw is c.first_stale.ensures.value;
+      passed = λ e. record { names = c.requires.names_kept.0; marks = λ k. rw c.requires.fitted.1.0 at (c.first_stale.ensures.marked e) };
+    }
 
 pub returns-in-Label : goal.returns-in-Label
 returns-in-Label c =
-    let p = (c.requires.fitted, c.requires.holds_from, c.requires.names_kept) in
     let is = c.in-Label.is in
-    (rw is (all_new c.args.from c.args.to p.0.1.1.0), λ e. record { names = p.1.1.0; marks = λ k. absurd (no_label _ is k) })
+    record {
+      value = rw is (all_new c.args.from c.args.to c.requires.fitted.1.1.0);
+      passed = λ e. record { names = c.requires.names_kept.0; marks = λ k. absurd (no_label _ is k) };
+    }
 
 pub returns-in-User : goal.returns-in-User
 returns-in-User c =
-    let p = (c.requires.fitted, c.requires.holds_from, c.requires.names_kept) in
     let is = c.in-User.is in
-    (rw is (all_new c.args.from c.args.to p.0.1.1.0), λ e. record { names = p.1.1.0; marks = λ k. absurd (no-user _ is k) })
+    record {
+      value = rw is (all_new c.args.from c.args.to c.requires.fitted.1.1.0);
+      passed = λ e. record { names = c.requires.names_kept.0; marks = λ k. absurd (no-user _ is k) };
+    }

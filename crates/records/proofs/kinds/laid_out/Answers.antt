@@ -5,9 +5,8 @@ use Rattle.records.proofs.kinds.laid_out.Goals as goal
 
 pub overflow_add-unused : goal.overflow_add-unused
 overflow_add-unused c =
-    let p = (c.requires.counted, c.requires.held_value) in
-    let h = held_by _ _ _ p.1 p.0.1.0 p.0.1.1 in
-    omega (arith, h.within, block_inside _ _ p.0.0.fitted p.0.1.1)
+    let h = held_by _ _ _ c.requires.held_value c.requires.counted.1.0 c.requires.counted.1.1 in
+    omega (arith, h.within, block_inside _ _ c.requires.counted.0.fitted c.requires.counted.1.1)
 
 pub overflow_cast-result : goal.overflow_cast-result
 overflow_cast-result c =
@@ -15,19 +14,16 @@ overflow_cast-result c =
 
 pub overflow_sub-result : goal.overflow_sub-result
 overflow_sub-result c =
-    let p = (c.requires.counted, c.requires.held_value) in
-    (held_by _ _ _ p.1 p.0.1.0 p.0.1.1).ordered
+    (held_by _ _ _ c.requires.held_value c.requires.counted.1.0 c.requires.counted.1.1).ordered
 
 pub slice_bounds-all_zero-count : goal.slice_bounds-all_zero-count
 slice_bounds-all_zero-count c =
-    let p = (c.requires.counted, c.requires.held_value) in
-    let h = held_by _ _ _ p.1 p.0.1.0 p.0.1.1 in
+    let h = held_by _ _ _ c.requires.held_value c.requires.counted.1.0 c.requires.counted.1.1 in
     omega (arith, h.after, h.within)
 
 pub slice_bounds-all_zero-start : goal.slice_bounds-all_zero-start
 slice_bounds-all_zero-start c =
-    let p = (c.requires.counted, c.requires.held_value) in
-    let h = held_by _ _ _ p.1 p.0.1.0 p.0.1.1 in
+    let h = held_by _ _ _ c.requires.held_value c.requires.counted.1.0 c.requires.counted.1.1 in
     omega (arith, h.after, h.within)
 
 pub returns : goal.returns

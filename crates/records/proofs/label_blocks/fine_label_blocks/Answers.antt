@@ -12,8 +12,7 @@ nonzero_div-full c =
 
 pub overflow_mul-at : goal.overflow_mul-at
 overflow_mul-at c =
-    let p = (c.requires.counted, c.requires.shaped) in
-    omega (arith, ap (λ (x : Shape). x.first) p.1.is, blocks-among c.args.image.now Label, p.0.0.fitted)
+    omega (arith, ap (λ (x : Shape). x.first) c.requires.shaped.is, blocks-among c.args.image.now Label, c.requires.counted.0.fitted)
 
 pub loop-k-init : goal.loop-k-init
 loop-k-init c = passing-start c.requires.shaped
@@ -23,12 +22,6 @@ overflow_add-at c =
     let room : c.loop-k.at + 512 ≤ length c.args.image.now = block_room c.requires.shaped c.loop-k.invariant c.loop-k-test.true c.requires.counted.0.fitted in
     omega (arith, room)
 
-pub slice_bounds-last_of_block-count : goal.slice_bounds-last_of_block-count
-slice_bounds-last_of_block-count c = omega arith
-
-pub slice_bounds-last_of_block-start : goal.slice_bounds-last_of_block-start
-slice_bounds-last_of_block-start c = omega arith
-
 pub slice_bounds-last_of_block-end : goal.slice_bounds-last_of_block-end
 slice_bounds-last_of_block-end c =
     let room : c.loop-k.at + 512 ≤ length c.args.image.now = block_room c.requires.shaped c.loop-k.invariant c.loop-k-test.true c.requires.counted.0.fitted in
@@ -36,32 +29,30 @@ slice_bounds-last_of_block-end c =
 
 pub last_of_block-last-requires : goal.last_of_block-last-requires
 last_of_block-last-requires c =
-    let p = (c.requires.counted, c.requires.shaped) in
-    let counts = p.0.1.1 in
-    let s = p.1 in
-    let long = taken-long s c.loop-k.invariant c.loop-k-test.true p.0.0.fitted in (
-      (p.0.1.0, rw counts (omega (arith, p.0.0.levels_limit))),
-      (rw counts (sized s c.loop-k.invariant c.loop-k-test.true), (s.roomy, long)),
-    )
+    let counts = c.requires.counted.1.1 in
+    let s = c.requires.shaped in
+    let long = taken-long s c.loop-k.invariant c.loop-k-test.true c.requires.counted.0.fitted in
+    record {
+      exist = (c.requires.counted.1.0, rw counts (omega (arith, c.requires.counted.0.levels_limit)));
+      size_value = (rw counts (sized s c.loop-k.invariant c.loop-k-test.true), (s.roomy, long));
+    }
 
 pub returns-then-last-eq0 : goal.returns-then-last-eq0
 returns-then-last-eq0 c =
     (c.loop-k.invariant.kept, c.loop-k.invariant.upto)
 
-pub overflow_add-at : goal.overflow_add-at
-overflow_add-at c = add-last-of-block c.before.before.before
+pub overflow_add-at-in-loop-k : goal.overflow_add-at-in-loop-k
+overflow_add-at-in-loop-k c =
+    let room : c.loop-k.at + 512 ≤ length c.args.image.now = block_room c.requires.shaped c.loop-k.invariant c.loop-k-test.true c.requires.counted.0.fitted in
+    omega (arith, room)
 
 pub overflow_add-k : goal.overflow_add-k
 overflow_add-k c =
     omega (arith, places-few c.requires.shaped c.loop-k.invariant c.loop-k-test.true)
 
-pub loop-k-smaller : goal.loop-k-smaller
-loop-k-smaller c = omega (arith, c.loop-k-test.true)
-
 pub loop-k-preserved : goal.loop-k-preserved
 loop-k-preserved c =
-    let p = (c.requires.counted, c.requires.shaped) in
-    passing-next p.1 c.loop-k.invariant c.loop-k-test.true p.0.0 c.args.existing.counts p.0.1.1 _
+    passing-next c.requires.shaped c.loop-k.invariant c.loop-k-test.true c.requires.counted.0 c.args.existing.counts c.requires.counted.1.1 _
     (c.last_of_block-last.ensures c.if-last-eq0.false)
 
 pub returns : goal.returns

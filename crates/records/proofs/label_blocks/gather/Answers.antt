@@ -1,11 +1,11 @@
-use Rattle.std.proofs.Common.{◌/◌, ◌≤◌, leb, refl, ap, ◌∙◌, arith, leb-false}
+use Rattle.std.proofs.Common.{◌≤◌, leb, refl, ap, ◌∙◌, arith, leb-false}
 use Rattle.sets.specs.Sets.{union}
 use Rattle.sets.specs.Groups.{places_of}
 use Rattle.header.specs.declared.layout.Kind.TheVariants.{Label}
 use Rattle.header.proofs.Editions.{size-least}
-use Rattle.records.proofs.FineLabels.{neither, gathering-start, gathering-turn, gathering-end}
+use Rattle.records.proofs.FineLabels.{neither, gathering-start, gathering-at, gathering-turn, gathering-end}
 use Rattle.records.proofs.Rooms.{label-room}
-use Rattle.records.proofs.Running.{Turn, room, part-is, part-long}
+use Rattle.records.proofs.Running.{room, part-is, part-long}
 use Rattle.records.proofs.label_blocks.gather.Goals as goal
 
 pub loop-at-init : goal.loop-at-init
@@ -16,59 +16,25 @@ loop-at-init c =
 pub overflow_add-rec : goal.overflow_add-rec
 overflow_add-rec c =
     let least : 24 ≤ c.args.size = rw c.requires.0 (size-least c.args.edition Label) in
-    let turn_at : let a = c.args in Turn a.size a.run.now c.loop-at.at (c.loop-at.at / a.size) = (
-    record {
-      some = omega (arith, least);
-      whole = c.requires.1;
-      stands = c.loop-at.invariant.stands;
-      more = c.loop-at-test.true;
-    }
-    ) in
+    let turn_at = gathering-at (omega (arith, least)) c.loop-at.invariant c.requires.1 c.loop-at-test.true in
     omega (arith, room turn_at)
-
-pub slice_bounds-rec-count : goal.slice_bounds-rec-count
-slice_bounds-rec-count c = omega arith
-
-pub slice_bounds-rec-start : goal.slice_bounds-rec-start
-slice_bounds-rec-start c = omega arith
 
 pub slice_bounds-rec-end : goal.slice_bounds-rec-end
 slice_bounds-rec-end c =
     let least : 24 ≤ c.args.size = rw c.requires.0 (size-least c.args.edition Label) in
-    let turn_at : let a = c.args in Turn a.size a.run.now c.loop-at.at (c.loop-at.at / a.size) = (
-    record {
-      some = omega (arith, least);
-      whole = c.requires.1;
-      stands = c.loop-at.invariant.stands;
-      more = c.loop-at-test.true;
-    }
-    ) in
+    let turn_at = gathering-at (omega (arith, least)) c.loop-at.invariant c.requires.1 c.loop-at-test.true in
     omega (arith, room turn_at)
 
 pub number4-tag-requires : goal.number4-tag-requires
 number4-tag-requires c =
     let least : 24 ≤ c.args.size = rw c.requires.0 (size-least c.args.edition Label) in
-    let turn_at : let a = c.args in Turn a.size a.run.now c.loop-at.at (c.loop-at.at / a.size) = (
-    record {
-      some = omega (arith, least);
-      whole = c.requires.1;
-      stands = c.loop-at.invariant.stands;
-      more = c.loop-at-test.true;
-    }
-    ) in
+    let turn_at = gathering-at (omega (arith, least)) c.loop-at.invariant c.requires.1 c.loop-at-test.true in
     omega (arith, part-long turn_at, least)
 
 pub number4-requires : goal.number4-requires
 number4-requires c =
     let least : 24 ≤ c.args.size = rw c.requires.0 (size-least c.args.edition Label) in
-    let turn_at : let a = c.args in Turn a.size a.run.now c.loop-at.at (c.loop-at.at / a.size) = (
-    record {
-      some = omega (arith, least);
-      whole = c.requires.1;
-      stands = c.loop-at.invariant.stands;
-      more = c.loop-at-test.true;
-    }
-    ) in
+    let turn_at = gathering-at (omega (arith, least)) c.loop-at.invariant c.requires.1 c.loop-at-test.true in
     omega (arith, part-long turn_at, least)
 
 pub returns-then-tag-last : goal.returns-then-tag-last
@@ -77,32 +43,20 @@ returns-then-tag-last c = λ some. absurd (some refl)
 pub number8-requires : goal.number8-requires
 number8-requires c =
     let least : 24 ≤ c.args.size = rw c.requires.0 (size-least c.args.edition Label) in
-    let turn_at : let a = c.args in Turn a.size a.run.now c.loop-at.at (c.loop-at.at / a.size) = (
-    record {
-      some = omega (arith, least);
-      whole = c.requires.1;
-      stands = c.loop-at.invariant.stands;
-      more = c.loop-at-test.true;
-    }
-    ) in
+    let turn_at = gathering-at (omega (arith, least)) c.loop-at.invariant c.requires.1 c.loop-at-test.true in
     omega (arith, part-long turn_at, least)
 
 pub group_set-requires : goal.group_set-requires
 group_set-requires c =
     let least : 24 ≤ c.args.size = rw c.requires.0 (size-least c.args.edition Label) in
-    let turn_at : let a = c.args in Turn a.size a.run.now c.loop-at.at (c.loop-at.at / a.size) = (
-    record {
-      some = omega (arith, least);
-      whole = c.requires.1;
-      stands = c.loop-at.invariant.stands;
-      more = c.loop-at-test.true;
-    }
-    ) in
+    let turn_at = gathering-at (omega (arith, least)) c.loop-at.invariant c.requires.1 c.loop-at-test.true in
     omega (arith, part-long turn_at, c.requires.0, label-room c.args.edition)
 
 pub overflow_add-at : goal.overflow_add-at
 overflow_add-at c =
-    add-rec number.before.before.before.before.before
+    let least : 24 ≤ c.args.size = rw c.requires.0 (size-least c.args.edition Label) in
+    let turn_at = gathering-at (omega (arith, least)) c.loop-at.invariant c.requires.1 c.loop-at-test.true in
+    omega (arith, room turn_at)
 
 pub loop-at-smaller : goal.loop-at-smaller
 loop-at-smaller c =
@@ -112,14 +66,7 @@ loop-at-smaller c =
 pub loop-at-preserved : goal.loop-at-preserved
 loop-at-preserved c =
     let least : 24 ≤ c.args.size = rw c.requires.0 (size-least c.args.edition Label) in
-    let turn_at : let a = c.args in Turn a.size a.run.now c.loop-at.at (c.loop-at.at / a.size) = (
-    record {
-      some = omega (arith, least);
-      whole = c.requires.1;
-      stands = c.loop-at.invariant.stands;
-      more = c.loop-at-test.true;
-    }
-    ) in
+    let turn_at = gathering-at (omega (arith, least)) c.loop-at.invariant c.requires.1 c.loop-at-test.true in
     let l = c.loop-at in
     let a = c.args in
     let t = c.number4-tag.result in

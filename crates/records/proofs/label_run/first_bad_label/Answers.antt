@@ -9,7 +9,7 @@ use Rattle.records.proofs.label_run.first_bad_label.Goals as goal
 pub first_wrong-n-requires : goal.first_wrong-n-requires
 first_wrong-n-requires c =
     let whole_run : length c.args.run.now % c.size-size.result ≡ 0 = rw c.size-size.ensures c.requires.edition_len.0 in
-    (c.requires.exist, (c.size-size.ensures, whole_run))
+    record { exist = c.requires.exist; size_value = (c.size-size.ensures, whole_run) }
 
 pub first_above-requires : goal.first_above-requires
 first_above-requires c =
@@ -19,7 +19,11 @@ first_above-requires c =
     let size = c.size-size.result in
     let before = c.tag_before-before.result in
     let least : 24 ≤ size = rw c.size-size.ensures (size-least n.edition Label) in
-    let found = c.first_wrong-n.ensures in record { le_size = (least, rw found (passed-inside n size before a.run.now whole_run)); tags_rise = subst (TagsRise size a.run.now) (sym found) (passed-rise n size before a.run.now (length a.run.now / size)) }
+    let found = c.first_wrong-n.ensures in
+    record {
+      le_size = (least, rw found (passed-inside n size before a.run.now whole_run));
+      tags_rise = subst (TagsRise size a.run.now) (sym found) (passed-rise n size before a.run.now (length a.run.now / size));
+    }
 
 pub returns : goal.returns
 returns c =

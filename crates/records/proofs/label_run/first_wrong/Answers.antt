@@ -1,11 +1,10 @@
 use Rattle.std.proofs.Common.{◌≡◌, ◌/◌, ◌≤◌, sym, ap, ◌∙◌, ap₂, mul-zero, arith}
-use borrow.Author.Tests.{not-true, not-false}
 use Rattle.header.specs.declared.layout.Kind.TheVariants.{Label}
 use Rattle.header.proofs.Editions.{size-least}
 use Rattle.records.specs.Fields.{tag_of}
 use Rattle.records.specs.LabelRuns.{tag_before, label_after, run_after}
 use Rattle.records.proofs.LabelTests.{tag-next}
-use Rattle.records.proofs.Running.{Turn, room, part-is, part-long, walk_start, walk-next, walk-bad, walk_end, place_is, walk-placed}
+use Rattle.records.proofs.Running.{turn_of, room, part-is, part-long, walk_start, walk-next, walk-bad, walk_end, place_is, walk-placed}
 use Rattle.records.proofs.label_run.first_wrong.Goals as goal
 
 pub loop-at-init : goal.loop-at-init
@@ -19,46 +18,19 @@ loop-at-init c =
 pub overflow_add-rec : goal.overflow_add-rec
 overflow_add-rec c =
     let least : 24 ≤ c.args.size = rw c.requires.size_value.0 (size-least c.args.existing.counts.edition Label) in
-    let turn_at : let a = c.args in Turn a.size a.run.now c.loop-at.at (c.loop-at.at / a.size) = (
-    record {
-      some = omega (arith, least);
-      whole = c.requires.size_value.1;
-      stands = c.loop-at.invariant.0.stands;
-      more = c.loop-at-test.true;
-    }
-    ) in
+    let turn_at = turn_of c.loop-at.invariant.0 (omega (arith, least)) c.requires.size_value.1 c.loop-at-test.true in
     omega (arith, room turn_at)
-
-pub slice_bounds-rec-count : goal.slice_bounds-rec-count
-slice_bounds-rec-count c = omega arith
-
-pub slice_bounds-rec-start : goal.slice_bounds-rec-start
-slice_bounds-rec-start c = omega arith
 
 pub slice_bounds-rec-end : goal.slice_bounds-rec-end
 slice_bounds-rec-end c =
     let least : 24 ≤ c.args.size = rw c.requires.size_value.0 (size-least c.args.existing.counts.edition Label) in
-    let turn_at : let a = c.args in Turn a.size a.run.now c.loop-at.at (c.loop-at.at / a.size) = (
-    record {
-      some = omega (arith, least);
-      whole = c.requires.size_value.1;
-      stands = c.loop-at.invariant.0.stands;
-      more = c.loop-at-test.true;
-    }
-    ) in
+    let turn_at = turn_of c.loop-at.invariant.0 (omega (arith, least)) c.requires.size_value.1 c.loop-at-test.true in
     omega (arith, room turn_at)
 
 pub label_ok-requires : goal.label_ok-requires
 label_ok-requires c =
     let least : 24 ≤ c.args.size = rw c.requires.size_value.0 (size-least c.args.existing.counts.edition Label) in
-    let turn_at : let a = c.args in Turn a.size a.run.now c.loop-at.at (c.loop-at.at / a.size) = (
-    record {
-      some = omega (arith, least);
-      whole = c.requires.size_value.1;
-      stands = c.loop-at.invariant.0.stands;
-      more = c.loop-at-test.true;
-    }
-    ) in
+    let turn_at = turn_of c.loop-at.invariant.0 (omega (arith, least)) c.requires.size_value.1 c.loop-at-test.true in
     let full = part-long turn_at in
     record { exist = c.requires.exist; rec_len = (full ∙ c.requires.size_value.0, rw full least) }
 
@@ -70,14 +42,7 @@ nonzero_div-result c =
 pub returns-then-not-label_ok : goal.returns-then-not-label_ok
 returns-then-not-label_ok c =
     let least : 24 ≤ c.args.size = rw c.requires.size_value.0 (size-least c.args.existing.counts.edition Label) in
-    let turn_at : let a = c.args in Turn a.size a.run.now c.loop-at.at (c.loop-at.at / a.size) = (
-    record {
-      some = omega (arith, least);
-      whole = c.requires.size_value.1;
-      stands = c.loop-at.invariant.0.stands;
-      more = c.loop-at-test.true;
-    }
-    ) in
+    let turn_at = turn_of c.loop-at.invariant.0 (omega (arith, least)) c.requires.size_value.1 c.loop-at-test.true in
     let rule-asked : let a = c.args in c.label_ok.result ≡ run_after a.existing.counts a.size a.first a.run.now (c.loop-at.at / a.size) = (
     let a = c.args in
     c.label_ok.ensures ∙ ap₂ (label_after a.existing.counts) c.loop-at.invariant.1 (part-is turn_at)
@@ -87,27 +52,13 @@ returns-then-not-label_ok c =
 pub number4-before-requires : goal.number4-before-requires
 number4-before-requires c =
     let least : 24 ≤ c.args.size = rw c.requires.size_value.0 (size-least c.args.existing.counts.edition Label) in
-    let turn_at : let a = c.args in Turn a.size a.run.now c.loop-at.at (c.loop-at.at / a.size) = (
-    record {
-      some = omega (arith, least);
-      whole = c.requires.size_value.1;
-      stands = c.loop-at.invariant.0.stands;
-      more = c.loop-at-test.true;
-    }
-    ) in
+    let turn_at = turn_of c.loop-at.invariant.0 (omega (arith, least)) c.requires.size_value.1 c.loop-at-test.true in
     omega (arith, part-long turn_at, least)
 
 pub overflow_add-at : goal.overflow_add-at
 overflow_add-at c =
     let least : 24 ≤ c.args.size = rw c.requires.size_value.0 (size-least c.args.existing.counts.edition Label) in
-    let turn_at : let a = c.args in Turn a.size a.run.now c.loop-at.at (c.loop-at.at / a.size) = (
-    record {
-      some = omega (arith, least);
-      whole = c.requires.size_value.1;
-      stands = c.loop-at.invariant.0.stands;
-      more = c.loop-at-test.true;
-    }
-    ) in
+    let turn_at = turn_of c.loop-at.invariant.0 (omega (arith, least)) c.requires.size_value.1 c.loop-at-test.true in
     omega (arith, room turn_at)
 
 pub loop-at-smaller : goal.loop-at-smaller
@@ -118,14 +69,7 @@ loop-at-smaller c =
 pub loop-at-preserved : goal.loop-at-preserved
 loop-at-preserved c =
     let least : 24 ≤ c.args.size = rw c.requires.size_value.0 (size-least c.args.existing.counts.edition Label) in
-    let turn_at : let a = c.args in Turn a.size a.run.now c.loop-at.at (c.loop-at.at / a.size) = (
-    record {
-      some = omega (arith, least);
-      whole = c.requires.size_value.1;
-      stands = c.loop-at.invariant.0.stands;
-      more = c.loop-at-test.true;
-    }
-    ) in
+    let turn_at = turn_of c.loop-at.invariant.0 (omega (arith, least)) c.requires.size_value.1 c.loop-at-test.true in
     let rule-asked : let a = c.args in c.label_ok.result ≡ run_after a.existing.counts a.size a.first a.run.now (c.loop-at.at / a.size) = (
     let a = c.args in
     c.label_ok.ensures ∙ ap₂ (label_after a.existing.counts) c.loop-at.invariant.1 (part-is turn_at)

@@ -1,5 +1,4 @@
-use Rattle.std.proofs.Common.{◌≡◌, true, ltb, sym, ap, ◌∙◌, ap₂, arith, le-ltb, lt-ltb}
-use borrow.Author.Tests.{not-true, not-false}
+use Rattle.std.proofs.Common.{◌≡◌, true, false, ltb, ap, ◌∙◌, arith, le-ltb, lt-ltb}
 use Rattle.fields.specs.Bytes.{number4}
 use Rattle.sets.specs.Sets.{within, all_below}
 use Rattle.records.specs.Fields.{tag_of, label_compartments}
@@ -16,18 +15,20 @@ returns-then-number4-before c =
 pub returns-then-levels-number4 : goal.returns-then-levels-number4
 unfolding label_after
 returns-then-levels-number4 c =
-    let higher : let a = c.args in ltb a.before (tag_of a.rec.now) ≡ true = lt-ltb _ _ (rw c.number4.ensures at c.if-number4-before.false) in
     let a = c.args in
+    let higher : ltb a.before (tag_of a.rec.now) ≡ true = lt-ltb _ _ (rw c.number4.ensures at c.if-number4-before.false) in
     let none = le-ltb (number4 a.rec.now 4) a.existing.counts.levels (rw c.number4-2.ensures at c.if-levels-number4.true) in
     rw (higher, none)
 
 pub returns-then-not-within : goal.returns-then-not-within
 unfolding label_after
 returns-then-not-within c =
-    let higher : let a = c.args in ltb a.before (tag_of a.rec.now) ≡ true = lt-ltb _ _ (rw c.number4.ensures at c.if-number4-before.false) in
-    let levelled : let a = c.args in ltb (number4 a.rec.now 4) a.existing.counts.levels ≡ true = lt-ltb _ _ (rw c.number4-2.ensures at c.if-levels-number4.false) in
-    let compartments-told : let a = c.args in c.within.result ≡ within (label_compartments a.rec.now) (all_below a.existing.counts.compartments) = c.within.ensures ∙ ap₂ within c.number8.ensures c.requires.exist.0.compartments in
-    rw (higher, levelled, sym compartments-told ∙ c.if-not-within.true)
+    let a = c.args in
+    let higher : ltb a.before (tag_of a.rec.now) ≡ true = lt-ltb _ _ (rw c.number4.ensures at c.if-number4-before.false) in
+    let levelled : ltb (number4 a.rec.now 4) a.existing.counts.levels ≡ true =
+    lt-ltb _ _ (rw c.number4-2.ensures at c.if-levels-number4.false) in
+    let exist : within (label_compartments a.rec.now) (all_below a.existing.counts.compartments) ≡ false = cc in
+    rw (higher, levelled, exist)
 
 pub groups_exist-requires : goal.groups_exist-requires
 groups_exist-requires c =
@@ -36,8 +37,10 @@ groups_exist-requires c =
 pub returns : goal.returns
 unfolding label_after
 returns c =
-    let higher : let a = c.args in ltb a.before (tag_of a.rec.now) ≡ true = lt-ltb _ _ (rw c.number4.ensures at c.if-number4-before.false) in
-    let levelled : let a = c.args in ltb (number4 a.rec.now 4) a.existing.counts.levels ≡ true = lt-ltb _ _ (rw c.number4-2.ensures at c.if-levels-number4.false) in
-    let compartments-told : let a = c.args in c.within.result ≡ within (label_compartments a.rec.now) (all_below a.existing.counts.compartments) = c.within.ensures ∙ ap₂ within c.number8.ensures c.requires.exist.0.compartments in
-    rw (higher, levelled, sym compartments-told ∙ c.if-not-within.false)
+    let a = c.args in
+    let higher : ltb a.before (tag_of a.rec.now) ≡ true = lt-ltb _ _ (rw c.number4.ensures at c.if-number4-before.false) in
+    let levelled : ltb (number4 a.rec.now 4) a.existing.counts.levels ≡ true =
+    lt-ltb _ _ (rw c.number4-2.ensures at c.if-levels-number4.false) in
+    let exist : within (label_compartments a.rec.now) (all_below a.existing.counts.compartments) ≡ true = cc in
+    rw (higher, levelled, exist)
     (c.groups_exist.ensures ∙ ap (within _) c.requires.exist.0.groups)

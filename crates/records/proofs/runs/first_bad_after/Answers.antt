@@ -2,21 +2,18 @@ use Rattle.records.proofs.runs.first_bad_after.Goals as goal
 
 pub first_bad_component-requires : goal.first_bad_component-requires
 first_bad_component-requires c =
-    let p = (c.requires.exist, c.requires.kind_len) in
     let is = c.in-Component.is in
-    (rw is at p.1.0, (rw is at p.1.1, p.0.1.1))
+    (rw is at c.requires.kind_len.0, (rw is at c.requires.kind_len.1, c.requires.exist.1.1))
 
 pub first_bad_label-requires : goal.first_bad_label-requires
 first_bad_label-requires c =
-    let p = (c.requires.exist, c.requires.kind_len) in
     let is = c.in-Label.is in
-    record { exist = (p.0.0, p.0.1.0); edition_len = (rw is at p.1.0, rw is at p.1.1) }
+    record { exist = (c.requires.exist.0, c.requires.exist.1.0); edition_len = (rw is at c.requires.kind_len.0, rw is at c.requires.kind_len.1) }
 
 pub first_bad_user-requires : goal.first_bad_user-requires
 first_bad_user-requires c =
-    let p = (c.requires.exist, c.requires.kind_len) in
     let is = c.in-User.is in
-    record { exist = (p.0.0, rw is at p.1.0); in_bounds = (rw is at p.1.1, p.0.1.1) }
+    record { exist = (c.requires.exist.0, rw is at c.requires.kind_len.0); in_bounds = (rw is at c.requires.kind_len.1, c.requires.exist.1.1) }
 
 pub returns-in-Component : goal.returns-in-Component
 returns-in-Component c = rw c.in-Component.is c.first_bad_component.ensures

@@ -1,9 +1,8 @@
 use Rattle.std.proofs.Common.{◌≡◌, ◌%◌, ◌≤◌, length, sym, ◌∙◌, arith}
-use borrow.Author.Tests.{not-true, not-false}
 use Rattle.header.specs.declared.layout.Kind.TheVariants.{User}
 use Rattle.header.proofs.Editions.{size-least}
 use Rattle.records.specs.Rules.{run_rule}
-use Rattle.records.proofs.Running.{Turn, resized, places-few, room, part-is, part-long, walk_start, walk-next, walk-bad, walk_end, before-is, before-long, run-rule}
+use Rattle.records.proofs.Running.{turn_of, resized, places-few, room, part-is, part-long, walk_start, walk-next, walk-bad, walk_end, before-is, before-long, run-rule}
 use Rattle.records.proofs.user_run.first_bad_user.Goals as goal
 
 pub loop-at-init : goal.loop-at-init
@@ -13,34 +12,14 @@ pub overflow_add-rec : goal.overflow_add-rec
 overflow_add-rec c =
     let least : 128 ≤ c.size-size.result = rw c.size-size.ensures (size-least c.args.existing.counts.edition User) in
     let whole_run : length c.args.run.now % c.size-size.result ≡ 0 = rw c.size-size.ensures c.requires.exist.1 in
-    let turn_at : Turn c.size-size.result c.args.run.now c.loop-at.at c.loop-at.j = (
-    record {
-      some = omega (arith, least);
-      whole = whole_run;
-      stands = c.loop-at.invariant.stands;
-      more = c.loop-at-test.true;
-    }
-    ) in
+    let turn_at = turn_of c.loop-at.invariant (omega (arith, least)) whole_run c.loop-at-test.true in
     omega (arith, room turn_at)
-
-pub slice_bounds-rec-count : goal.slice_bounds-rec-count
-slice_bounds-rec-count c = omega arith
-
-pub slice_bounds-rec-start : goal.slice_bounds-rec-start
-slice_bounds-rec-start c = omega arith
 
 pub slice_bounds-rec-end : goal.slice_bounds-rec-end
 slice_bounds-rec-end c =
     let least : 128 ≤ c.size-size.result = rw c.size-size.ensures (size-least c.args.existing.counts.edition User) in
     let whole_run : length c.args.run.now % c.size-size.result ≡ 0 = rw c.size-size.ensures c.requires.exist.1 in
-    let turn_at : Turn c.size-size.result c.args.run.now c.loop-at.at c.loop-at.j = (
-    record {
-      some = omega (arith, least);
-      whole = whole_run;
-      stands = c.loop-at.invariant.stands;
-      more = c.loop-at-test.true;
-    }
-    ) in
+    let turn_at = turn_of c.loop-at.invariant (omega (arith, least)) whole_run c.loop-at-test.true in
     omega (arith, room turn_at)
 
 pub record_before-before-requires : goal.record_before-before-requires
@@ -50,14 +29,7 @@ pub overflow_add-k : goal.overflow_add-k
 overflow_add-k c =
     let least : 128 ≤ c.size-size.result = rw c.size-size.ensures (size-least c.args.existing.counts.edition User) in
     let whole_run : length c.args.run.now % c.size-size.result ≡ 0 = rw c.size-size.ensures c.requires.exist.1 in
-    let turn_at : Turn c.size-size.result c.args.run.now c.loop-at.at c.loop-at.j = (
-    record {
-      some = omega (arith, least);
-      whole = whole_run;
-      stands = c.loop-at.invariant.stands;
-      more = c.loop-at-test.true;
-    }
-    ) in
+    let turn_at = turn_of c.loop-at.invariant (omega (arith, least)) whole_run c.loop-at-test.true in
     let l = c.loop-at in
     omega (arith, c.requires.in_bounds.1, places-few turn_at)
 
@@ -65,14 +37,7 @@ pub user_ok-requires : goal.user_ok-requires
 user_ok-requires c =
     let least : 128 ≤ c.size-size.result = rw c.size-size.ensures (size-least c.args.existing.counts.edition User) in
     let whole_run : length c.args.run.now % c.size-size.result ≡ 0 = rw c.size-size.ensures c.requires.exist.1 in
-    let turn_at : Turn c.size-size.result c.args.run.now c.loop-at.at c.loop-at.j = (
-    record {
-      some = omega (arith, least);
-      whole = whole_run;
-      stands = c.loop-at.invariant.stands;
-      more = c.loop-at-test.true;
-    }
-    ) in
+    let turn_at = turn_of c.loop-at.invariant (omega (arith, least)) whole_run c.loop-at-test.true in
     let l = c.loop-at in
     let a = c.args in
     let size = c.size-size.result in
@@ -85,14 +50,7 @@ pub returns-then-not-user_ok : goal.returns-then-not-user_ok
 returns-then-not-user_ok c =
     let least : 128 ≤ c.size-size.result = rw c.size-size.ensures (size-least c.args.existing.counts.edition User) in
     let whole_run : length c.args.run.now % c.size-size.result ≡ 0 = rw c.size-size.ensures c.requires.exist.1 in
-    let turn_at : Turn c.size-size.result c.args.run.now c.loop-at.at c.loop-at.j = (
-    record {
-      some = omega (arith, least);
-      whole = whole_run;
-      stands = c.loop-at.invariant.stands;
-      more = c.loop-at-test.true;
-    }
-    ) in
+    let turn_at = turn_of c.loop-at.invariant (omega (arith, least)) whole_run c.loop-at-test.true in
     let rule-asked : let a = c.args in c.user_ok.result ≡ run_rule User a.existing.counts a.k a.previous.now a.run.now c.loop-at.j = (
     let l = c.loop-at in
     let size = c.size-size.result in
@@ -106,28 +64,14 @@ pub overflow_add-at : goal.overflow_add-at
 overflow_add-at c =
     let least : 128 ≤ c.size-size.result = rw c.size-size.ensures (size-least c.args.existing.counts.edition User) in
     let whole_run : length c.args.run.now % c.size-size.result ≡ 0 = rw c.size-size.ensures c.requires.exist.1 in
-    let turn_at : Turn c.size-size.result c.args.run.now c.loop-at.at c.loop-at.j = (
-    record {
-      some = omega (arith, least);
-      whole = whole_run;
-      stands = c.loop-at.invariant.stands;
-      more = c.loop-at-test.true;
-    }
-    ) in
+    let turn_at = turn_of c.loop-at.invariant (omega (arith, least)) whole_run c.loop-at-test.true in
     omega (arith, room turn_at)
 
 pub overflow_add-j : goal.overflow_add-j
 overflow_add-j c =
     let least : 128 ≤ c.size-size.result = rw c.size-size.ensures (size-least c.args.existing.counts.edition User) in
     let whole_run : length c.args.run.now % c.size-size.result ≡ 0 = rw c.size-size.ensures c.requires.exist.1 in
-    let turn_at : Turn c.size-size.result c.args.run.now c.loop-at.at c.loop-at.j = (
-    record {
-      some = omega (arith, least);
-      whole = whole_run;
-      stands = c.loop-at.invariant.stands;
-      more = c.loop-at-test.true;
-    }
-    ) in
+    let turn_at = turn_of c.loop-at.invariant (omega (arith, least)) whole_run c.loop-at-test.true in
     omega (arith, places-few turn_at)
 
 pub loop-at-smaller : goal.loop-at-smaller
@@ -139,14 +83,7 @@ pub loop-at-preserved : goal.loop-at-preserved
 loop-at-preserved c =
     let least : 128 ≤ c.size-size.result = rw c.size-size.ensures (size-least c.args.existing.counts.edition User) in
     let whole_run : length c.args.run.now % c.size-size.result ≡ 0 = rw c.size-size.ensures c.requires.exist.1 in
-    let turn_at : Turn c.size-size.result c.args.run.now c.loop-at.at c.loop-at.j = (
-    record {
-      some = omega (arith, least);
-      whole = whole_run;
-      stands = c.loop-at.invariant.stands;
-      more = c.loop-at-test.true;
-    }
-    ) in
+    let turn_at = turn_of c.loop-at.invariant (omega (arith, least)) whole_run c.loop-at-test.true in
     let rule-asked : let a = c.args in c.user_ok.result ≡ run_rule User a.existing.counts a.k a.previous.now a.run.now c.loop-at.j = (
     let l = c.loop-at in
     let size = c.size-size.result in

@@ -1,5 +1,4 @@
 use Rattle.std.proofs.Common.{◌≡◌, sym, ap, ◌∙◌, arith}
-use borrow.Author.Tests.{not-true, not-false}
 use Rattle.fields.specs.Names.{name_rule}
 use Rattle.fields.proofs.NameBytes.{field-window}
 use Rattle.records.specs.Fields.{user_name_field}
@@ -9,19 +8,22 @@ use Rattle.records.proofs.users.shape_ok.Goals as goal
 pub returns-then-not-name_ok : goal.returns-then-not-name_ok
 unfolding user_shape
 returns-then-not-name_ok c =
-    let name-told : c.name_ok.result ≡ name_rule (user_name_field c.args.rec.now) = c.name_ok.ensures ∙ ap name_rule (field-window c.args.rec.now 0 (omega (arith, c.requires.1.1))) in
+    let name-told : c.name_ok.result ≡ name_rule (user_name_field c.args.rec.now) =
+    c.name_ok.ensures ∙ ap name_rule (field-window c.args.rec.now 0 (omega (arith, c.requires.1.1))) in
     rw (sym name-told ∙ c.if-not-name_ok.true)
 
 pub returns-then-not-privileges_ok : goal.returns-then-not-privileges_ok
 unfolding user_shape
 returns-then-not-privileges_ok c =
-    let name-told : c.name_ok.result ≡ name_rule (user_name_field c.args.rec.now) = c.name_ok.ensures ∙ ap name_rule (field-window c.args.rec.now 0 (omega (arith, c.requires.1.1))) in
+    let name-told : c.name_ok.result ≡ name_rule (user_name_field c.args.rec.now) =
+    c.name_ok.ensures ∙ ap name_rule (field-window c.args.rec.now 0 (omega (arith, c.requires.1.1))) in
     rw (sym name-told ∙ c.if-not-name_ok.false, sym c.privileges_ok.ensures ∙ c.if-not-privileges_ok.true)
 
 pub returns-then-not-unused_ok : goal.returns-then-not-unused_ok
 unfolding user_shape
 returns-then-not-unused_ok c =
-    let name-told : c.name_ok.result ≡ name_rule (user_name_field c.args.rec.now) = c.name_ok.ensures ∙ ap name_rule (field-window c.args.rec.now 0 (omega (arith, c.requires.1.1))) in
+    let name-told : c.name_ok.result ≡ name_rule (user_name_field c.args.rec.now) =
+    c.name_ok.ensures ∙ ap name_rule (field-window c.args.rec.now 0 (omega (arith, c.requires.1.1))) in
     rw (
       sym name-told ∙ c.if-not-name_ok.false,
       sym c.privileges_ok.ensures ∙ c.if-not-privileges_ok.false,
@@ -31,7 +33,8 @@ returns-then-not-unused_ok c =
 pub returns-then-not-levels_ok : goal.returns-then-not-levels_ok
 unfolding user_shape
 returns-then-not-levels_ok c =
-    let name-told : c.name_ok.result ≡ name_rule (user_name_field c.args.rec.now) = c.name_ok.ensures ∙ ap name_rule (field-window c.args.rec.now 0 (omega (arith, c.requires.1.1))) in
+    let name-told : c.name_ok.result ≡ name_rule (user_name_field c.args.rec.now) =
+    c.name_ok.ensures ∙ ap name_rule (field-window c.args.rec.now 0 (omega (arith, c.requires.1.1))) in
     rw (
       sym name-told ∙ c.if-not-name_ok.false,
       sym c.privileges_ok.ensures ∙ c.if-not-privileges_ok.false,
@@ -42,7 +45,8 @@ returns-then-not-levels_ok c =
 pub returns-then-not-compartments_ok : goal.returns-then-not-compartments_ok
 unfolding user_shape
 returns-then-not-compartments_ok c =
-    let name-told : c.name_ok.result ≡ name_rule (user_name_field c.args.rec.now) = c.name_ok.ensures ∙ ap name_rule (field-window c.args.rec.now 0 (omega (arith, c.requires.1.1))) in
+    let name-told : c.name_ok.result ≡ name_rule (user_name_field c.args.rec.now) =
+    c.name_ok.ensures ∙ ap name_rule (field-window c.args.rec.now 0 (omega (arith, c.requires.1.1))) in
     rw (
       sym name-told ∙ c.if-not-name_ok.false,
       sym c.privileges_ok.ensures ∙ c.if-not-privileges_ok.false,
@@ -54,7 +58,8 @@ returns-then-not-compartments_ok c =
 pub returns : goal.returns
 unfolding user_shape
 returns c =
-    let name-told : c.name_ok.result ≡ name_rule (user_name_field c.args.rec.now) = c.name_ok.ensures ∙ ap name_rule (field-window c.args.rec.now 0 (omega (arith, c.requires.1.1))) in
+    let name-told : c.name_ok.result ≡ name_rule (user_name_field c.args.rec.now) =
+    c.name_ok.ensures ∙ ap name_rule (field-window c.args.rec.now 0 (omega (arith, c.requires.1.1))) in
     rw (
       sym name-told ∙ c.if-not-name_ok.false,
       sym c.privileges_ok.ensures ∙ c.if-not-privileges_ok.false,

@@ -1,5 +1,4 @@
 use Rattle.std.proofs.Common.{sym, ◌∙◌}
-use borrow.Author.Tests.{not-true, not-false}
 use Rattle.records.proofs.users.user_ok.Goals as goal
 
 pub returns-then-not-shape_ok : goal.returns-then-not-shape_ok

@@ -1,6 +1,5 @@
 use Prim.Native.Nat.{ℕ, ◌+◌, ◌-◌, ◌≤◌, ◌<◌}
 use mathlib.Core.Path.{◌≡◌, refl, ◌∙◌}
-use mathlib.Core.Logic.{⊎_elim}
 use mathlib.Core.List.{List, ◌++◌}
 use native.Mathlib.Nat.{add-sub_cancel_left}
 use native.Mathlib.Omega.{arith}
@@ -10,6 +9,7 @@ use Rattle.buffers.specs.Pasting.{pasted}
 use Rattle.buffers.proofs.Stored.{Begun, begun-turn, begun-end, part-long}
 use Rattle.rows.proofs.FirstBytes.{begun-word, begun-room, begun-again, begun-whole, Nearly}
 use Rattle.rows.proofs.copying.put_row.Goals as goal
+use Rattle.rows.proofs.copying.put_row.Goals.{then-last-gt8, else-last-gt8}
 
 pub overflow_add-at : goal.overflow_add-at
 overflow_add-at c = omega (arith, c.requires.in_bounds)
@@ -37,7 +37,7 @@ put8-requires c =
     let Stands : List ℕ → ℕ → Type 0 = λ b n. Begun c.args.buffer.now c.args.at c.args.text.now b n in
     let buffer-of : List ℕ = (
     let a = c.args in
-    take a.at a.buffer.now ++ (c.put_word.new.1.0 ++ drop (a.at + 8 - a.at) (drop a.at a.buffer.now))
+    take a.at a.buffer.now ++ (c.put_word.new.to ++ drop (a.at + 8 - a.at) (drop a.at a.buffer.now))
     ) in
     let first-put : Stands buffer-of 8 = (
     let bytes : AreBytes c.args.text.now = λ k. omega (arith, c.type_inv.text k) in
@@ -51,13 +51,13 @@ shape_of-buffer-then-n-le16 c =
     let next : (b : List ℕ) (n : ℕ) → Stands b n → (i m : ℕ) → i + m ≤ length c.args.text.now → i ≤ n → n ≤ i + m → (after : List ℕ) → after ≡ pasted b (c.args.at + i) (take m (drop i c.args.text.now)) → Stands after (i + m) = λ b n begun i m inside low high after e. begun-turn _ _ _ c.requires.in_bounds.1 b n begun i m inside low high after e in
     let buffer-of : List ℕ = (
     let a = c.args in
-    take a.at a.buffer.now ++ (c.put_word.new.1.0 ++ drop (a.at + 8 - a.at) (drop a.at a.buffer.now))
+    take a.at a.buffer.now ++ (c.put_word.new.to ++ drop (a.at + 8 - a.at) (drop a.at a.buffer.now))
     ) in
     let first-put : Stands buffer-of 8 = (
     let bytes : AreBytes c.args.text.now = λ k. omega (arith, c.type_inv.text k) in
     begun-word _ _ _ c.requires.in_bounds.1 c.requires.in_bounds.0 bytes _ c.requires.first_value _ _ c.put_word.ensures refl
     ) in
-    let short-put : (Stands c.put8.new.1.1.0 (length c.args.text.now - 8 + 8)) = (
+    let short-put : (Stands c.put8.new.buffer (length c.args.text.now - 8 + 8)) = (
     let n = length c.args.text.now in
     let low : 8 ≤ n = c.requires.in_bounds.0 in
     let high : n - 8 ≤ 8 = omega (arith, c.if-n-le16.true) in
@@ -71,13 +71,13 @@ returns-then-n-le16 c =
     let next : (b : List ℕ) (n : ℕ) → Stands b n → (i m : ℕ) → i + m ≤ length c.args.text.now → i ≤ n → n ≤ i + m → (after : List ℕ) → after ≡ pasted b (c.args.at + i) (take m (drop i c.args.text.now)) → Stands after (i + m) = λ b n begun i m inside low high after e. begun-turn _ _ _ c.requires.in_bounds.1 b n begun i m inside low high after e in
     let buffer-of : List ℕ = (
     let a = c.args in
-    take a.at a.buffer.now ++ (c.put_word.new.1.0 ++ drop (a.at + 8 - a.at) (drop a.at a.buffer.now))
+    take a.at a.buffer.now ++ (c.put_word.new.to ++ drop (a.at + 8 - a.at) (drop a.at a.buffer.now))
     ) in
     let first-put : Stands buffer-of 8 = (
     let bytes : AreBytes c.args.text.now = λ k. omega (arith, c.type_inv.text k) in
     begun-word _ _ _ c.requires.in_bounds.1 c.requires.in_bounds.0 bytes _ c.requires.first_value _ _ c.put_word.ensures refl
     ) in
-    let short-put : (Stands c.put8.new.1.1.0 (length c.args.text.now - 8 + 8)) = (
+    let short-put : (Stands c.put8.new.buffer (length c.args.text.now - 8 + 8)) = (
     let n = length c.args.text.now in
     let low : 8 ≤ n = c.requires.in_bounds.0 in
     let high : n - 8 ≤ 8 = omega (arith, c.if-n-le16.true) in
@@ -94,7 +94,7 @@ put16-requires c =
     let Stands : List ℕ → ℕ → Type 0 = λ b n. Begun c.args.buffer.now c.args.at c.args.text.now b n in
     let buffer-of : List ℕ = (
     let a = c.args in
-    take a.at a.buffer.now ++ (c.put_word.new.1.0 ++ drop (a.at + 8 - a.at) (drop a.at a.buffer.now))
+    take a.at a.buffer.now ++ (c.put_word.new.to ++ drop (a.at + 8 - a.at) (drop a.at a.buffer.now))
     ) in
     let first-put : Stands buffer-of 8 = (
     let bytes : AreBytes c.args.text.now = λ k. omega (arith, c.type_inv.text k) in
@@ -108,7 +108,7 @@ put16-requires-then-n-lt40 c =
     let next : (b : List ℕ) (n : ℕ) → Stands b n → (i m : ℕ) → i + m ≤ length c.args.text.now → i ≤ n → n ≤ i + m → (after : List ℕ) → after ≡ pasted b (c.args.at + i) (take m (drop i c.args.text.now)) → Stands after (i + m) = λ b n begun i m inside low high after e. begun-turn _ _ _ c.requires.in_bounds.1 b n begun i m inside low high after e in
     let buffer-of : List ℕ = (
     let a = c.args in
-    take a.at a.buffer.now ++ (c.put_word.new.1.0 ++ drop (a.at + 8 - a.at) (drop a.at a.buffer.now))
+    take a.at a.buffer.now ++ (c.put_word.new.to ++ drop (a.at + 8 - a.at) (drop a.at a.buffer.now))
     ) in
     let first-put : Stands buffer-of 8 = (
     let bytes : AreBytes c.args.text.now = λ k. omega (arith, c.type_inv.text k) in
@@ -118,19 +118,19 @@ put16-requires-then-n-lt40 c =
     let n = length c.args.text.now in
     let more = c.if-n-le16.false in
     let less = c.if-n-lt40.true in
-    ⊎_elim
-    (λ t.
-    let some : 8 < n - 16 = t.0.taken in
-    record {
-      upto = 24;
-      low = omega (arith, less);
-      high = omega arith;
-      begun = next _ 8 first-put 8 16 (omega arith) (omega arith) (omega arith) _ (t.5 ∙ t.2.ensures);
-    })
-    (λ e.
-    let none : n - 16 ≤ 8 = e.0.left in
-    record { upto = 8; low = none; high = omega (arith, more); begun = rw e.1 first-put })
-    c.if-last-gt8.branch
+    elim c.if-last-gt8.branch [
+      then-last-gt8 w ↦
+        let some : 8 < n - 16 = w.if-last-gt8.true in
+        record {
+          upto = 24;
+          low = omega (arith, less);
+          high = omega arith;
+          begun = next _ 8 first-put 8 16 (omega arith) (omega arith) (omega arith) _ (w.buffer-is ∙ w.put16.ensures);
+        }
+      | else-last-gt8 w ↦
+        let none : n - 16 ≤ 8 = w.if-last-gt8.false in
+        record { upto = 8; low = none; high = omega (arith, more); begun = rw w.buffer-is first-put }
+    ]
     ) in
     let more = c.if-n-le16.false in
     (omega (arith, more), begun-room middle-put.begun c.requires.in_bounds.1)
@@ -141,7 +141,7 @@ shape_of-buffer-then-n-lt40 c =
     let next : (b : List ℕ) (n : ℕ) → Stands b n → (i m : ℕ) → i + m ≤ length c.args.text.now → i ≤ n → n ≤ i + m → (after : List ℕ) → after ≡ pasted b (c.args.at + i) (take m (drop i c.args.text.now)) → Stands after (i + m) = λ b n begun i m inside low high after e. begun-turn _ _ _ c.requires.in_bounds.1 b n begun i m inside low high after e in
     let buffer-of : List ℕ = (
     let a = c.args in
-    take a.at a.buffer.now ++ (c.put_word.new.1.0 ++ drop (a.at + 8 - a.at) (drop a.at a.buffer.now))
+    take a.at a.buffer.now ++ (c.put_word.new.to ++ drop (a.at + 8 - a.at) (drop a.at a.buffer.now))
     ) in
     let first-put : Stands buffer-of 8 = (
     let bytes : AreBytes c.args.text.now = λ k. omega (arith, c.type_inv.text k) in
@@ -151,21 +151,21 @@ shape_of-buffer-then-n-lt40 c =
     let n = length c.args.text.now in
     let more = c.if-n-le16.false in
     let less = c.if-n-lt40.true in
-    ⊎_elim
-    (λ t.
-    let some : 8 < n - 16 = t.0.taken in
-    record {
-      upto = 24;
-      low = omega (arith, less);
-      high = omega arith;
-      begun = next _ 8 first-put 8 16 (omega arith) (omega arith) (omega arith) _ (t.5 ∙ t.2.ensures);
-    })
-    (λ e.
-    let none : n - 16 ≤ 8 = e.0.left in
-    record { upto = 8; low = none; high = omega (arith, more); begun = rw e.1 first-put })
-    c.if-last-gt8.branch
+    elim c.if-last-gt8.branch [
+      then-last-gt8 w ↦
+        let some : 8 < n - 16 = w.if-last-gt8.true in
+        record {
+          upto = 24;
+          low = omega (arith, less);
+          high = omega arith;
+          begun = next _ 8 first-put 8 16 (omega arith) (omega arith) (omega arith) _ (w.buffer-is ∙ w.put16.ensures);
+        }
+      | else-last-gt8 w ↦
+        let none : n - 16 ≤ 8 = w.if-last-gt8.false in
+        record { upto = 8; low = none; high = omega (arith, more); begun = rw w.buffer-is first-put }
+    ]
     ) in
-    let medium-put : (Stands c.put16-then-n-lt40.new.1.1.0 (length c.args.text.now - 16 + 16)) = (
+    let medium-put : (Stands c.put16-then-n-lt40.new.buffer (length c.args.text.now - 16 + 16)) = (
     let near = middle-put in
     let more = c.if-n-le16.false in
     next _ _ near.begun (length c.args.text.now - 16) 16 (omega (arith, more)) near.low near.high _ c.put16-then-n-lt40.ensures
@@ -178,7 +178,7 @@ returns-then-n-lt40 c =
     let next : (b : List ℕ) (n : ℕ) → Stands b n → (i m : ℕ) → i + m ≤ length c.args.text.now → i ≤ n → n ≤ i + m → (after : List ℕ) → after ≡ pasted b (c.args.at + i) (take m (drop i c.args.text.now)) → Stands after (i + m) = λ b n begun i m inside low high after e. begun-turn _ _ _ c.requires.in_bounds.1 b n begun i m inside low high after e in
     let buffer-of : List ℕ = (
     let a = c.args in
-    take a.at a.buffer.now ++ (c.put_word.new.1.0 ++ drop (a.at + 8 - a.at) (drop a.at a.buffer.now))
+    take a.at a.buffer.now ++ (c.put_word.new.to ++ drop (a.at + 8 - a.at) (drop a.at a.buffer.now))
     ) in
     let first-put : Stands buffer-of 8 = (
     let bytes : AreBytes c.args.text.now = λ k. omega (arith, c.type_inv.text k) in
@@ -188,21 +188,21 @@ returns-then-n-lt40 c =
     let n = length c.args.text.now in
     let more = c.if-n-le16.false in
     let less = c.if-n-lt40.true in
-    ⊎_elim
-    (λ t.
-    let some : 8 < n - 16 = t.0.taken in
-    record {
-      upto = 24;
-      low = omega (arith, less);
-      high = omega arith;
-      begun = next _ 8 first-put 8 16 (omega arith) (omega arith) (omega arith) _ (t.5 ∙ t.2.ensures);
-    })
-    (λ e.
-    let none : n - 16 ≤ 8 = e.0.left in
-    record { upto = 8; low = none; high = omega (arith, more); begun = rw e.1 first-put })
-    c.if-last-gt8.branch
+    elim c.if-last-gt8.branch [
+      then-last-gt8 w ↦
+        let some : 8 < n - 16 = w.if-last-gt8.true in
+        record {
+          upto = 24;
+          low = omega (arith, less);
+          high = omega arith;
+          begun = next _ 8 first-put 8 16 (omega arith) (omega arith) (omega arith) _ (w.buffer-is ∙ w.put16.ensures);
+        }
+      | else-last-gt8 w ↦
+        let none : n - 16 ≤ 8 = w.if-last-gt8.false in
+        record { upto = 8; low = none; high = omega (arith, more); begun = rw w.buffer-is first-put }
+    ]
     ) in
-    let medium-put : (Stands c.put16-then-n-lt40.new.1.1.0 (length c.args.text.now - 16 + 16)) = (
+    let medium-put : (Stands c.put16-then-n-lt40.new.buffer (length c.args.text.now - 16 + 16)) = (
     let near = middle-put in
     let more = c.if-n-le16.false in
     next _ _ near.begun (length c.args.text.now - 16) 16 (omega (arith, more)) near.low near.high _ c.put16-then-n-lt40.ensures
@@ -218,7 +218,7 @@ put32-requires c =
     let Stands : List ℕ → ℕ → Type 0 = λ b n. Begun c.args.buffer.now c.args.at c.args.text.now b n in
     let buffer-of : List ℕ = (
     let a = c.args in
-    take a.at a.buffer.now ++ (c.put_word.new.1.0 ++ drop (a.at + 8 - a.at) (drop a.at a.buffer.now))
+    take a.at a.buffer.now ++ (c.put_word.new.to ++ drop (a.at + 8 - a.at) (drop a.at a.buffer.now))
     ) in
     let first-put : Stands buffer-of 8 = (
     let bytes : AreBytes c.args.text.now = λ k. omega (arith, c.type_inv.text k) in
@@ -232,13 +232,13 @@ put32-requires-then-n-le72 c =
     let next : (b : List ℕ) (n : ℕ) → Stands b n → (i m : ℕ) → i + m ≤ length c.args.text.now → i ≤ n → n ≤ i + m → (after : List ℕ) → after ≡ pasted b (c.args.at + i) (take m (drop i c.args.text.now)) → Stands after (i + m) = λ b n begun i m inside low high after e. begun-turn _ _ _ c.requires.in_bounds.1 b n begun i m inside low high after e in
     let buffer-of : List ℕ = (
     let a = c.args in
-    take a.at a.buffer.now ++ (c.put_word.new.1.0 ++ drop (a.at + 8 - a.at) (drop a.at a.buffer.now))
+    take a.at a.buffer.now ++ (c.put_word.new.to ++ drop (a.at + 8 - a.at) (drop a.at a.buffer.now))
     ) in
     let first-put : Stands buffer-of 8 = (
     let bytes : AreBytes c.args.text.now = λ k. omega (arith, c.type_inv.text k) in
     begun-word _ _ _ c.requires.in_bounds.1 c.requires.in_bounds.0 bytes _ c.requires.first_value _ _ c.put_word.ensures refl
     ) in
-    let second-put : Stands c.put32.new.1.1.0 40 = next _ 8 first-put 8 32 (omega (arith, c.if-n-lt40.false)) (omega arith) (omega arith) _ c.put32.ensures in
+    let second-put : Stands c.put32.new.buffer 40 = next _ 8 first-put 8 32 (omega (arith, c.if-n-lt40.false)) (omega arith) (omega arith) _ c.put32.ensures in
     (omega (arith, c.if-n-lt40.false), begun-room second-put c.requires.in_bounds.1)
 
 pub shape_of-buffer-then-n-le72 : goal.shape_of-buffer-then-n-le72
@@ -247,14 +247,14 @@ shape_of-buffer-then-n-le72 c =
     let next : (b : List ℕ) (n : ℕ) → Stands b n → (i m : ℕ) → i + m ≤ length c.args.text.now → i ≤ n → n ≤ i + m → (after : List ℕ) → after ≡ pasted b (c.args.at + i) (take m (drop i c.args.text.now)) → Stands after (i + m) = λ b n begun i m inside low high after e. begun-turn _ _ _ c.requires.in_bounds.1 b n begun i m inside low high after e in
     let buffer-of : List ℕ = (
     let a = c.args in
-    take a.at a.buffer.now ++ (c.put_word.new.1.0 ++ drop (a.at + 8 - a.at) (drop a.at a.buffer.now))
+    take a.at a.buffer.now ++ (c.put_word.new.to ++ drop (a.at + 8 - a.at) (drop a.at a.buffer.now))
     ) in
     let first-put : Stands buffer-of 8 = (
     let bytes : AreBytes c.args.text.now = λ k. omega (arith, c.type_inv.text k) in
     begun-word _ _ _ c.requires.in_bounds.1 c.requires.in_bounds.0 bytes _ c.requires.first_value _ _ c.put_word.ensures refl
     ) in
-    let second-put : Stands c.put32.new.1.1.0 40 = next _ 8 first-put 8 32 (omega (arith, c.if-n-lt40.false)) (omega arith) (omega arith) _ c.put32.ensures in
-    let long-put : ( Stands c.put32-then-n-le72.new.1.1.0 (length c.args.text.now - 32 + 32)) = (
+    let second-put : Stands c.put32.new.buffer 40 = next _ 8 first-put 8 32 (omega (arith, c.if-n-lt40.false)) (omega arith) (omega arith) _ c.put32.ensures in
+    let long-put : ( Stands c.put32-then-n-le72.new.buffer (length c.args.text.now - 32 + 32)) = (
     let n = length c.args.text.now in
     let more : 40 ≤ n = c.if-n-lt40.false in
     let less : n ≤ 72 = c.if-n-le72.true in
@@ -268,14 +268,14 @@ returns-then-n-le72 c =
     let next : (b : List ℕ) (n : ℕ) → Stands b n → (i m : ℕ) → i + m ≤ length c.args.text.now → i ≤ n → n ≤ i + m → (after : List ℕ) → after ≡ pasted b (c.args.at + i) (take m (drop i c.args.text.now)) → Stands after (i + m) = λ b n begun i m inside low high after e. begun-turn _ _ _ c.requires.in_bounds.1 b n begun i m inside low high after e in
     let buffer-of : List ℕ = (
     let a = c.args in
-    take a.at a.buffer.now ++ (c.put_word.new.1.0 ++ drop (a.at + 8 - a.at) (drop a.at a.buffer.now))
+    take a.at a.buffer.now ++ (c.put_word.new.to ++ drop (a.at + 8 - a.at) (drop a.at a.buffer.now))
     ) in
     let first-put : Stands buffer-of 8 = (
     let bytes : AreBytes c.args.text.now = λ k. omega (arith, c.type_inv.text k) in
     begun-word _ _ _ c.requires.in_bounds.1 c.requires.in_bounds.0 bytes _ c.requires.first_value _ _ c.put_word.ensures refl
     ) in
-    let second-put : Stands c.put32.new.1.1.0 40 = next _ 8 first-put 8 32 (omega (arith, c.if-n-lt40.false)) (omega arith) (omega arith) _ c.put32.ensures in
-    let long-put : ( Stands c.put32-then-n-le72.new.1.1.0 (length c.args.text.now - 32 + 32)) = (
+    let second-put : Stands c.put32.new.buffer 40 = next _ 8 first-put 8 32 (omega (arith, c.if-n-lt40.false)) (omega arith) (omega arith) _ c.put32.ensures in
+    let long-put : ( Stands c.put32-then-n-le72.new.buffer (length c.args.text.now - 32 + 32)) = (
     let n = length c.args.text.now in
     let more : 40 ≤ n = c.if-n-lt40.false in
     let less : n ≤ 72 = c.if-n-le72.true in
@@ -288,7 +288,7 @@ loop-i-init c =
     let Stands : List ℕ → ℕ → Type 0 = λ b n. Begun c.args.buffer.now c.args.at c.args.text.now b n in
     let buffer-of : List ℕ = (
     let a = c.args in
-    take a.at a.buffer.now ++ (c.put_word.new.1.0 ++ drop (a.at + 8 - a.at) (drop a.at a.buffer.now))
+    take a.at a.buffer.now ++ (c.put_word.new.to ++ drop (a.at + 8 - a.at) (drop a.at a.buffer.now))
     ) in
     let first-put : Stands buffer-of 8 = (
     let bytes : AreBytes c.args.text.now = λ k. omega (arith, c.type_inv.text k) in
@@ -300,7 +300,7 @@ pub put32-requires-in-loop-i : goal.put32-requires-in-loop-i
 put32-requires-in-loop-i c =
     let buffer-of : List ℕ = (
     let a = c.args in
-    take a.at a.buffer.now ++ (c.put_word.new.1.0 ++ drop (a.at + 8 - a.at) (drop a.at a.buffer.now))
+    take a.at a.buffer.now ++ (c.put_word.new.to ++ drop (a.at + 8 - a.at) (drop a.at a.buffer.now))
     ) in
     let Stands : List ℕ → ℕ → Type 0 = λ b n. Begun c.args.buffer.now c.args.at c.args.text.now b n in
     let first-put : Stands buffer-of 8 = (
@@ -320,7 +320,7 @@ pub loop-i-preserved : goal.loop-i-preserved
 loop-i-preserved c =
     let buffer-of : List ℕ = (
     let a = c.args in
-    take a.at a.buffer.now ++ (c.put_word.new.1.0 ++ drop (a.at + 8 - a.at) (drop a.at a.buffer.now))
+    take a.at a.buffer.now ++ (c.put_word.new.to ++ drop (a.at + 8 - a.at) (drop a.at a.buffer.now))
     ) in
     let Stands : List ℕ → ℕ → Type 0 = λ b n. Begun c.args.buffer.now c.args.at c.args.text.now b n in
     let first-put : Stands buffer-of 8 = (
@@ -338,7 +338,7 @@ pub put32-requires-2 : goal.put32-requires-2
 put32-requires-2 c =
     let buffer-of : List ℕ = (
     let a = c.args in
-    take a.at a.buffer.now ++ (c.put_word.new.1.0 ++ drop (a.at + 8 - a.at) (drop a.at a.buffer.now))
+    take a.at a.buffer.now ++ (c.put_word.new.to ++ drop (a.at + 8 - a.at) (drop a.at a.buffer.now))
     ) in
     let Stands : List ℕ → ℕ → Type 0 = λ b n. Begun c.args.buffer.now c.args.at c.args.text.now b n in
     let first-put : Stands buffer-of 8 = (
@@ -353,14 +353,14 @@ shape_of-buffer c =
     let Stands : List ℕ → ℕ → Type 0 = λ b n. Begun c.args.buffer.now c.args.at c.args.text.now b n in
     let buffer-of : List ℕ = (
     let a = c.args in
-    take a.at a.buffer.now ++ (c.put_word.new.1.0 ++ drop (a.at + 8 - a.at) (drop a.at a.buffer.now))
+    take a.at a.buffer.now ++ (c.put_word.new.to ++ drop (a.at + 8 - a.at) (drop a.at a.buffer.now))
     ) in
     let first-put : Stands buffer-of 8 = (
     let bytes : AreBytes c.args.text.now = λ k. omega (arith, c.type_inv.text k) in
     begun-word _ _ _ c.requires.in_bounds.1 c.requires.in_bounds.0 bytes _ c.requires.first_value _ _ c.put_word.ensures refl
     ) in
     let room-then : c.args.at + length c.args.text.now ≤ length buffer-of = begun-room first-put c.requires.in_bounds.1 in
-    let last-put : ( let a = c.args in Begun buffer-of a.at a.text.now c.put32-2.new.1.1.0 (length a.text.now - 32 + 32)) = (
+    let last-put : ( let a = c.args in Begun buffer-of a.at a.text.now c.put32-2.new.buffer (length a.text.now - 32 + 32)) = (
     begun-turn _ _ _ room-then _ _ c.loop-i.invariant.1 (length c.args.text.now - 32) 32 (omega (arith, c.if-n-lt40.false))
     c.loop-i-test.false c.loop-i.invariant.0 _ c.put32-2.ensures
     ) in
@@ -371,14 +371,14 @@ returns c =
     let Stands : List ℕ → ℕ → Type 0 = λ b n. Begun c.args.buffer.now c.args.at c.args.text.now b n in
     let buffer-of : List ℕ = (
     let a = c.args in
-    take a.at a.buffer.now ++ (c.put_word.new.1.0 ++ drop (a.at + 8 - a.at) (drop a.at a.buffer.now))
+    take a.at a.buffer.now ++ (c.put_word.new.to ++ drop (a.at + 8 - a.at) (drop a.at a.buffer.now))
     ) in
     let first-put : Stands buffer-of 8 = (
     let bytes : AreBytes c.args.text.now = λ k. omega (arith, c.type_inv.text k) in
     begun-word _ _ _ c.requires.in_bounds.1 c.requires.in_bounds.0 bytes _ c.requires.first_value _ _ c.put_word.ensures refl
     ) in
     let room-then : c.args.at + length c.args.text.now ≤ length buffer-of = begun-room first-put c.requires.in_bounds.1 in
-    let last-put : ( let a = c.args in Begun buffer-of a.at a.text.now c.put32-2.new.1.1.0 (length a.text.now - 32 + 32)) = (
+    let last-put : ( let a = c.args in Begun buffer-of a.at a.text.now c.put32-2.new.buffer (length a.text.now - 32 + 32)) = (
     begun-turn _ _ _ room-then _ _ c.loop-i.invariant.1 (length c.args.text.now - 32) 32 (omega (arith, c.if-n-lt40.false))
     c.loop-i-test.false c.loop-i.invariant.0 _ c.put32-2.ensures
     ) in

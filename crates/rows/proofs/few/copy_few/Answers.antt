@@ -31,8 +31,7 @@ slice_bounds-row-end c =
 
 pub asks_row-requires : goal.asks_row-requires
 asks_row-requires c =
-    let pre = (c.requires.mapped_run, c.requires.width_in_bounds) in
-    (pre.0.mapping, row-tagged _ _ pre.0.whole _ c.loop-at.invariant.0 c.loop-at-test.true)
+    (c.requires.mapped_run.mapping, row-tagged _ _ c.requires.mapped_run.whole _ c.loop-at.invariant.0 c.loop-at-test.true)
 
 pub put-to-requires : goal.put-to-requires
 put-to-requires c =

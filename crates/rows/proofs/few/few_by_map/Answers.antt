@@ -13,7 +13,7 @@ returns-then-not-few_fit c = handed-none _ _ (sym c.few_fit.ensures ∙ c.if-not
 
 pub copy_few-end-requires : goal.copy_few-end-requires
 copy_few-end-requires c =
-    (c.requires, leb-true _ _ (sym c.few_fit.ensures ∙ c.if-not-few_fit.false))
+    record { mapped_run = c.requires; width_in_bounds = leb-true _ _ (sym c.few_fit.ensures ∙ c.if-not-few_fit.false) }
 
 pub nonzero_div-result : goal.nonzero_div-result
 nonzero_div-result c =

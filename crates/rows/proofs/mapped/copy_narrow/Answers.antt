@@ -31,8 +31,7 @@ slice_bounds-row-end c =
 
 pub number4-requires : goal.number4-requires
 number4-requires c =
-    let pre = (c.requires.run, c.requires.width_in_bounds) in
-    row-tagged _ _ pre.0 _ c.loop-at.invariant.0 c.loop-at-test.true
+    row-tagged _ _ c.requires.run _ c.loop-at.invariant.0 c.loop-at-test.true
 
 pub put-to-requires : goal.put-to-requires
 put-to-requires c =

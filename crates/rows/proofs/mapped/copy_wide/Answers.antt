@@ -35,9 +35,8 @@ slice_bounds-row-end c =
 
 pub number8-first-requires : goal.number8-first-requires
 number8-first-requires c =
-    let pre = (c.requires.run, c.requires.width_in_bounds) in
-    let long = row-long _ _ pre.0.0 _ c.loop-at.invariant.0 c.loop-at-test.true in
-    omega (arith, pre.0.1)
+    let long = row-long _ _ c.requires.run.0 _ c.loop-at.invariant.0 c.loop-at-test.true in
+    omega (arith, c.requires.run.1)
 
 pub put_row-requires : goal.put_row-requires
 put_row-requires c =

@@ -31,7 +31,7 @@ returns-then-not-mapped_fits c =
 
 pub copy_mapped-end-requires : goal.copy_mapped-end-requires
 copy_mapped-end-requires c =
-    (c.requires.whole, leb-true _ _ (sym c.mapped_fits.ensures ∙ c.if-not-mapped_fits.false))
+    record { run = c.requires.whole; width_in_bounds = leb-true _ _ (sym c.mapped_fits.ensures ∙ c.if-not-mapped_fits.false) }
 
 pub returns : goal.returns
 returns c =

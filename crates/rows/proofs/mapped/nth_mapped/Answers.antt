@@ -54,7 +54,7 @@ pub loop-at-preserved-else-left-eq0 : goal.loop-at-preserved-else-left-eq0
 loop-at-preserved-else-left-eq0 c =
     let a = c.args in
     let at = c.loop-at.at in
-    let left = c.loop-at.false in
+    let left = c.loop-at.left in
     let test = row_held a.slots.now in
     let row = take (at + a.width - at) (drop at a.run.now) in
     let passed = sym (c.has.ensures ∙ ap (held a.slots.now) c.number4-tag.ensures) ∙ c.if-has.true in
@@ -71,7 +71,7 @@ pub loop-at-preserved : goal.loop-at-preserved
 loop-at-preserved c =
     let a = c.args in
     let at = c.loop-at.at in
-    let left = c.loop-at.false in
+    let left = c.loop-at.left in
     let test = row_held a.slots.now in
     let row = take (at + a.width - at) (drop at a.run.now) in
     let failed = sym (c.has.ensures ∙ ap (held a.slots.now) c.number4-tag.ensures) ∙ c.if-has.false in

@@ -14,7 +14,7 @@ returns-then-not-has_room c = handed-none _ _ (sym c.has_room.ensures ∙ c.if-n
 
 pub copy_readable-end-requires : goal.copy_readable-end-requires
 copy_readable-end-requires c =
-    (c.requires, leb-true _ _ (sym c.has_room.ensures ∙ c.if-not-has_room.false))
+    record { usable = c.requires; width_in_bounds = leb-true _ _ (sym c.has_room.ensures ∙ c.if-not-has_room.false) }
 
 pub nonzero_div-result : goal.nonzero_div-result
 nonzero_div-result c =

@@ -33,14 +33,13 @@ slice_bounds-copy_row-end c =
 pub copy_row-to-requires : goal.copy_row-to-requires
 copy_row-to-requires c =
     let a = c.args in
-    let pre = (c.requires.usable, c.requires.width_in_bounds) in
     let inv = c.loop-at.invariant in
     let turn = c.loop-at-test.true in
     let at = c.loop-at.at in
     let test = row_readable a.image.now (rights_of a.view) in
     let row = row_bytes test (take (at + a.width - at) (drop at a.run.now)) in
-    let step = part_step test _ _ pre.0.whole _ inv.0 turn in
-    ((pre.0.accepted, row-tagged _ _ pre.0.whole _ inv.0 turn), left-room _ _ _ _ _ _ inv.1 row _ step (rw zero-add pre.1))
+    let step = part_step test _ _ c.requires.usable.whole _ inv.0 turn in
+    record { accepted = (c.requires.usable.accepted, row-tagged _ _ c.requires.usable.whole _ inv.0 turn); row_in_bounds = left-room _ _ _ _ _ _ inv.1 row _ step (rw zero-add c.requires.width_in_bounds) }
 
 pub loop-at-smaller : goal.loop-at-smaller
 loop-at-smaller c =
@@ -50,11 +49,10 @@ loop-at-smaller c =
 pub loop-at-preserved : goal.loop-at-preserved
 loop-at-preserved c =
     let a = c.args in
-    let pre = (c.requires.usable, c.requires.width_in_bounds) in
     let inv = c.loop-at.invariant in
     let turn = c.loop-at-test.true in
-    let step = part_step (row_readable a.image.now (rights_of a.view)) _ _ pre.0.whole _ inv.0 turn in
-    (rest-next _ _ pre.0.whole _ inv.0 turn, left-turn _ _ _ _ _ _ inv.1 _ _ step _ _ (rw zero-add pre.1) c.copy_row-to.ensures)
+    let step = part_step (row_readable a.image.now (rights_of a.view)) _ _ c.requires.usable.whole _ inv.0 turn in
+    (rest-next _ _ c.requires.usable.whole _ inv.0 turn, left-turn _ _ _ _ _ _ inv.1 _ _ step _ _ (rw zero-add c.requires.width_in_bounds) c.copy_row-to.ensures)
 
 pub shape_of-buffer : goal.shape_of-buffer
 shape_of-buffer c = c.loop-at.invariant.1.long

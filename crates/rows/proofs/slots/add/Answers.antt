@@ -23,7 +23,7 @@ pub returns-then-slots-slot-eq0 : goal.returns-then-slots-slot-eq0
 returns-then-slots-slot-eq0 c =
     let inv = c.loop-slot.invariant in
     let own = c.slot_of-slot.ensures.0 in
-    λ (yes· : true ≡ true).
+    λ (yes : true ≡ true).
     rw inv.0
     (added _ _ _ (omega (arith, c.requires.1)) (rw inv.0 at c.if-slots-slot-eq0.true) c.requires.0 (rw (← own) inv.1.0)
     (rw (← own) c.loop-slot-test.true) (rw (← own) inv.1.1.1))

@@ -1,7 +1,6 @@
 use Prim.Native.Nat.{◌+◌, ◌≤◌, ◌<◌}
 use mathlib.Core.Path.{◌≡◌, sym, ap, subst, ◌∙◌}
 use mathlib.Core.Bool.{false≢true}
-use mathlib.Core.Logic.{⊎_elim}
 use native.Mathlib.Omega.{arith}
 use borrow.Author.Tests.{not-false}
 use Rattle.header.specs.declared.layout.Kind.TheVariants.{Label}
@@ -14,6 +13,7 @@ use Rattle.image.proofs.Policy.{label_kept}
 use Rattle.rows.specs.Slots.{Holding}
 use Rattle.rows.proofs.CompleteTags.{holding-pass, holding-add, holding-end}
 use Rattle.rows.proofs.tags.fill.Goals as goal
+use Rattle.rows.proofs.tags.fill.Goals.{then-bit_of+else-not-add, else-bit_of}
 
 pub shape_of-shape-requires : goal.shape_of-shape-requires
 shape_of-shape-requires c = header-inside _ (accepted-counted _ c.requires.mapping.accepted).fitted
@@ -73,13 +73,14 @@ loop-p-preserved c =
       omega (arith, c.loop-p-test.true),
       (
         c.next_record-here.ensures,
-        ⊎_elim
-            (λ t.
-            subst (Holding im bits (p + 1)) (sym t.6)
-            (holding-add im bits p _ holding c.requires.mapping.accepted inside (sym c.bit_of.ensures ∙ t.0.taken) _
-            (t.2.ensures ∙ ap tag_of t.1.ensures.0) _ (t.4.ensures (not-false _ t.5.left))))
-            (λ e. subst (Holding im bits (p + 1)) (sym e.1) (holding-pass im bits p _ holding (sym c.bit_of.ensures ∙ e.0.left)))
-            c.if-bit_of.branch,
+        elim c.if-bit_of.branch [
+          then-bit_of+else-not-add w ↦
+            subst (Holding im bits (p + 1)) (sym w.slots-is)
+            (holding-add im bits p _ holding c.requires.mapping.accepted inside (sym c.bit_of.ensures ∙ w.if-bit_of.true) _
+            (w.number4-tag.ensures ∙ ap tag_of w.placed_part.ensures.0) _ (w.add.ensures w.if-not-add.false))
+          | else-bit_of w ↦
+            subst (Holding im bits (p + 1)) (sym w.slots-is) (holding-pass im bits p _ holding (sym c.bit_of.ensures ∙ w.if-bit_of.false))
+        ],
       ),
     )
 

@@ -1,4 +1,4 @@
-use Prim.Native.Nat.{ℕ, ◌+◌, ◌-◌, ◌≤◌, ◌<◌}
+use Prim.Native.Nat.{ℕ, ◌+◌, ◌-◌, ◌≤◌, ◌<◌, min}
 use mathlib.Core.Path.{◌≡◌, refl, sym, ap, subst, ◌∙◌}
 use mathlib.Core.List.{List, [], ◌++◌, flatten}
 use native.Mathlib.Nat.{zero-add}
@@ -7,16 +7,14 @@ use lib.ListN.{length, drop, length-drop, drop_of_length-le}
 use lib.Seq.{drop-drop, get_or-drop}
 use Rattle.header.specs.declared.layout.Kind.{Kind}
 use Rattle.header.specs.declared.layout.Shape.{Shape}
-use Rattle.header.specs.Layout.{edition_of, record_size, count_of, record_slot, records_of, Standing, OneBlock}
+use Rattle.header.specs.declared.walk.RecordAt.{RecordAt}
+use Rattle.header.specs.Layout.{edition_of, record_size, count_of, record_slot, records_of, Shaped, Standing, OneBlock}
 use Rattle.header.proofs.Inside.{header-inside, record-upto, records-count, slot-below, offset-shaped}
 use Rattle.records.specs.Kinds.{RunOf}
 use Rattle.buffers.proofs.Left.{left-start, left-room, left-turn, left_end}
 use Rattle.writing.proofs.Runs.{run-front}
+use Rattle.writing.proofs.apart.put_records.Invariants.{rest}
 use Rattle.writing.proofs.apart.put_records.Goals as goal
-
--- the records from place i on, one right after the other
-abbrev rest : List ℕ → Kind → ℕ → List ℕ
-rest im kind i = flatten (drop i (records_of im kind))
 
 rest-turn : (im : List ℕ) (kind : Kind) (from to : ℕ) (run : List ℕ) → RunOf im kind from to run → from < to → to ≤ count_of im kind
     → rest im kind from ≡ run ++ rest im kind to
@@ -32,6 +30,20 @@ unfolding flatten
 rest_end im kind i h =
     let past : length (records_of im kind) ≤ i = omega (arith, records-count im kind) in
     ap flatten (drop_of_length-le (records_of im kind) past)
+
+-- a turn of the loop: the records up to the block's end, or to the last, stand in one block
+walked : (im : List ℕ) (kind : Kind) (shape : Shape) (here : RecordAt) (from to : ℕ) → Shaped im kind shape → Standing shape from here
+    → from < shape.count → to ≡ min shape.count (from + here.left) → (to ≤ count_of im kind) × ((from < to) × OneBlock im kind here.at from to)
+walked im kind shape here from to s stand more upto =
+    let count : shape.count ≡ count_of im kind = ap (λ (x : Shape). x.count) s.is in
+    let left = ap (λ (x : Shape). x.capacity - record_slot x from) s.is in
+    let some = slot-below shape s.roomy from in (
+      omega arith,
+      (
+        omega (arith, stand.more),
+        record { begins = offset-shaped _ _ _ _ _ s stand.begins; upto = omega (arith, stand.more, left) },
+      ),
+    )
 
 pub shape_of-shape-requires : goal.shape_of-shape-requires
 shape_of-shape-requires c = header-inside _ c.requires.0.fitted
@@ -53,46 +65,15 @@ overflow_add-from c =
 
 pub run_in_block-run-requires : goal.run_in_block-run-requires
 run_in_block-run-requires c =
-    let in_block : let a = c.args in (c.lower-to.result ≤ count_of a.image.now a.kind) × ((c.loop-from.from < c.lower-to.result) × OneBlock a.image.now a.kind c.loop-from.here.at c.loop-from.from c.lower-to.result) = (
-    let l = c.loop-from in
-    let s = c.shape_of-shape.ensures in
-    let shape : Shape = c.shape_of-shape.result in
-    let a = c.args in
-    let count : shape.count ≡ count_of a.image.now a.kind = ap (λ (x : Shape). x.count) s.is in
-    let stand = l.invariant.0 c.loop-from-test.true in
-    let left = ap (λ (x : Shape). x.capacity - record_slot x l.from) s.is in
-    let some = slot-below shape s.roomy l.from in (
-      omega arith,
-      (
-        omega (arith, stand.more, c.loop-from-test.true),
-        record { begins = offset-shaped _ _ _ _ _ s stand.begins; upto = omega (arith, stand.more, left) },
-      ),
-    )
-    ) in
-    ((c.requires.0.fitted, c.shape_of-shape.ensures), in_block)
+    let in_block = walked c.args.image.now c.args.kind c.shape_of-shape.result c.loop-from.here c.loop-from.from _ c.shape_of-shape.ensures
+    (c.loop-from.invariant.0 c.loop-from-test.true) c.loop-from-test.true c.lower-to.ensures in
+    record { fitted = (c.requires.0.fitted, c.shape_of-shape.ensures); to_bound = in_block }
 
 pub put-end-requires : goal.put-end-requires
 put-end-requires c =
-    let in_block : let a = c.args in (c.lower-to.result ≤ count_of a.image.now a.kind) × ((c.loop-from.from < c.lower-to.result) × OneBlock a.image.now a.kind c.loop-from.here.at c.loop-from.from c.lower-to.result) = (
-    let l = c.loop-from in
-    let s = c.shape_of-shape.ensures in
-    let shape : Shape = c.shape_of-shape.result in
-    let a = c.args in
-    let count : shape.count ≡ count_of a.image.now a.kind = ap (λ (x : Shape). x.count) s.is in
-    let stand = l.invariant.0 c.loop-from-test.true in
-    let left = ap (λ (x : Shape). x.capacity - record_slot x l.from) s.is in
-    let some = slot-below shape s.roomy l.from in (
-      omega arith,
-      (
-        omega (arith, stand.more, c.loop-from-test.true),
-        record { begins = offset-shaped _ _ _ _ _ s stand.begins; upto = omega (arith, stand.more, left) },
-      ),
-    )
-    ) in
-    let turn : let a = c.args in rest a.image.now a.kind c.loop-from.from ≡ c.run_in_block-run.result.now ++ rest a.image.now a.kind c.lower-to.result = (
-    let b = in_block in
-    rest-turn _ _ _ _ _ c.run_in_block-run.ensures b.1.0 b.0
-    ) in
+    let in_block = walked c.args.image.now c.args.kind c.shape_of-shape.result c.loop-from.here c.loop-from.from _ c.shape_of-shape.ensures
+    (c.loop-from.invariant.0 c.loop-from-test.true) c.loop-from-test.true c.lower-to.ensures in
+    let turn = rest-turn c.args.image.now c.args.kind _ _ _ c.run_in_block-run.ensures in_block.1.0 in_block.0 in
     let left = rest c.args.image.now c.args.kind c.lower-to.result in
     left-room _ _ _ _ _ _ c.loop-from.invariant.1 c.run_in_block-run.result.now left turn (rw zero-add c.requires.1)
 
@@ -111,46 +92,15 @@ next_block-here-requires c =
 
 pub loop-from-smaller : goal.loop-from-smaller
 loop-from-smaller c =
-    let in_block : let a = c.args in (c.lower-to.result ≤ count_of a.image.now a.kind) × ((c.loop-from.from < c.lower-to.result) × OneBlock a.image.now a.kind c.loop-from.here.at c.loop-from.from c.lower-to.result) = (
-    let l = c.loop-from in
-    let s = c.shape_of-shape.ensures in
-    let shape : Shape = c.shape_of-shape.result in
-    let a = c.args in
-    let count : shape.count ≡ count_of a.image.now a.kind = ap (λ (x : Shape). x.count) s.is in
-    let stand = l.invariant.0 c.loop-from-test.true in
-    let left = ap (λ (x : Shape). x.capacity - record_slot x l.from) s.is in
-    let some = slot-below shape s.roomy l.from in (
-      omega arith,
-      (
-        omega (arith, stand.more, c.loop-from-test.true),
-        record { begins = offset-shaped _ _ _ _ _ s stand.begins; upto = omega (arith, stand.more, left) },
-      ),
-    )
-    ) in
+    let in_block = walked c.args.image.now c.args.kind c.shape_of-shape.result c.loop-from.here c.loop-from.from _ c.shape_of-shape.ensures
+    (c.loop-from.invariant.0 c.loop-from-test.true) c.loop-from-test.true c.lower-to.ensures in
     omega (arith, in_block.1.0, c.loop-from-test.true)
 
 pub loop-from-preserved : goal.loop-from-preserved
 loop-from-preserved c =
-    let in_block : let a = c.args in (c.lower-to.result ≤ count_of a.image.now a.kind) × ((c.loop-from.from < c.lower-to.result) × OneBlock a.image.now a.kind c.loop-from.here.at c.loop-from.from c.lower-to.result) = (
-    let l = c.loop-from in
-    let s = c.shape_of-shape.ensures in
-    let shape : Shape = c.shape_of-shape.result in
-    let a = c.args in
-    let count : shape.count ≡ count_of a.image.now a.kind = ap (λ (x : Shape). x.count) s.is in
-    let stand = l.invariant.0 c.loop-from-test.true in
-    let left = ap (λ (x : Shape). x.capacity - record_slot x l.from) s.is in
-    let some = slot-below shape s.roomy l.from in (
-      omega arith,
-      (
-        omega (arith, stand.more, c.loop-from-test.true),
-        record { begins = offset-shaped _ _ _ _ _ s stand.begins; upto = omega (arith, stand.more, left) },
-      ),
-    )
-    ) in
-    let turn : let a = c.args in rest a.image.now a.kind c.loop-from.from ≡ c.run_in_block-run.result.now ++ rest a.image.now a.kind c.lower-to.result = (
-    let b = in_block in
-    rest-turn _ _ _ _ _ c.run_in_block-run.ensures b.1.0 b.0
-    ) in
+    let in_block = walked c.args.image.now c.args.kind c.shape_of-shape.result c.loop-from.here c.loop-from.from _ c.shape_of-shape.ensures
+    (c.loop-from.invariant.0 c.loop-from-test.true) c.loop-from-test.true c.lower-to.ensures in
+    let turn = rest-turn c.args.image.now c.args.kind _ _ _ c.run_in_block-run.ensures in_block.1.0 in_block.0 in
     let l = c.loop-from in
     let to = c.lower-to.result in
     let shape : Shape = c.shape_of-shape.result in (

@@ -1,8 +1,14 @@
-use Prim.Native.Nat.{◌-◌, ◌<◌}
-use mathlib.Core.List.{flatten}
+use Prim.Native.Nat.{ℕ, ◌-◌, ◌<◌}
+use mathlib.Core.List.{List, flatten}
+use lib.ListN.{drop}
+use Rattle.header.specs.declared.layout.Kind.{Kind}
 use Rattle.header.specs.Layout.{records_of, Standing}
 use Rattle.buffers.proofs.Left.{Left}
 use Rattle.writing.proofs.apart.put_records.Given as goal
+
+-- the records from place i on, one right after the other
+abbrev pub rest : List ℕ → Kind → ℕ → List ℕ
+rest im kind i = flatten (drop i (records_of im kind))
 
 -- past the last place `here` may stand for none
 abbrev pub invariant-loop-from : goal.invariant-loop-from

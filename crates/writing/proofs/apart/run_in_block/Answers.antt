@@ -49,31 +49,21 @@ module _ (im : List ℕ) (kind : Kind) (first from to : ℕ) (fit : Fitted im) (
     shaped-run : RunOf im kind from to (take (first + shape.size * (to - from) - first) (drop first im))
     shaped-run = rw (part-taken im first (shape.size * (to - from)), s.is) block_run
 
+-- the last of them ends in the image
+end_inside : (im : List ℕ) (kind : Kind) (shape : Shape) (first from to : ℕ) → Fitted im × Shaped im kind shape
+    → (to ≤ count_of im kind) × ((from < to) × OneBlock im kind first from to) → first + shape.size * (to - from) ≤ length im
+end_inside im kind shape first from to f p = shaped-inside im kind first from to f.0 p.0 p.1.0 p.1.1 shape f.1
+
 pub overflow_mul-end : goal.overflow_mul-end
-overflow_mul-end c =
-    let inside : c.args.first + c.args.shape.size * (c.args.to - c.args.from) ≤ length c.args.image.now = (
-    let p = (c.requires.fitted, c.requires.to_bound) in
-    shaped-inside _ _ _ _ _ p.0.0 p.1.0 p.1.1.0 p.1.1.1 _ p.0.1
-    ) in
-    omega (arith, inside)
+overflow_mul-end c = omega (arith, end_inside _ _ _ _ _ _ c.requires.fitted c.requires.to_bound)
 
 pub overflow_add-end : goal.overflow_add-end
-overflow_add-end c =
-    let inside : c.args.first + c.args.shape.size * (c.args.to - c.args.from) ≤ length c.args.image.now = (
-    let p = (c.requires.fitted, c.requires.to_bound) in
-    shaped-inside _ _ _ _ _ p.0.0 p.1.0 p.1.1.0 p.1.1.1 _ p.0.1
-    ) in
-    omega (arith, inside)
+overflow_add-end c = omega (arith, end_inside _ _ _ _ _ _ c.requires.fitted c.requires.to_bound)
 
 pub slice_bounds-result-end : goal.slice_bounds-result-end
-slice_bounds-result-end c =
-    let inside : c.args.first + c.args.shape.size * (c.args.to - c.args.from) ≤ length c.args.image.now = (
-    let p = (c.requires.fitted, c.requires.to_bound) in
-    shaped-inside _ _ _ _ _ p.0.0 p.1.0 p.1.1.0 p.1.1.1 _ p.0.1
-    ) in
-    omega (arith, inside)
+slice_bounds-result-end c = omega (arith, end_inside _ _ _ _ _ _ c.requires.fitted c.requires.to_bound)
 
 pub returns : goal.returns
 returns c =
-    let p = (c.requires.fitted, c.requires.to_bound) in
-    shaped-run _ _ _ _ _ p.0.0 p.1.0 p.1.1.0 p.1.1.1 _ p.0.1
+    let p = c.requires.to_bound in
+    shaped-run _ _ _ _ _ c.requires.fitted.0 p.0 p.1.0 p.1.1 _ c.requires.fitted.1

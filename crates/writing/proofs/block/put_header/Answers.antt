@@ -2,13 +2,11 @@ use Rattle.writing.proofs.block.put_header.Goals as goal
 
 pub put_header_one-requires : goal.put_header_one-requires
 put_header_one-requires c =
-    let whole = rw c.in-One.is at (c.requires.groups_bound, c.requires.at_in_bounds) in
-    record { groups_bound = whole.0; at_in_bounds = whole.1 }
+    record { groups_bound = rw c.in-One.is at c.requires.groups_bound; at_in_bounds = c.requires.at_in_bounds }
 
 pub put_header_two-requires : goal.put_header_two-requires
 put_header_two-requires c =
-    let whole = rw c.in-Two.is at (c.requires.groups_bound, c.requires.at_in_bounds) in
-    record { groups_bound = whole.0; at_in_bounds = whole.1 }
+    record { groups_bound = rw c.in-Two.is at c.requires.groups_bound; at_in_bounds = c.requires.at_in_bounds }
 
 pub returns-in-One : goal.returns-in-One
 returns-in-One c =

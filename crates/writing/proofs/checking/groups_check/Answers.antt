@@ -31,14 +31,16 @@ fill-requires c =
     let a = c.args in
     let n = a.existing.counts in
     let components = run_records 40 a.components.now in
-    let most = subst (λ (m : Counts). m.levels + m.compartments + m.groups ≤ length components) (sym c.requires.1) (counts-most n.edition n.profile components) in
+    let most = subst (λ (m : Counts). m.levels + m.compartments + m.groups ≤ length components) (sym c.requires.1)
+    (counts-most n.edition n.profile components) in
     (omega (arith, run-count 40 a.components.now), c.requires.0.few_groups)
 
 pub returns-then-g-counts : goal.returns-then-g-counts
 returns-then-g-counts c =
     let a = c.args in
     let n = a.existing.counts in
-    let found = found-ring (forest_in n (run_records 40 a.components.now)) c.fill.new.1.1.0 _ _ _ refl c.requires.0.few_groups c.fill.ensures c.put_order-g.ensures in
+    let found = found-ring (forest_in n (run_records 40 a.components.now)) c.fill.new.table _ _ _ refl c.requires.0.few_groups
+    c.fill.ensures c.put_order-g.ensures in
     sym (told_here Ring _ _ n.groups refl found c.if-g-counts.true)
 
 pub first_bad_user-u-requires : goal.first_bad_user-u-requires
@@ -46,17 +48,19 @@ first_bad_user-u-requires c =
     let a = c.args in
     let n = a.existing.counts in
     let f = forest_in n (run_records 40 a.components.now) in
-    let found = found-ring (forest_in n (run_records 40 a.components.now)) c.fill.new.1.1.0 _ _ _ refl c.requires.0.few_groups c.fill.ensures c.put_order-g.ensures in
-    let before = c.fill.new.1.1.0 in
+    let found = found-ring (forest_in n (run_records 40 a.components.now)) c.fill.new.table _ _ _ refl c.requires.0.few_groups
+    c.fill.ensures c.put_order-g.ensures in
+    let before = c.fill.new.table in
     let fits = c.requires.0.few_groups in
-    let all : n.groups ≤ c.put_order-g.result = c.if-g-counts.false in (
-      c.requires.0,
-      (
+    let all : n.groups ≤ c.put_order-g.result = c.if-g-counts.false in
+    record {
+      exist = c.requires.0;
+      tabled_in = (
         found-parents f before _ _ _ refl fits c.fill.ensures c.put_order-g.ensures,
         ring-none f (omega (arith, found)),
         found-ordered f before _ _ _ refl fits c.fill.ensures c.put_order-g.ensures all,
-      ),
-    )
+      );
+    }
 
 pub nonzero_div-users : goal.nonzero_div-users
 nonzero_div-users c =
@@ -69,7 +73,8 @@ returns-then-u-users c =
     let n = a.existing.counts in
     let components = run_records 40 a.components.now in
     let users = a.users.now in
-    let found = found-ring (forest_in n components) c.fill.new.1.1.0 _ _ _ refl c.requires.0.few_groups c.fill.ensures c.put_order-g.ensures in
+    let found = found-ring (forest_in n components) c.fill.new.table _ _ _ refl c.requires.0.few_groups
+    c.fill.ensures c.put_order-g.ensures in
     let told = c.size.ensures in
     sym (told-after Ring _ _ n.groups refl found c.if-g-counts.false
     ∙ told_here (Record User) Sound _ _ (count n users _ told) c.first_bad_user-u.ensures c.if-u-users.true)
@@ -80,7 +85,8 @@ returns c =
     let n = a.existing.counts in
     let components = run_records 40 a.components.now in
     let users = a.users.now in
-    let found = found-ring (forest_in n components) c.fill.new.1.1.0 _ _ _ refl c.requires.0.few_groups c.fill.ensures c.put_order-g.ensures in
+    let found = found-ring (forest_in n components) c.fill.new.table _ _ _ refl c.requires.0.few_groups
+    c.fill.ensures c.put_order-g.ensures in
     let told = c.size.ensures in
     sym (told-after Ring _ _ n.groups refl found c.if-g-counts.false
     ∙ told-after (Record User) Sound _ _ (count n users _ told) c.first_bad_user-u.ensures c.if-u-users.false)

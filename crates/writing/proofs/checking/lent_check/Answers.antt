@@ -2,7 +2,6 @@ use Prim.Native.Nat.{ℕ, ◌≤◌}
 use mathlib.Core.Path.{◌≡◌, sym, ap, ap₂, ◌∙◌, subst}
 use mathlib.Core.Bool.{true, false}
 use mathlib.Core.List.{List}
-use borrow.Author.Tests.{not-true, not-false}
 use Rattle.sets.specs.Groups.{width}
 use Rattle.header.specs.declared.edition.Edition.{Edition}
 use Rattle.header.specs.declared.profile.Profile.{Profile}
@@ -57,7 +56,12 @@ records_check-requires c =
     let held = layout-means a.edition a.profile bytes (sym c.layout_fits.ensures ∙ c.if-not-layout_fits.false) in
     let is = c.existing_by.ensures.1 ∙ c.lent_counts-counts.ensures in
     let named-is = is
-    ∙ ap₂ (λ (e : Edition) (p : Profile). lent_counts e p (run_records 40 a.components.now)) c.edition_named.ensures c.profile_named.ensures in record { exist = (c.existing_by.ensures.0, own-counts _ _ _ _ is); levels_bound = subst (λ (m : Counts). (m.levels ≤ 256) × LentParts m.edition bytes) (sym named-is) (limited-levels _ _ _ held.limited, held.whole) }
+    ∙ ap₂ (λ (e : Edition) (p : Profile). lent_counts e p (run_records 40 a.components.now)) c.edition_named.ensures c.profile_named.ensures in
+    record {
+      exist = (c.existing_by.ensures.0, own-counts _ _ _ _ is);
+      levels_bound =
+          subst (λ (m : Counts). (m.levels ≤ 256) × LentParts m.edition bytes) (sym named-is) (limited-levels _ _ _ held.limited, held.whole);
+    }
 
 pub returns : goal.returns
 returns c =

@@ -40,7 +40,7 @@ module _ (n : Counts) (kind : Kind) (bytes : List ℕ) (size r : ℕ) (told : si
 
 pub first_bad-c-requires : goal.first_bad-c-requires
 first_bad-c-requires c =
-    ((c.requires.exist.0, c.requires.levels_bound.0), c.requires.levels_bound.1 Component)
+    record { exist = (c.requires.exist.0, c.requires.levels_bound.0); kind_len = c.requires.levels_bound.1 Component }
 
 pub returns-then-c-components : goal.returns-then-c-components
 unfolding records_check
@@ -50,7 +50,7 @@ returns-then-c-components c =
 
 pub first_bad-k-requires : goal.first_bad-k-requires
 first_bad-k-requires c =
-    ((c.requires.exist.0, c.requires.levels_bound.0), c.requires.levels_bound.1 Label)
+    record { exist = (c.requires.exist.0, c.requires.levels_bound.0); kind_len = c.requires.levels_bound.1 Label }
 
 pub nonzero_div-labels : goal.nonzero_div-labels
 nonzero_div-labels c =
@@ -67,7 +67,7 @@ returns-then-k-labels c =
 
 pub first_bad-u-requires : goal.first_bad-u-requires
 first_bad-u-requires c =
-    ((c.requires.exist.0, c.requires.levels_bound.0), c.requires.levels_bound.1 User)
+    record { exist = (c.requires.exist.0, c.requires.levels_bound.0); kind_len = c.requires.levels_bound.1 User }
 
 pub nonzero_div-users : goal.nonzero_div-users
 nonzero_div-users c =

@@ -1,21 +1,14 @@
-use Prim.Native.Nat.{ℕ, ◌/◌}
+use Prim.Native.Nat.{◌/◌}
 use mathlib.Core.Path.{sym, ap, ◌∙◌}
-use mathlib.Core.Bool.{Bool}
-use mathlib.Core.List.{List}
-use mathlib.Core.Logic.{⊎_elim}
 use native.Mathlib.Nat.{sub-zero, zero-add}
 use native.Mathlib.Omega.{arith}
-use lib.Dec.{eqb}
 use lib.ListN.{length}
 use Rattle.fields.proofs.PlacesWhere.{turn-here, turn-not, turn_end}
-use Rattle.records.specs.Fields.{class_of}
-use Rattle.records.specs.Rules.{record_in, run_records}
 use Rattle.writing.specs.Lent.{class_total}
 use Rattle.records.proofs.Parts.{run-count}
+use Rattle.writing.proofs.counting.class_total.Invariants.{named}
 use Rattle.writing.proofs.counting.class_total.Goals as goal
-
-abbrev named : List ℕ → ℕ → ℕ → Bool
-named components class i = eqb (class_of (record_in (run_records 40 components) i)) class
+use Rattle.writing.proofs.counting.class_total.Goals.{then-names_class, else-names_class}
 
 pub loop-i-init : goal.loop-i-init
 loop-i-init c = (omega arith, rw (sub-zero, zero-add))
@@ -41,10 +34,10 @@ loop-i-preserved c =
     let test = named a.components.now a.class in
     let here = c.loop-i-test.true in
     let told = sym c.names_class.ensures in
-    ⊎_elim
-    (λ t. let step = ap length (turn-here test n i here (told ∙ t.0.taken)) in (omega (arith, t.1, inv.0), omega (arith, t.1, inv.1)))
-    (λ f. let step = ap length (turn-not test n i here (told ∙ f.0.left)) in (omega (arith, f.1, inv.0), omega (arith, f.1, inv.1)))
-    c.if-names_class.branch
+    elim c.if-names_class.branch [
+      | then-names_class w ↦ let step = ap length (turn-here test n i here (told ∙ w.if-names_class.true)) in (omega arith, omega arith)
+      | else-names_class w ↦ let step = ap length (turn-not test n i here (told ∙ w.if-names_class.false)) in (omega arith, omega arith)
+    ]
 
 pub returns : goal.returns
 unfolding class_total

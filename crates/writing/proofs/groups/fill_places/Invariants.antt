@@ -8,7 +8,8 @@ use Rattle.writing.proofs.groups.fill_places.Given as goal
 
 abbrev pub invariant-loop-g : goal.invariant-loop-g
 invariant-loop-g l =
-    (l.g ≤ l.counts.groups) × ((length l.places ≡ table_length) × ((k : ℕ) → k < l.g → parent_by l.places k ≡ parent_in l.counts (run_records 40 l.components) k))
+    (l.g ≤ l.counts.groups) × ((length l.places ≡ table_length)
+    × ((k : ℕ) → k < l.g → parent_by l.places k ≡ parent_in l.counts (run_records 40 l.components) k))
 
 abbrev pub decreases-loop-g : goal.decreases-loop-g
 decreases-loop-g l = l.counts.groups - l.g

@@ -9,10 +9,9 @@ use Rattle.writing.proofs.groups.first_bad_user.Goals as goal
 
 pub first_bad_sets-requires : goal.first_bad_sets-requires
 first_bad_sets-requires c =
-    let p = (c.requires.exist, c.requires.tabled_in) in
     let n = c.args.existing.counts in
     let f = forest_in n (run_records 40 c.args.components.now) in
-    (tabled-by f n.groups c.args.table.now refl p.0.few_groups p.1, (c.in_run.ensures.among, refl))
+    (tabled-by f n.groups c.args.table.now refl c.requires.exist.few_groups c.requires.tabled_in, (c.in_run.ensures.among, refl))
 
 pub returns : goal.returns
 returns c =

@@ -8,30 +8,33 @@ use Rattle.header.specs.declared.layout.Kind.{Kind}
 use Rattle.header.specs.declared.layout.Kind.TheVariants.{Component, Label, User}
 use Rattle.header.specs.Layout.{record_size, capacity_of, blocks_for}
 use Rattle.buffers.proofs.FrontWritten.{answer-room, answer-done}
-use Rattle.writing.specs.Laid.{image_of, Limited}
+use Rattle.writing.specs.Laid.{image_of, Fits}
 use Rattle.writing.specs.Lent.{bytes_by, lent_records}
 use Rattle.writing.proofs.Placed.{image-length}
 use Rattle.records.proofs.BlockRuns.{size-some}
-use Rattle.records.proofs.Parts.{run-count}
+use Rattle.writing.proofs.LentNumbers.{lent-counted, lent-told, lent-limited}
 use Rattle.writing.proofs.FewRecords.{few-components, few-labels, few-users}
 use Rattle.writing.proofs.laying.write_image.Goals as goal
 
--- what is lent, and its records
-module _ (s : goal.Start) where
-  abbrev n : Counts
-  n = c.args.counts
-
-  abbrev bytes : Kind → List ℕ
-  bytes = bytes_by c.args.components.now c.args.labels.now c.args.users.now
-
-  abbrev records : Kind → List (List ℕ)
-  records = lent_records n.edition bytes
-
-  counted : (kind : Kind) → length (records kind) ≡ length (bytes kind) / record_size n.edition kind
-  counted kind = run-count (record_size n.edition kind) (bytes kind)
-
-  limited : Limited n (length (records User)) (length (records Label))
-  limited = rw (counted User, counted Label) c.requires.limited
+-- the length that is asked for is the image's
+image-long : (n : Counts) (bytes : Kind → List ℕ) {label user long : ℕ} → label ≡ record_size n.edition Label → user ≡ record_size n.edition User
+    → Fits n (lent_records n.edition bytes)
+    → long ≡ 512 * (1 + blocks_for (capacity_of n.edition Component) (length (bytes Component) / 40)
+    + blocks_for (capacity_of n.edition Label) (length (bytes Label) / label) + blocks_for (capacity_of n.edition User) (length (bytes User) / user))
+    → long ≡ length (image_of n (lent_records n.edition bytes))
+image-long n bytes {label} {user} l u fits e =
+    let cap = capacity_of n.edition in
+    let records = lent_records n.edition bytes in
+    let x = length (records Component) in
+    let y = length (records Label) in
+    let labels = length (bytes Label) / label in
+    let users = length (bytes User) / user in
+    e
+    ∙ ap (λ (k : ℕ). 512 * (1 + blocks_for (cap Component) k + blocks_for (cap Label) labels + blocks_for (cap User) users))
+    (sym (lent-counted n bytes Component))
+    ∙ ap (λ (k : ℕ). 512 * (1 + blocks_for (cap Component) x + blocks_for (cap Label) k + blocks_for (cap User) users)) (lent-told n bytes Label l)
+    ∙ ap (λ (k : ℕ). 512 * (1 + blocks_for (cap Component) x + blocks_for (cap Label) y + blocks_for (cap User) k)) (lent-told n bytes User u)
+    ∙ sym (image-length n records fits.sizes)
 
 pub nonzero_div-label_count : goal.nonzero_div-label_count
 nonzero_div-label_count c =
@@ -45,64 +48,33 @@ nonzero_div-user_count c =
 
 pub length_for-requires : goal.length_for-requires
 length_for-requires c =
-    let l = limited s in (
-      omega (arith, counted s Component, few-components (n s) _ _ l (records s) c.requires.fits),
+    let n = c.args.counts in
+    let bytes = bytes_by c.args.components.now c.args.labels.now c.args.users.now in
+    let l = lent-limited n bytes c.requires.limited in (
+      omega (arith, lent-counted n bytes Component, few-components n _ _ l (lent_records n.edition bytes) c.requires.fits),
       (
-        rw c.size.ensures (omega (arith, counted s Label, few-labels (n s) _ _ l)),
-        rw c.size-2.ensures (omega (arith, counted s User, few-users (n s) _ _ l)),
+        omega (arith, lent-told n bytes Label c.size.ensures, few-labels n _ _ l),
+        omega (arith, lent-told n bytes User c.size-2.ensures, few-users n _ _ l),
       ),
     )
 
 pub returns-then-buffer-length_for : goal.returns-then-buffer-length_for
 returns-then-buffer-length_for c =
-    let long : c.length_for.result ≡ length (image_of (n c) (records c)) = (
-    let cap = capacity_of (n s).edition in
-    let x = length (records s Component) in
-    let y = length (records s Label) in
-    let l = length (bytes s Label) / c.size.result in
-    let u = length (bytes s User) / c.size-2.result in
-    let labels = ap (λ (k : ℕ). length (bytes s Label) / k) c.size.ensures ∙ sym (counted s Label) in
-    let users = ap (λ (k : ℕ). length (bytes s User) / k) c.size-2.ensures ∙ sym (counted s User) in
-    c.length_for.ensures
-    ∙ ap (λ (k : ℕ). 512 * (1 + blocks_for (cap Component) k + blocks_for (cap Label) l + blocks_for (cap User) u)) (sym (counted s Component))
-    ∙ ap (λ (k : ℕ). 512 * (1 + blocks_for (cap Component) x + blocks_for (cap Label) k + blocks_for (cap User) u)) labels
-    ∙ ap (λ (k : ℕ). 512 * (1 + blocks_for (cap Component) x + blocks_for (cap Label) y + blocks_for (cap User) k)) users
-    ∙ sym (image-length (n s) (records s) c.requires.fits.sizes)
-    ) in
-    answer-room _ (image_of (n measured) (records measured)) _ long c.if-buffer-length_for.true
+    let n = c.args.counts in
+    let bytes = bytes_by c.args.components.now c.args.labels.now c.args.users.now in
+    let long = image-long n bytes c.size.ensures c.size-2.ensures c.requires.fits c.length_for.ensures in
+    answer-room _ (image_of n (lent_records n.edition bytes)) _ long c.if-buffer-length_for.true
 
 pub put_image-length-requires : goal.put_image-length-requires
 put_image-length-requires c =
-    let long : c.length_for.result ≡ length (image_of (n c) (records c)) = (
-    let cap = capacity_of (n s).edition in
-    let x = length (records s Component) in
-    let y = length (records s Label) in
-    let l = length (bytes s Label) / c.size.result in
-    let u = length (bytes s User) / c.size-2.result in
-    let labels = ap (λ (k : ℕ). length (bytes s Label) / k) c.size.ensures ∙ sym (counted s Label) in
-    let users = ap (λ (k : ℕ). length (bytes s User) / k) c.size-2.ensures ∙ sym (counted s User) in
-    c.length_for.ensures
-    ∙ ap (λ (k : ℕ). 512 * (1 + blocks_for (cap Component) k + blocks_for (cap Label) l + blocks_for (cap User) u)) (sym (counted s Component))
-    ∙ ap (λ (k : ℕ). 512 * (1 + blocks_for (cap Component) x + blocks_for (cap Label) k + blocks_for (cap User) u)) labels
-    ∙ ap (λ (k : ℕ). 512 * (1 + blocks_for (cap Component) x + blocks_for (cap Label) y + blocks_for (cap User) k)) users
-    ∙ sym (image-length (n s) (records s) c.requires.fits.sizes)
-    ) in
-    (c.requires.fits, (c.requires.limited, omega (arith, long, c.if-buffer-length_for.false)))
+    let n = c.args.counts in
+    let bytes = bytes_by c.args.components.now c.args.labels.now c.args.users.now in
+    let long = image-long n bytes c.size.ensures c.size-2.ensures c.requires.fits c.length_for.ensures in
+    record { fits = c.requires.fits; limited = c.requires.limited; users_in_bounds = omega (arith, long, c.if-buffer-length_for.false) }
 
 pub returns : goal.returns
 returns c =
-    let long : c.length_for.result ≡ length (image_of (n c) (records c)) = (
-    let cap = capacity_of (n s).edition in
-    let x = length (records s Component) in
-    let y = length (records s Label) in
-    let l = length (bytes s Label) / c.size.result in
-    let u = length (bytes s User) / c.size-2.result in
-    let labels = ap (λ (k : ℕ). length (bytes s Label) / k) c.size.ensures ∙ sym (counted s Label) in
-    let users = ap (λ (k : ℕ). length (bytes s User) / k) c.size-2.ensures ∙ sym (counted s User) in
-    c.length_for.ensures
-    ∙ ap (λ (k : ℕ). 512 * (1 + blocks_for (cap Component) k + blocks_for (cap Label) l + blocks_for (cap User) u)) (sym (counted s Component))
-    ∙ ap (λ (k : ℕ). 512 * (1 + blocks_for (cap Component) x + blocks_for (cap Label) k + blocks_for (cap User) u)) labels
-    ∙ ap (λ (k : ℕ). 512 * (1 + blocks_for (cap Component) x + blocks_for (cap Label) y + blocks_for (cap User) k)) users
-    ∙ sym (image-length (n s) (records s) c.requires.fits.sizes)
-    ) in
+    let n = c.args.counts in
+    let bytes = bytes_by c.args.components.now c.args.labels.now c.args.users.now in
+    let long = image-long n bytes c.size.ensures c.size-2.ensures c.requires.fits c.length_for.ensures in
     answer-done _ _ _ long c.if-buffer-length_for.false c.put_image-length.ensures

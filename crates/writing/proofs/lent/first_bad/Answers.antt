@@ -18,16 +18,21 @@ returns-then-records-size c =
 
 pub first_bad_after-to-requires : goal.first_bad_after-to-requires
 first_bad_after-to-requires c =
-    let a = c.args in (
-      (c.requires.exist.0, (c.requires.exist.1, omega arith)),
-      (c.requires.kind_len, omega (arith, c.size.ensures, c.if-records-size.false, size-least a.existing.counts.edition a.kind)),
-    )
+    let a = c.args in
+    record {
+      exist = (c.requires.exist.0, (c.requires.exist.1, omega arith));
+      kind_len = (c.requires.kind_len, omega (arith, c.size.ensures, c.if-records-size.false, size-least a.existing.counts.edition a.kind));
+    }
 
 pub first_known-requires : goal.first_known-requires
 first_known-requires c =
     let a = c.args in
     let whole = c.requires.kind_len in
-    let found = c.first_bad_after-to.ensures in record { kind_len = (whole, omega (arith, found, lent-upto a.kind a.existing.counts a.records.now whole)); names_kept = λ e. rw found (lent-names a.kind a.existing.counts a.records.now whole e) }
+    let found = c.first_bad_after-to.ensures in
+    record {
+      kind_len = (whole, omega (arith, found, lent-upto a.kind a.existing.counts a.records.now whole));
+      names_kept = λ e. rw found (lent-names a.kind a.existing.counts a.records.now whole e);
+    }
 
 pub returns : goal.returns
 returns c =

@@ -18,7 +18,11 @@ first_stale-requires c =
     let is = c.in-Component.is in
     let whole = rw is at c.requires.kind_len.0 in
     let within = rw is at c.requires.kind_len.1 in
-    record { whole = (whole, (omega arith, rw (run-count 40 _) within)); holds_from = run_holds _ _ within; names_kept = (c.requires.names_kept is, marked-first _ _ _) }
+    record {
+      whole = (whole, (omega arith, rw (run-count 40 _) within));
+      holds_from = run_holds _ _ within;
+      names_kept = (c.requires.names_kept is, marked-first _ _ _);
+    }
 
 pub returns-in-Component : goal.returns-in-Component
 returns-in-Component c = rw c.in-Component.is (rw sub-zero at c.first_stale.ensures.value)
