@@ -10,7 +10,7 @@ prefix = $(abspath $(PREFIX))
 to = $(DESTDIR)$(prefix)
 version := $(shell sed -n 's/^.define BRAWNESK_VERSION_M[AIJN]*OR //p' include/brawnesk.h | paste -sd.)
 released = target/release/brawnesk-$(version)
-sources := KIT crates.txt $(shell find crates -name must-fail -prune -o -type f -print)
+sources := KIT crates.txt $(shell find crates \( -name must-fail -o -name out \) -prune -o -type f -print)
 
 all: kit
 	@bash scripts/prove.sh
@@ -64,4 +64,4 @@ kit:
 	@test "$$(rt version)" = "$$(cat KIT)" || echo "warning: rt is of the kit $$(rt version), and not of $$(cat KIT)" >&2
 
 clean:
-	rm -rf target
+	rm -rf target crates/*/out

@@ -59,7 +59,7 @@ if ! command -v valgrind >/dev/null; then
     exit 0
 fi
 if [ ! -e ../target/staticlib/libabi.a ]; then
-    echo 'limits: there is no target/staticlib/libabi.a to count in: rt staticlib abi builds it' >&2
+    echo 'limits: there is no target/staticlib/libabi.a to count in: make library builds it' >&2
     exit 1
 fi
 . ./counted.sh

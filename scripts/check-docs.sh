@@ -10,8 +10,8 @@ fail() {
 }
 awk -f scripts/crates-svg.awk crates.txt | cmp - docs/crates.svg || fail "docs/crates.svg is not that of crates.txt: make docs/crates.svg"
 
-# The files of the repository; where git cannot tell, all that are there but target/.
-files=$(git ls-files 2>/dev/null || find . \( -name target -o -name .git \) -prune -o -type f -print | sed 's|^\./||')
+# The files of the repository; where git cannot tell, all that are there but target/ and what rt makes, crates/*/out.
+files=$(git ls-files 2>/dev/null || find . \( -name target -o -name out -o -name .git \) -prune -o -type f -print | sed 's|^\./||')
 pages=$(grep '\.md$' <<<"$files")
 # A page is named with each line at fault.
 if LC_ALL=C.UTF-8 grep -nE '^[^|].{159}' $pages | cut -c 1-120 | grep .; then fail "these lines have 160 characters or more"; fi

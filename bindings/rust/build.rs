@@ -1,5 +1,5 @@
 //! Links the library: `libbrawnesk.a`, as it is installed, or `libabi.a`, from the folder that `BRAWNESK_LIB_DIR`
-//! names, and otherwise `libabi.a` from where `rt staticlib abi` puts it.
+//! names, and otherwise `libabi.a` from where `make` puts it.
 
 use std::env;
 use std::path::PathBuf;

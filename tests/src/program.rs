@@ -5,7 +5,7 @@ use std::path::PathBuf;
 use std::process::{Command, Stdio};
 use std::thread;
 
-/// Where `rt check report` and `rt ci` put the program.
+/// Where `make` and the gate put the program.
 fn path() -> PathBuf {
     PathBuf::from(concat!(env!("CARGO_MANIFEST_DIR"), "/../target/bin/report"))
 }
@@ -17,7 +17,7 @@ pub fn report(input: &[u8]) -> Vec<u8> {
         .stdin(Stdio::piped())
         .stdout(Stdio::piped())
         .spawn()
-        .unwrap_or_else(|error| panic!("{}: {error}; `rt check report` builds it", path.display()));
+        .unwrap_or_else(|error| panic!("{}: {error}; `make` builds it", path.display()));
     let mut stdin = child.stdin.take().expect("it is piped");
     thread::scope(|scope| {
         scope.spawn(move || match stdin.write_all(input) {

@@ -215,7 +215,7 @@ fn a_failed_read_gives_no_report() {
     let output = Command::new(program)
         .stdin(folder)
         .output()
-        .expect("`rt check report` builds it");
+        .expect("`make` builds it");
     assert_eq!(output.stdout, b"");
     assert_eq!(output.stderr, b"read failed\n");
 }

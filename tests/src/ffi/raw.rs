@@ -1,7 +1,7 @@
 //! The C functions as the archive has them.
 
 #[cfg(no_library)]
-const ABSENT: &str = "libabi.a is absent: build it (rt staticlib abi), or set BRAWNESK_LIB_DIR";
+const ABSENT: &str = "libabi.a is absent: build it (make library), or set BRAWNESK_LIB_DIR";
 
 /// Declares the C functions, each of which gives a `u64`. Without the archive each call panics.
 macro_rules! functions {

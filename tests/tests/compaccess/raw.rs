@@ -22,12 +22,12 @@ extern "C" {
 
 #[cfg(no_library)]
 unsafe fn brawnesk_compaccess_users(_: *const u8, _: usize, _: *mut u8, _: usize) -> u64 {
-    panic!("libabi.a is absent: build it (rt staticlib abi), or set BRAWNESK_LIB_DIR")
+    panic!("libabi.a is absent: build it (make library), or set BRAWNESK_LIB_DIR")
 }
 
 #[cfg(no_library)]
 unsafe fn brawnesk_clear_compaccess(_: *const u8, _: usize, _: *mut u8, _: usize) -> u64 {
-    panic!("libabi.a is absent: build it (rt staticlib abi), or set BRAWNESK_LIB_DIR")
+    panic!("libabi.a is absent: build it (make library), or set BRAWNESK_LIB_DIR")
 }
 
 /// `brawnesk_compaccess_users` or `brawnesk_clear_compaccess`: when done, how many bytes are at the front of

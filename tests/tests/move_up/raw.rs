@@ -10,7 +10,7 @@ extern "C" {
 
 #[cfg(no_library)]
 unsafe fn brawnesk_move_up(_: *const u8, _: usize, _: *mut u8, _: usize) -> u64 {
-    panic!("libabi.a is absent: build it (rt staticlib abi), or set BRAWNESK_LIB_DIR")
+    panic!("libabi.a is absent: build it (make library), or set BRAWNESK_LIB_DIR")
 }
 
 /// `brawnesk_move_up`: when done, the length of the image at the front of `out`.
