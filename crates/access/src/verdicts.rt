@@ -166,6 +166,7 @@ pub fn unknown_read(image: &[u8], view: View) -> bool
 
 // The label at place k decides; where there is none, the edition. It is apart from the look-up of a tag, so that in a loop over rows neither saves
 // registers for the other.
+#[inline(always)]
 pub fn reads_at(image: &[u8], view: View, k: usize) -> bool
     requires { Counted image.now }
     ensures { result ≡ reads_at image.now (rights_of view) k }

@@ -2,11 +2,11 @@
 use Prim.Native.Nat.{ℕ, suc, ◌+◌, ◌-◌, ◌≤◌, ◌<◌}
 use mathlib.Core.Path.{◌≡◌, refl, sym, ap, ap₂, ◌∙◌}
 use mathlib.Core.List.{List, [], ◌∷◌, ◌++◌, append_assoc, append-nil}
-use native.Mathlib.Nat.{zero-add, add-zero, add_assoc, add-sub_cancel_left}
+use native.Mathlib.Nat.{zero-add, add-zero, add_assoc, le_of_eq}
 use native.Mathlib.Numerals.{add-one}
 use native.Mathlib.Omega.{arith}
-use lib.ListN.{length, take, drop, set, length-append, length-drop, take-append-drop}
-use lib.Seq.{length-take-le, drop-drop, take_at, drop_at, set_split, append_snoc}
+use lib.ListN.{length, take, drop, set, length-append, length-drop, take-append-drop, drop_of_length-le}
+use lib.Seq.{take_all, take-length, length-take-le, drop-drop, take_at, drop_at, set_split, append_snoc}
 use lib.Seq.{take-append-le, drop-append-le, take-append-add, drop-append-add}
 use Rattle.buffers.specs.Pasting.{pasted}
 
@@ -69,14 +69,20 @@ pub byte-after : (b : List ℕ) (e v : ℕ) (y : List ℕ) → e < length b → 
 byte-after b e v y h =
     ap (λ (s : List ℕ). pasted s (e + 1) y) (sym (pasted-byte b e v h)) ∙ pasted-after b e (v ∷ []) (omega arith) y
 
--- what the code leaves that copies a text over as many bytes from a on
-pub put-part : (xs text ys : List ℕ) (a : ℕ) → ys ≡ text
-    → take a xs ++ (ys ++ drop (a + length text - a) (drop a xs)) ≡ pasted xs a text
+-- a text copied to the front of what lies from a on
+pub put-part : (xs text ys : List ℕ) (a : ℕ) → a + length text ≤ length xs
+    → ys ≡ take (length text) text ++ drop (length text) (take (length xs - a) (drop a xs))
+    → take a xs ++ (ys ++ drop (length xs - a) (drop a xs)) ≡ pasted xs a text
 unfolding pasted
-put-part xs text ys a e =
-    let later : drop (a + length text - a) (drop a xs) ≡ drop (a + length text) xs =
-    ap (λ (k : ℕ). drop k (drop a xs)) (add-sub_cancel_left a (length text)) ∙ drop-drop (length text) a xs in
-    ap₂ (λ (s t : List ℕ). take a xs ++ (s ++ t)) e later ∙ sym (append_assoc (take a xs) text (drop (a + length text) xs))
+put-part xs text ys a fits e =
+    let l : length (drop a xs) ≤ length xs - a = le_of_eq (length-drop a xs) in
+    let whole : ys ≡ text ++ drop (a + length text) xs =
+    e
+    ∙ ap₂ (λ (s t : List ℕ). s ++ drop (length text) t) (take-length text) (take_all (length xs - a) (drop a xs) l)
+    ∙ ap (λ (t : List ℕ). text ++ t) (drop-drop (length text) a xs) in
+    ap (λ (t : List ℕ). take a xs ++ t)
+    (ap₂ (λ (s t : List ℕ). s ++ t) whole (drop_of_length-le (drop a xs) l) ∙ append-nil (text ++ drop (a + length text) xs))
+    ∙ sym (append_assoc (take a xs) text (drop (a + length text) xs))
 
 -- what is written to the front leaves the text and then the bytes that follow it
 pub front : (b text : List ℕ) → pasted b 0 text ≡ text ++ drop (length text) b

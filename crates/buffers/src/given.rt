@@ -4,15 +4,26 @@ ghost use Rattle.buffers.specs.Pasting.{Written};
 
 use crate::parts::{put_front, put_long, put_parts};
 
+// A text of a few bytes, one byte after the other.
+fn put_short(text: &[u8], buffer: &mut [u8], at: usize) -> usize
+    requires { at + length text.now ≤ length buffer.old }
+    ensures { Written buffer.old at text.now buffer.new result }
+{
+    let mut i = 0;
+    while i < text.len() {
+        buffer[at + i] = text[i];
+        i += 1;
+    }
+    at + i
+}
+
 // Writes the text over the buffer's bytes from `at` on, and tells where it ends.
 pub fn put(text: &[u8], buffer: &mut [u8], at: usize) -> usize
     requires { at + length text.now ≤ length buffer.old }
     ensures { Written buffer.old at text.now buffer.new result }
 {
     if text.len() < 8 {
-        let end = at + text.len();
-        buffer[at..end].copy_from_slice(text);
-        return end;
+        return put_short(text, buffer, at);
     }
     if 64 <= text.len() {
         put_long(text, buffer, at);

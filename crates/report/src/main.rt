@@ -22,32 +22,35 @@ fn write_front(rt: &impl Print, text: &[u8], n: usize) -> io::Result<()>
     rt.write_all(&text[..n])
 }
 
-// What is promised of a part holds once it is written.
-fn write_first(rt: &impl Print, image: &[u8], table: &mut Table) -> io::Result<Part>
-    ensures { IfOk result (λ part. part.more ≡ true → IsAccepted image.now × Tabled image.now table.new) }
+// The part, and whether it could be written. What is promised of the part holds in both cases.
+fn write_first(rt: &impl Print, image: &[u8], table: &mut Table) -> (Part, io::Result<()>)
+    ensures { result.0.more ≡ true → IsAccepted image.now × Tabled image.now table.new }
 {
     let mut text = [0u8; 64];
     let part = first_part(image, table, &mut text);
-    write_front(rt, &text, part.length)?;
-    Ok(part)
+    let written = write_front(rt, &text, part.length);
+    (part, written)
 }
 
-fn write_next(rt: &impl Print, image: &[u8], table: &Table, from: Cursor) -> io::Result<Part>
+fn write_next(rt: &impl Print, image: &[u8], table: &Table, from: Cursor) -> (Part, io::Result<()>)
     requires { IsAccepted image.now × Tabled image.now table.now }
-    ensures { IfOk result (λ part. steps_after image.now part ≤ steps_at image.now from) }
+    ensures { steps_after image.now result.0 ≤ steps_at image.now from }
 {
     let mut text = [0u8; 8192];
     let part = next_part(image, table, from, &mut text);
-    write_front(rt, &text, part.length)?;
-    Ok(part)
+    let written = write_front(rt, &text, part.length);
+    (part, written)
 }
 
+// Part after part, up to the first that cannot be written.
 fn write_output(rt: &impl Print, image: &[u8]) -> io::Result<()> {
     let mut table = table::EMPTY;
-    let mut part = write_first(rt, image, &mut table)?;
+    let (mut part, first) = write_first(rt, image, &mut table);
+    first?;
     while part.more {
-        let from = part.next;
-        part = write_next(rt, image, &table, from)?;
+        let (next, written) = write_next(rt, image, &table, part.next);
+        written?;
+        part = next;
     }
     Ok(())
 }

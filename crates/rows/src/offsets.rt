@@ -28,6 +28,7 @@ fn nth_of_all(run: &[u8], width: usize, n: usize) -> usize
 
 // A verdict is asked of each label once, as a map of the session, for a session that reads no row of an unknown tag: by the map the same rows count.
 // Where a tag finds no slot, a verdict is asked of each row.
+#[inline(never)]
 fn nth_of_many(image: &[u8], view: View, run: &[u8], width: usize, n: usize) -> usize
     requires usable { Usable image.now run.now width }
     requires view_value { unknown_read image.now (rights_of view) ≡ false }

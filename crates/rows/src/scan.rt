@@ -14,6 +14,7 @@ use fields::numbers::number4;
 use image::given::label_of_tag;
 
 // The row's tag decides.
+#[inline(always)]
 pub fn is_readable(image: &[u8], view: View, row: &[u8]) -> bool
     requires { IsAccepted image.now × (4 ≤ length row.now) }
     ensures { result ≡ row_readable image.now (rights_of view) row.now }
