@@ -10,21 +10,12 @@ ghost use Rattle.std.specs.Prelude.{◌≡◌, ◌+◌, ◌/◌, ◌%◌, ◌<�
 ghost use Rattle.fields.specs.Bytes.{byte_at};
 ghost use Rattle.blocks.specs.Columns.{Columned, sum, even_of, fold_of, term_of, Small, Low, TermsOf, JoinedOf};
 
-use std::num::{wrapping_add_u16, wrapping_sub_u16};
-
-// A byte as a number of 16 bits.
-pub fn wide(x: u8) -> u16
-    ensures { (result ≡ x) × (result < 256) }
-{
-    x as u16
-}
-
 // Two bytes as one number, the first as its lower half.
 fn pair(s: &[u8], k: usize) -> u16
     requires { k + 1 < length s.now }
     ensures { (result % 256 ≡ byte_at s.now k) × (result / 256 ≡ byte_at s.now (k + 1)) }
 {
-    wide(s[k]) + 256 * wide(s[k + 1])
+    u16::from_le_bytes([s[k], s[k + 1]])
 }
 
 // By lanes, the sums of the columns' bytes; in `mixed_above` and `odd_above` with the byte of row r counted as often as rows follow.
@@ -42,18 +33,18 @@ fn add_row(s: Columns, half: &[u8], r: usize) -> Columns
     ensures { Columned half.now (r + 1) result }
 {
     let at = 16 * r;
-    let mut mixed = s.mixed;
-    let mut odd = s.odd;
-    let mut mixed_above = s.mixed_above;
-    let mut odd_above = s.odd_above;
-    let mut j = 0;
-    while j < 8 {
-        mixed_above[j] = wrapping_add_u16(mixed_above[j], mixed[j]);
-        odd_above[j] = odd_above[j] + odd[j];
+    let Columns {
+        mut mixed,
+        mut odd,
+        mut mixed_above,
+        mut odd_above,
+    } = s;
+    for j in 0..8 {
+        mixed_above[j] = mixed_above[j].wrapping_add(mixed[j]);
+        odd_above[j] += odd[j];
         let x = pair(half, at + 2 * j);
-        mixed[j] = wrapping_add_u16(mixed[j], x);
-        odd[j] = odd[j] + x / 256;
-        j += 1;
+        mixed[j] = mixed[j].wrapping_add(x);
+        odd[j] += x / 256;
     }
     Columns {
         mixed,
@@ -74,10 +65,8 @@ pub fn half_columns(half: &[u8]) -> Columns
         mixed_above: [0u16; 8],
         odd_above: [0u16; 8],
     };
-    let mut r = 0;
-    while r < 16 {
+    for r in 0..16 {
         s = add_row(s, half, r);
-        r += 1;
     }
     s
 }
@@ -93,7 +82,7 @@ fn fold(x: u16) -> u16
 fn even(mixed: u16, odd: u16) -> u16
     ensures { result ≡ even_of mixed odd }
 {
-    wrapping_sub_u16(mixed, 256 * (odd % 256))
+    mixed.wrapping_sub(256 * (odd % 256))
 }
 
 // What a column of both halves adds to the second sum: 16 times what counts by rows, w times what counts by the column, less what stands in the
@@ -119,27 +108,20 @@ fn terms(one: Columns, two: Columns) -> LaneTerms
     ensures { TermsOf one two result }
 {
     let weights = [15u16, 13u16, 11u16, 9u16, 7u16, 5u16, 3u16, 1u16];
-    let a = one.mixed;
-    let b = one.odd;
-    let c = one.mixed_above;
-    let d = one.odd_above;
-    let e = two.mixed;
-    let f = two.odd;
-    let g = two.mixed_above;
-    let h = two.odd_above;
     let mut once = [0u16; 8];
     let mut often = [0u16; 8];
-    let mut j = 0;
-    while j < 8 {
-        let odd = b[j] + f[j];
-        let even_once = even(wrapping_add_u16(a[j], e[j]), odd);
-        let odd_often = d[j] + h[j];
-        let even_often = even(wrapping_add_u16(c[j], g[j]), odd_often);
+    for j in 0..8 {
+        let odd = one.odd[j] + two.odd[j];
+        let even_once = even(one.mixed[j].wrapping_add(two.mixed[j]), odd);
+        let odd_often = one.odd_above[j] + two.odd_above[j];
+        let even_often = even(
+            one.mixed_above[j].wrapping_add(two.mixed_above[j]),
+            odd_often,
+        );
         let w = weights[j];
         once[j] = even_once + odd;
-        often[j] = column_term(even_once, even_often, w, even(e[j], f[j]))
-            + column_term(odd, odd_often, w - 1, f[j]);
-        j += 1;
+        often[j] = column_term(even_once, even_often, w, even(two.mixed[j], two.odd[j]))
+            + column_term(odd, odd_often, w - 1, two.odd[j]);
     }
     LaneTerms { once, often }
 }
@@ -150,10 +132,8 @@ fn total(a: [u16; 8]) -> u32
     ensures { (result ≡ sum (λ i. slice_index a i) 8) × (result ≤ 318240) }
 {
     let mut s: u32 = 0;
-    let mut j = 0;
-    while j < 8 {
-        s += a[j] as u32;
-        j += 1;
+    for x in &a {
+        s += u32::from(*x);
     }
     s
 }
@@ -171,10 +151,8 @@ pub fn join(one: Columns, two: Columns) -> Joined
     ensures { JoinedOf one two result.once result.often × (result.often ≤ 318240) }
 {
     let all = terms(one, two);
-    let once = all.once;
-    let often = all.often;
     Joined {
-        once: total(once),
-        often: total(often),
+        once: total(all.once),
+        often: total(all.often),
     }
 }

@@ -3,7 +3,7 @@ ghost use Rattle.std.specs.Prelude.{◌≡◌, ◌+◌, ◌*◌, ◌%◌, ◌<�
 ghost use Rattle.fields.specs.Bytes.{byte_at};
 ghost use Rattle.blocks.specs.Blocks.{length_rule, sums_of, check_rule, place_rule, block_rule, first_bad_block};
 
-use crate::columns::{half_columns, join, wide};
+use crate::columns::{half_columns, join};
 use fields::numbers::number2;
 
 // The length is not 0, a multiple of 512 and at most 65,536.
@@ -28,8 +28,8 @@ pub fn sums(block: &[u8]) -> Checksum
     ensures { result ≡ sums_of block.now }
 {
     let all = join(half_columns(&block[0..256]), half_columns(&block[256..512]));
-    let x = wide(block[510]) as u32;
-    let y = wide(block[511]) as u32;
+    let x = u32::from(block[510]);
+    let y = u32::from(block[511]);
     Checksum {
         a: (all.once - x - y) % 255,
         b: (all.often + y) % 255,
@@ -41,7 +41,7 @@ fn check_ok(block: &[u8]) -> bool
     ensures { result ≡ check_rule block.now }
 {
     let found = sums(block);
-    (wide(block[510]) as u32 == found.a) & (wide(block[511]) as u32 == found.b)
+    (u32::from(block[510]) == found.a) & (u32::from(block[511]) == found.b)
 }
 
 fn place_ok(block: &[u8], place: usize) -> bool
@@ -66,12 +66,10 @@ pub fn first_bad_block(image: &[u8]) -> usize
     ensures { result ≡ first_bad_block image.now }
 {
     let count = image.len() / 512;
-    let mut b = 0;
-    while b < count {
+    for b in 0..count {
         if !block_ok(image, b) {
             return b;
         }
-        b += 1;
     }
-    b
+    count
 }

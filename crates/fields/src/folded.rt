@@ -5,13 +5,11 @@ ghost use Rattle.fields.specs.Names.{same_bytes, folded, folded_name};
 ghost use Rattle.fields.specs.Scan.{everywhere};
 ghost use Rattle.fields.specs.Folded.{same_folded_at};
 
-use crate::names::small_letter;
-
 // A small letter is taken as its capital, any other byte as it is.
 fn fold(x: u8) -> u8
     ensures { result ≡ folded x }
 {
-    if small_letter(x) { x - 32 } else { x }
+    x.to_ascii_uppercase()
 }
 
 // Are the 16 bytes of b from i on, folded, those of a?
@@ -20,10 +18,8 @@ fn same_part(a: &[u8], b: &[u8], i: usize) -> bool
     ensures { result ≡ everywhere (same_folded_at a.now b.now) 16 i }
 {
     let mut same = true;
-    let mut j = 0;
-    while j < 16 {
-        same = same & (a[i + j] == fold(b[i + j]));
-        j += 1;
+    for j in 0..16 {
+        same &= a[i + j] == fold(b[i + j]);
     }
     same
 }
@@ -33,12 +29,10 @@ fn same_short(a: &[u8], b: &[u8]) -> bool
     requires { length a.now ≡ length b.now }
     ensures { result ≡ same_bytes a.now (folded_name b.now) }
 {
-    let mut i = 0;
-    while i < a.len() {
+    for i in 0..a.len() {
         if a[i] != fold(b[i]) {
             return false;
         }
-        i += 1;
     }
     true
 }
@@ -55,12 +49,10 @@ pub fn same_folded(a: &[u8], b: &[u8]) -> bool
         return same_short(a, b);
     }
     let last = n - 16;
-    let mut i = 0;
-    while i < last {
-        if !same_part(a, b, i) {
+    for j in 0..(n - 1) / 16 {
+        if !same_part(a, b, 16 * j) {
             return false;
         }
-        i += 16;
     }
     same_part(a, b, last)
 }

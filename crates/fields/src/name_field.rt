@@ -11,13 +11,11 @@ fn letters_ok(bytes: &[u8], inside: &[u8]) -> bool
     ensures { result ≡ everywhere (letter_at bytes.now inside.now) 32 0 }
 {
     let mut bad = false;
-    let mut j = 0;
-    while j < 32 {
+    for j in 0..32 {
         let x = bytes[j];
         // As name_byte tells it, without an early return.
-        let good = ((65 <= x) & (x <= 90)) | ((48 <= x) & (x <= 57)) | (x == 95);
-        bad = bad | ((j < 30) & (((x == 0) != (inside[j] == 0)) | ((x != 0) & !good)));
-        j += 1;
+        let good = x.is_ascii_uppercase() | x.is_ascii_digit() | (x == b'_');
+        bad |= (j < 30) & (((x == 0) != (inside[j] == 0)) | ((x != 0) & !good));
     }
     !bad
 }

@@ -6,13 +6,14 @@ use crate::folded::same_folded;
 use crate::same::{same_bytes, same_words};
 
 // A..Z, 0..9 and underscore; most are letters, so those leave first.
+#[tactic(auto, unfolding(crate::specs::Names::name_byte))]
 pub fn name_byte(x: u8) -> bool
     ensures { result ≡ name_byte x }
 {
-    if (65 <= x) & (x <= 90) {
+    if x.is_ascii_uppercase() {
         return true;
     }
-    (48 <= x) & (x <= 57) | (x == 95)
+    x.is_ascii_digit() | (x == b'_')
 }
 
 // The name that a field of 31 bytes holds; a length past the field gives what the field has.
@@ -47,10 +48,11 @@ pub enum Letters {
 }
 
 // a..z
+#[tactic(auto, unfolding(crate::specs::Names::small_letter))]
 pub fn small_letter(x: u8) -> bool
     ensures { result ≡ small_letter x }
 {
-    (97 <= x) & (x <= 122)
+    x.is_ascii_lowercase()
 }
 
 // Is b, in those letters, the name a?
@@ -67,13 +69,11 @@ pub fn same_in(letters: Letters, a: &[u8], b: &[u8]) -> bool
 pub fn name_before(a: &[u8], b: &[u8]) -> bool
     ensures { result ≡ name_before a.now b.now }
 {
-    let m = if a.len() < b.len() { a.len() } else { b.len() };
-    let mut i = 0;
-    while i < m {
+    let m = a.len().min(b.len());
+    for i in 0..m {
         if a[i] != b[i] {
             return a[i] < b[i];
         }
-        i += 1;
     }
     m < b.len()
 }

@@ -5,16 +5,16 @@ ghost use Rattle.fields.specs.Names.{same_bytes};
 
 use crate::numbers::number8;
 
+// Byte by byte, as `==` of slices calls `memcmp`. `same_short` of `folded` has the same loop: of a function for both, the contract would say what the
+// closure gives for a byte, which is longer than the loop.
 pub fn same_bytes(a: &[u8], b: &[u8]) -> bool
     requires { length a.now ≡ length b.now }
     ensures { result ≡ same_bytes a.now b.now }
 {
-    let mut i = 0;
-    while i < a.len() {
+    for i in 0..a.len() {
         if a[i] != b[i] {
             return false;
         }
-        i += 1;
     }
     true
 }
@@ -27,12 +27,11 @@ pub fn same_words(a: &[u8], b: &[u8]) -> bool
     if number8(a, last) != number8(b, last) {
         return false;
     }
-    let mut i = 0;
-    while i < last {
-        if number8(a, i) != number8(b, i) {
+    for j in 0..(a.len() - 1) / 8 {
+        let at = 8 * j;
+        if number8(a, at) != number8(b, at) {
             return false;
         }
-        i += 8;
     }
     true
 }

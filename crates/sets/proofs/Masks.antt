@@ -8,7 +8,7 @@ use borrow.Author.Tests.{eqb-true, ltb-true, ltb-false, lt-ltb, not-true}
 use lib.Bits.{bit_xor}
 use lib.Dec.{eqb, ltb}
 use lib.Pow.{pow_pos, low, shl-shr}
-use Rattle.sets.specs.Sets.{has, all_below, intersection, collect}
+use Rattle.sets.specs.Sets.{has, all_below, collect}
 use Rattle.sets.specs.Transposed.{mixed, low_row, high_row}
 use Rattle.sets.proofs.Has.{none_has, all_below-has, apart-has, intersection-has, collect-true}
 use Rattle.sets.proofs.Words.{moved-has, low_same}

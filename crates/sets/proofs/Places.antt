@@ -1,5 +1,4 @@
 -- The places of a `Groups` value. Assumes nothing.
-use mathlib.Core.Path.{◌≡◌}
 use Prim.Native.Nat.{◌^◌, ◌<◌}
 use Rattle.sets.specs.Groups.{places_of, words_in, width}
 use Rattle.sets.specs.declared.groups.Groups.{Groups}

@@ -1,14 +1,15 @@
 // A set of groups. Only this file knows how the places are kept: every contract speaks of them
 // through `places_of`, so that the type can hold more places without a change above it.
-ghost use Rattle.std.specs.Prelude.{◌≡◌, ◌*◌, ◌<◌, ◌≤◌, [], ◌∷◌, eqb, set};
+ghost use Rattle.std.specs.Prelude.{◌≡◌, ℕ, ◌*◌, ◌<◌, ◌≤◌, [], ◌∷◌, eqb, set};
 ghost use Rattle.sets.specs.Sets as sets;
 ghost use Rattle.sets.specs.Sets.{one, all_below, Lowest};
 ghost use Rattle.sets.specs.Words.{word_of, joined};
-ghost use Rattle.sets.specs.Groups.{places_of, words_in, width};
+ghost use Rattle.sets.specs.Groups.{places_of, words_in, by_words, at_place, width};
 
 use crate::word;
 
-#[derive(Clone, Copy)]
+// The words are fields and no array: the theorem `places-below` holds of every value of the type, and of an array a value's length is not known.
+#[derive(Clone, Copy, PartialEq, Eq)]
 pub struct Groups {
     w0: u64,
     w1: u64,
@@ -41,16 +42,13 @@ impl Groups {
     pub fn word(self, k: usize) -> u64
         ensures { result ≡ word_of (places_of self) k }
     {
-        if k == 0 {
-            return self.w0;
+        match k {
+            0 => self.w0,
+            1 => self.w1,
+            2 => self.w2,
+            3 => self.w3,
+            _ => 0,
         }
-        if k == 1 {
-            return self.w1;
-        }
-        if k == 2 {
-            return self.w2;
-        }
-        if k == 3 { self.w3 } else { 0 }
     }
 
     // The set with w as its k-th word.
@@ -58,16 +56,12 @@ impl Groups {
         requires { 64 * k < width }
         ensures { places_of result ≡ joined (set (words_in self) k w) }
     {
-        if k == 0 {
-            return Self::of_words(w, self.w1, self.w2, self.w3);
+        match k {
+            0 => Self { w0: w, ..self },
+            1 => Self { w1: w, ..self },
+            2 => Self { w2: w, ..self },
+            _ => Self { w3: w, ..self },
         }
-        if k == 1 {
-            return Self::of_words(self.w0, w, self.w2, self.w3);
-        }
-        if k == 2 {
-            return Self::of_words(self.w0, self.w1, w, self.w3);
-        }
-        Self::of_words(self.w0, self.w1, self.w2, w)
     }
 
     pub fn all_below(n: usize) -> Self
@@ -92,16 +86,28 @@ impl Groups {
         word::has(self.word(p / 64), p % 64)
     }
 
+    // The set with what op makes of the word of place p and the place in it. A place below 64 takes the short way, as in `has`.
+    fn at_place<F: Fn(u64, usize) -> u64>(self, p: usize, op: F) -> Self
+        requires place { p < width }
+        requires calls { (w q : ℕ) → q < 64 → F.pre op w q }
+        ensures { (f : ℕ → ℕ → ℕ) → ((w q r : ℕ) → F.post op w q r → r ≡ f w q) → places_of result ≡ at_place f self p }
+    {
+        if p < 64 {
+            return Self {
+                w0: op(self.w0, p),
+                ..self
+            };
+        }
+        let k = p / 64;
+        self.replaced(k, op(self.word(k), p % 64))
+    }
+
     // The set and the place p.
     pub fn with(self, p: usize) -> Self
         requires { p < width }
         ensures { places_of result ≡ sets.union (places_of self) (one p) }
     {
-        if p < 64 {
-            return Self::of_words(word::with(self.w0, p), self.w1, self.w2, self.w3);
-        }
-        let k = p / 64;
-        self.replaced(k, word::with(self.word(k), p % 64))
+        self.at_place(p, word::with)
     }
 
     pub fn is_empty(self) -> bool
@@ -117,64 +123,53 @@ impl Groups {
     pub fn same(self, other: Groups) -> bool
         ensures { result ≡ eqb (places_of self) (places_of other) }
     {
-        (self.w0 == other.w0)
-            & (self.w1 == other.w1)
-            & (self.w2 == other.w2)
-            & (self.w3 == other.w3)
+        self == other
     }
 
     // Is every place in `other`?
     pub fn within(self, other: Groups) -> bool
         ensures { result ≡ sets.within (places_of self) (places_of other) }
     {
-        word::within(self.w0, other.w0)
-            & word::within(self.w1, other.w1)
-            & word::within(self.w2, other.w2)
-            & word::within(self.w3, other.w3)
+        self.intersection(other).same(self)
     }
 
     // Is some place in `other`?
     pub fn meets(self, other: Groups) -> bool
         ensures { result ≡ sets.meets (places_of self) (places_of other) }
     {
-        word::meets(self.w0, other.w0)
-            | word::meets(self.w1, other.w1)
-            | word::meets(self.w2, other.w2)
-            | word::meets(self.w3, other.w3)
+        !self.intersection(other).is_empty()
+    }
+
+    // The set whose words the operation gives, each of one word of both sets.
+    fn by_words<F: Fn(u64, u64) -> u64>(self, other: Groups, op: F) -> Self
+        requires { F.IsAlwaysCallable op }
+        ensures { (f : ℕ → ℕ → ℕ) → ((x y r : ℕ) → F.post op x y r → r ≡ f x y) → places_of result ≡ by_words f self other }
+    {
+        Self::of_words(
+            op(self.w0, other.w0),
+            op(self.w1, other.w1),
+            op(self.w2, other.w2),
+            op(self.w3, other.w3),
+        )
     }
 
     pub fn union(self, other: Groups) -> Self
         ensures { places_of result ≡ sets.union (places_of self) (places_of other) }
     {
-        Self::of_words(
-            word::union(self.w0, other.w0),
-            word::union(self.w1, other.w1),
-            word::union(self.w2, other.w2),
-            word::union(self.w3, other.w3),
-        )
+        self.by_words(other, word::union)
     }
 
     pub fn intersection(self, other: Groups) -> Self
         ensures { places_of result ≡ sets.intersection (places_of self) (places_of other) }
     {
-        Self::of_words(
-            word::intersection(self.w0, other.w0),
-            word::intersection(self.w1, other.w1),
-            word::intersection(self.w2, other.w2),
-            word::intersection(self.w3, other.w3),
-        )
+        self.by_words(other, word::intersection)
     }
 
     // The places that are not in `other`.
     pub fn difference(self, other: Groups) -> Self
         ensures { places_of result ≡ sets.difference (places_of self) (places_of other) }
     {
-        Self::of_words(
-            word::difference(self.w0, other.w0),
-            word::difference(self.w1, other.w1),
-            word::difference(self.w2, other.w2),
-            word::difference(self.w3, other.w3),
-        )
+        self.by_words(other, word::difference)
     }
 
     // The set but for the place p.
@@ -182,11 +177,7 @@ impl Groups {
         requires { p < width }
         ensures { places_of result ≡ sets.difference (places_of self) (one p) }
     {
-        if p < 64 {
-            return Self::of_words(word::without(self.w0, p), self.w1, self.w2, self.w3);
-        }
-        let k = p / 64;
-        self.replaced(k, word::without(self.word(k), p % 64))
+        self.at_place(p, word::without)
     }
 
     // The lowest place of the set; `width` where the set is empty.

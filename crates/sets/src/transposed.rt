@@ -34,8 +34,7 @@ fn stage(from: &[u64], to: &mut [u64], s: usize, mask: u64, t: usize, next: u64)
     requires { (length from.now ≡ 64) × ((length to.old ≡ 64) × ((s < 64) × (t < 64))) }
     ensures { Staged s mask t next 16 from.now to.new }
 {
-    let mut i = 0;
-    while i < 16 {
+    for i in 0..16 {
         let a = from[i];
         let b = from[i + 16];
         let c = from[i + 32];
@@ -48,7 +47,6 @@ fn stage(from: &[u64], to: &mut [u64], s: usize, mask: u64, t: usize, next: u64)
         to[4 * i + 1] = high_row(e, f, t, next);
         to[4 * i + 2] = low_row(g, h, t, next);
         to[4 * i + 3] = high_row(g, h, t, next);
-        i += 1;
     }
 }
 

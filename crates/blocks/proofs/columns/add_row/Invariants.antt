@@ -1,10 +1,7 @@
-use Rattle.std.proofs.Common.{◌≡◌, ◌-◌, ◌*◌, ◌≤◌}
+use Rattle.std.proofs.Common.{◌≡◌, ◌*◌}
 use Rattle.blocks.proofs.Lanes.{Adding}
 use Rattle.blocks.proofs.columns.add_row.Given as goal
 
 abbrev pub invariant-loop-j : goal.invariant-loop-j
 invariant-loop-j l =
-    (l.j ≤ 8) × ((l.at ≡ 16 * l.r) × Adding l.half l.r l.j record { mixed = l.mixed; odd = l.odd; mixed_above = l.mixed_above; odd_above = l.odd_above })
-
-abbrev pub decreases-loop-j : goal.decreases-loop-j
-decreases-loop-j l = 8 - l.j
+    (l.at ≡ 16 * l.r) × Adding l.half l.r l.j record { mixed = l.mixed; odd = l.odd; mixed_above = l.mixed_above; odd_above = l.odd_above }

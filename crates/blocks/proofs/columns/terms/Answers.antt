@@ -1,10 +1,10 @@
-use Rattle.std.proofs.Common.{◌≡◌, ◌+◌, ◌-◌, ◌*◌, ◌<◌, get_or, sym, ◌∙◌, ap₂, arith, rules}
+use Rattle.std.proofs.Common.{◌≡◌, ◌+◌, ◌-◌, ◌*◌, ◌<◌, get_or, refl, sym, ◌∙◌, ap₂, arith, rules}
 use Rattle.blocks.proofs.Lanes.{even-at, odd-at, filled_none, filled_next, term-same, weights, weight-at}
 use Rattle.blocks.proofs.Lanes.{even-small, even-once, even-often, odd-small, odd-once, odd-often}
 use Rattle.blocks.proofs.columns.terms.Goals as goal
 
 pub loop-j-init : goal.loop-j-init
-loop-j-init c = (omega arith, (filled_none _, filled_none _))
+loop-j-init c = (filled_none _, filled_none _)
 
 pub overflow_add-odd : goal.overflow_add-odd
 overflow_add-odd c =
@@ -23,7 +23,7 @@ overflow_add-once c =
     let here : j < 8 = omega arith in
     let low = odd-small a.one a.two c.requires j here in
     let small = even-small a.one a.two c.requires j here in
-    let once = c.even-even_once.ensures ∙ even-once a.one a.two c.requires j here _ c.wrapping_add_u16.ensures.value in
+    let once = c.even-even_once.ensures ∙ even-once a.one a.two c.requires j here _ refl in
     omega (arith, small.0, once)
 
 pub column_term-requires : goal.column_term-requires
@@ -32,8 +32,8 @@ column_term-requires c =
     let j = c.loop-j.j in
     let here : j < 8 = omega arith in
     let low = even-small a.one a.two c.requires j here in
-    let once = c.even-even_once.ensures ∙ even-once a.one a.two c.requires j here _ c.wrapping_add_u16.ensures.value in
-    let often = c.even-even_often.ensures ∙ even-often a.one a.two c.requires j here _ c.wrapping_add_u16-in-loop-j.ensures.value in
+    let once = c.even-even_once.ensures ∙ even-once a.one a.two c.requires j here _ refl in
+    let often = c.even-even_often.ensures ∙ even-often a.one a.two c.requires j here _ refl in
     let second = c.even.ensures ∙ sym (even-at a.two.mixed a.two.odd j) in
     (omega arith, (omega arith, (omega (arith, weight-at j here), omega arith)))
 
@@ -58,8 +58,8 @@ loop-j-preserved c =
     let low = even-small one two c.requires j here in
     let high = odd-small one two c.requires j here in
     let weight = weight-at j here in
-    let once = c.even-even_once.ensures ∙ even-once one two c.requires j here _ c.wrapping_add_u16.ensures.value in
-    let often = c.even-even_often.ensures ∙ even-often one two c.requires j here _ c.wrapping_add_u16-in-loop-j.ensures.value in
+    let once = c.even-even_once.ensures ∙ even-once one two c.requires j here _ refl in
+    let often = c.even-even_often.ensures ∙ even-often one two c.requires j here _ refl in
     let second_is = c.even.ensures ∙ sym (even-at two.mixed two.odd j) in
     let beside = odd-once one two c.requires j here in
     let less : get_or weights j 0 - 1 ≡ 15 - (2 * j + 1) = omega (arith, weight) in
@@ -67,17 +67,14 @@ loop-j-preserved c =
     let second =
     c.column_term-in-loop-j.ensures.0
     ∙ term-same beside (odd-often one two c.requires j here) less (sym (odd-at two.mixed two.odd j)) in (
-      omega arith,
-      (
-        filled_next here (ap₂ ◌+◌ once beside) (omega arith) c.loop-j.invariant.1.0,
-        filled_next here (ap₂ ◌+◌ first second) (omega arith) c.loop-j.invariant.1.1,
-      ),
+      filled_next here (ap₂ ◌+◌ once beside) (omega arith) c.loop-j.invariant.0,
+      filled_next here (ap₂ ◌+◌ first second) (omega arith) c.loop-j.invariant.1,
     )
 
 pub returns : goal.returns
 returns c =
-    let once = c.loop-j.invariant.1.0.filled in
-    let often = c.loop-j.invariant.1.1.filled in
+    let once = c.loop-j.invariant.0.filled in
+    let often = c.loop-j.invariant.1.filled in
     record {
       all = λ i h. (once i (omega arith)).0;
       counted = λ i h. (often i (omega arith)).0;

@@ -11,8 +11,8 @@ join-all-requires c =
 pub overflow_sub-result : goal.overflow_sub-result
 overflow_sub-result c =
     let block = c.args.block.now in
-    let x = c.wide-x.ensures.0 in
-    let y = c.wide-y.ensures.0 in
+    let x = c.from-x.ensures in
+    let y = c.from-y.ensures in
     let sum = first-sum block _ _ c.requires c.half_columns.ensures c.half_columns-2.ensures _ _ c.join-all.ensures.0 in
     omega arith
 
@@ -20,8 +20,8 @@ overflow_sub-result c =
 pub overflow_sub-result-2 : goal.overflow_sub-result-2
 overflow_sub-result-2 c =
     let block = c.args.block.now in
-    let x = c.wide-x.ensures.0 in
-    let y = c.wide-y.ensures.0 in
+    let x = c.from-x.ensures in
+    let y = c.from-y.ensures in
     let sum = first-sum block _ _ c.requires c.half_columns.ensures c.half_columns-2.ensures _ _ c.join-all.ensures.0 in
     omega arith
 
@@ -35,8 +35,8 @@ overflow_add-result c =
 pub returns : goal.returns
 returns c =
     let block = c.args.block.now in
-    let x = c.wide-x.ensures.0 in
-    let y = c.wide-y.ensures.0 in
+    let x = c.from-x.ensures in
+    let y = c.from-y.ensures in
     let sum = first-sum block _ _ c.requires c.half_columns.ensures c.half_columns-2.ensures _ _ c.join-all.ensures.0 in
     let other = second-sum block _ _ c.requires c.half_columns.ensures c.half_columns-2.ensures _ _ c.join-all.ensures.0 in
     rw (x, y) (ap₂ (λ (a b : ℕ). record { a = a; b = b }) sum.1 other)

@@ -1,22 +1,10 @@
-use mathlib.Core.Path.{sym, ◌∙◌}
+use mathlib.Core.Path.{◌∙◌}
 use native.Mathlib.Omega.{arith}
-use borrow.Author.Tests.{leb-true}
-use lib.Dec.{leb}
+use Rattle.std.proofs.lemmas.Bool.Decides.{nat_tests}
+use Rattle.std.proofs.lemmas.Grind.{common_steps}
 use Rattle.fields.specs.Names.{small_letter, folded}
-use Rattle.fields.proofs.Both.{parts}
 use Rattle.fields.proofs.folded.fold.Goals as goal
 
-pub overflow_sub-result : goal.overflow_sub-result
-unfolding small_letter
-overflow_sub-result c =
-    let x = c.args.x in
-    let low = leb-true 97 x (parts (leb 97 x) (leb x 122) (sym c.small_letter.ensures ∙ c.if-small_letter.true)).0 in
-    omega (arith, low)
-
-pub returns-then-small_letter : goal.returns-then-small_letter
-unfolding folded
-returns-then-small_letter c = rw (sym c.small_letter.ensures ∙ c.if-small_letter.true)
-
-pub returns-else-small_letter : goal.returns-else-small_letter
-unfolding folded
-returns-else-small_letter c = rw (sym c.small_letter.ensures ∙ c.if-small_letter.false)
+pub returns : goal.returns
+unfolding folded small_letter
+returns c = c.to_ascii_uppercase.ensures.value ∙ grind (arith, nat_tests, common_steps)

@@ -4,32 +4,14 @@ use Rattle.fields.proofs.Everywhere.{everywhere-none, everywhere-more}
 use Rattle.fields.proofs.folded.same_part.Goals as goal
 
 pub loop-j-init : goal.loop-j-init
-loop-j-init c = (omega arith, sym (everywhere-none _ _))
-
-pub overflow_add-same : goal.overflow_add-same
-overflow_add-same c = omega arith
-
-pub bounds-a-i : goal.bounds-a-i
-bounds-a-i c = omega arith
-
-pub overflow_add-i : goal.overflow_add-i
-overflow_add-i c = omega arith
-
-pub bounds-b-i : goal.bounds-b-i
-bounds-b-i c = omega arith
-
-pub overflow_add-j : goal.overflow_add-j
-overflow_add-j c = omega arith
-
-pub loop-j-smaller : goal.loop-j-smaller
-loop-j-smaller c = omega arith
+loop-j-init c = sym (everywhere-none _ _)
 
 pub loop-j-preserved : goal.loop-j-preserved
 loop-j-preserved c =
-    (omega arith, rw (c.loop-j.invariant.1, c.fold.ensures) (everywhere-more _ _ _))
+    rw (c.loop-j.invariant, c.fold.ensures) (everywhere-more _ _ _)
 
 pub returns : goal.returns
 returns c =
     let l = c.loop-j in
     let all : l.j ≡ 16 = omega arith in
-    rw all at l.invariant.1
+    rw all at l.invariant

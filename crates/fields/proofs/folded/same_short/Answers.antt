@@ -8,49 +8,32 @@ use Rattle.fields.proofs.Laws.{same_stop, same_step, same-done}
 use Rattle.fields.proofs.folded.same_short.Goals as goal
 
 pub loop-i-init : goal.loop-i-init
-loop-i-init c = (omega arith, (omega arith, refl))
-
-pub bounds-a-i : goal.bounds-a-i
-bounds-a-i c = omega arith
-
-pub bounds-b-i : goal.bounds-b-i
-bounds-b-i c = omega arith
+loop-i-init c = refl
 
 pub returns-then-a-i : goal.returns-then-a-i
 returns-then-a-i c =
     let a = c.args in
     let i = c.loop-i.i in
     let inv = c.loop-i.invariant in
-    let in_b : i < length a.b.now = omega (arith, inv.1.0, c.loop-i-test.true) in
+    let in_b : i < length a.b.now = omega arith in
     let in-folded : i < length (folded_name a.b.now) = rw folded-length in_b in
-    same_stop a.a.now (folded_name a.b.now) i c.loop-i-test.true in-folded inv.1.1
+    same_stop a.a.now (folded_name a.b.now) i c.loop-i-test.true in-folded inv
     (λ e. c.if-a-i.true (e ∙ folded-at a.b.now i in_b ∙ sym c.fold.ensures))
-
-pub overflow_add-i : goal.overflow_add-i
-overflow_add-i c = omega arith
-
-pub loop-i-smaller : goal.loop-i-smaller
-loop-i-smaller c = omega arith
 
 pub loop-i-preserved : goal.loop-i-preserved
 loop-i-preserved c =
     let a = c.args in
     let i = c.loop-i.i in
     let inv = c.loop-i.invariant in
-    let in_b : i < length a.b.now = omega (arith, inv.1.0, c.loop-i-test.true) in
-    let in-folded : i < length (folded_name a.b.now) = rw folded-length in_b in (
-      omega (arith, c.loop-i-test.true),
-      (
-        inv.1.0,
-        same_step a.a.now (folded_name a.b.now) i c.loop-i-test.true in-folded inv.1.1
-            (c.if-a-i.false ∙ c.fold.ensures ∙ sym (folded-at a.b.now i in_b)),
-      ),
-    )
+    let in_b : i < length a.b.now = omega arith in
+    let in-folded : i < length (folded_name a.b.now) = rw folded-length in_b in
+    same_step a.a.now (folded_name a.b.now) i c.loop-i-test.true in-folded inv
+    (c.if-a-i.false ∙ c.fold.ensures ∙ sym (folded-at a.b.now i in_b))
 
 pub returns : goal.returns
 returns c =
     let i = c.loop-i.i in
     let inv = c.loop-i.invariant in
     let b = c.args.b.now in
-    let past : length b ≤ i = omega (arith, inv.1.0, c.loop-i-test.false) in
-    same-done _ (folded_name b) i c.loop-i-test.false (rw folded-length past) inv.1.1
+    let past : length b ≤ i = omega arith in
+    same-done _ (folded_name b) i c.loop-i-test.false (rw folded-length past) inv

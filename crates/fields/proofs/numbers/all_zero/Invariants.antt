@@ -1,11 +1,8 @@
-use Prim.Native.Nat.{◌≤◌, ◌-◌}
+use Prim.Native.Nat.{◌*◌}
 use mathlib.Core.Path.{◌≡◌}
-use lib.ListN.{length, drop}
+use lib.ListN.{drop}
 use Rattle.fields.specs.Bytes.{all_zero}
 use Rattle.fields.proofs.numbers.all_zero.Given as goal
 
-abbrev pub invariant-loop-i : goal.invariant-loop-i
-invariant-loop-i l = (l.i ≤ length l.s) × ((l.n ≡ length l.s) × (all_zero (drop l.i l.s) ≡ all_zero l.s))
-
-abbrev pub decreases-loop-i : goal.decreases-loop-i
-decreases-loop-i l = length l.s - l.i
+abbrev pub invariant-loop-j : goal.invariant-loop-j
+invariant-loop-j l = all_zero (drop (8 * l.j) l.s) ≡ all_zero l.s
