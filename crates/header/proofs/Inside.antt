@@ -16,7 +16,7 @@ use Rattle.header.specs.declared.layout.Kind.TheVariants.{Component, Label, User
 use Rattle.header.specs.declared.layout.Shape.{Shape}
 use Rattle.header.specs.declared.layout.Contents.{Contents}
 use Rattle.header.proofs.Editions.{kind-roomy}
-use Rattle.header.specs.Layout.{edition_of, record_size, count_of, blocks_for, blocks_of, first_block, blocks_needed, Fitted, shape_of, Roomy, Shaped, record_block, record_slot, record_offset, record_at, records_of, OneRun, OneBlock, kind_at, contents_of}
+use Rattle.header.specs.Layout.{edition_of, record_size, count_of, blocks_for, blocks_of, first_block, blocks_needed, Fitted, shape_of, Roomy, Shaped, record_slot, record_offset, record_at, records_of, OneRun, OneBlock, kind_at, contents_of}
 
 -- ---- places counted by c at a time
 -- of i and a place j later in the same run of c

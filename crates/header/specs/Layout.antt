@@ -1,4 +1,5 @@
--- The counts in an image's header, and where by them the blocks and records stand. The crates above this one name a record by its kind and its place among those of the kind.
+-- The counts in an image's header, and where by them the blocks and records stand. The crates above this one name a record by its kind and
+-- its place among those of the kind.
 use Rattle.std.specs.Prelude.{ℕ, ◌+◌, ◌-◌, ◌*◌, ◌/◌, ◌%◌, ◌≤◌, ◌<◌, min, ◌≡◌, cond, List, eqb, ltb, length}
 use Rattle.fields.specs.Bytes.{byte_at, part, number2}
 use Rattle.fields.specs.Scan.{list_from}

@@ -5,10 +5,11 @@ ghost use Rattle.header.specs.Layout.{blocks_needed, kind_at, contents_of};
 use crate::layout;
 use crate::layout::{Contents, Kind};
 
+// std's min, for the crates above.
 pub fn lower(a: usize, b: usize) -> usize
     ensures { result ≡ min a b }
 {
-    if a < b { a } else { b }
+    a.min(b)
 }
 
 fn kind_at(image: &[u8], b: usize) -> Kind
@@ -31,7 +32,7 @@ pub fn block_contents(image: &[u8], b: usize) -> Contents
     let kind = kind_at(image, b);
     let shape = layout::shape_of(image, kind);
     let from = shape.capacity * (b - shape.first);
-    let to = lower(shape.count, from + shape.capacity);
+    let to = shape.count.min(from + shape.capacity);
     let end = 4 + shape.size * (to - from);
     Contents {
         kind,

@@ -2,13 +2,13 @@
 ghost use Rattle.std.specs.Prelude.{◌≤◌, ◌≡◌, length};
 ghost use Rattle.header.specs.Layout.{edition_named, edition_of, by_edition};
 
-#[derive(Clone, Copy)]
+#[derive(Clone, Copy, PartialEq, Eq)]
 pub enum Edition {
     One,
     Two,
 }
 
-// The edition that a byte names.
+// The edition that a byte names. It is no From<u8>, as only 1 and 2 name one: the rule is this function's, and its name stands at each use.
 pub fn edition_named(byte: u8) -> Edition
     ensures { result ≡ edition_named byte }
 {

@@ -111,9 +111,9 @@ pub fn kind_byte(kind: Kind) -> u8
     ensures { result ≡ kind_byte kind }
 {
     match kind {
-        Kind::Component => 67,
-        Kind::Label => 76,
-        Kind::User => 85,
+        Kind::Component => b'C',
+        Kind::Label => b'L',
+        Kind::User => b'U',
     }
 }
 
@@ -248,25 +248,28 @@ pub fn record_offset(shape: Shape, i: usize) -> usize
 }
 
 // The part of the image that starts at that record, which begins at `at`.
-pub fn placed_part<'a>(image: &'a [u8], shape: Shape, kind: Kind, i: usize, at: usize) -> &'a [u8]
+pub fn placed_part(image: &[u8], shape: Shape, kind: Kind, i: usize, at: usize) -> &[u8]
     requires { Fitted image.now × (Shaped image.now kind shape × ((i < count_of image.now kind) × (at ≡ record_offset shape i))) }
-    ensures { (result.now ≡ record_at image.now kind i) × ((length result.now ≡ record_size (edition_of image.now) kind) × (record_size One kind ≤ length result.now)) }
+    ensures { (result.now ≡ record_at image.now kind i)
+        × ((length result.now ≡ record_size (edition_of image.now) kind) × (record_size One kind ≤ length result.now)) }
 {
     &image[at..at + shape.size]
 }
 
 // The same by the shape of its kind, which a search works out once.
-pub fn shaped_part<'a>(image: &'a [u8], shape: Shape, kind: Kind, i: usize) -> &'a [u8]
+pub fn shaped_part(image: &[u8], shape: Shape, kind: Kind, i: usize) -> &[u8]
     requires { Fitted image.now × (Shaped image.now kind shape × (i < count_of image.now kind)) }
-    ensures { (result.now ≡ record_at image.now kind i) × ((length result.now ≡ record_size (edition_of image.now) kind) × (record_size One kind ≤ length result.now)) }
+    ensures { (result.now ≡ record_at image.now kind i)
+        × ((length result.now ≡ record_size (edition_of image.now) kind) × (record_size One kind ≤ length result.now)) }
 {
     placed_part(image, shape, kind, i, record_offset(shape, i))
 }
 
 // The part of the image that starts at that record.
-pub fn record_part<'a>(image: &'a [u8], kind: Kind, i: usize) -> &'a [u8]
+pub fn record_part(image: &[u8], kind: Kind, i: usize) -> &[u8]
     requires { Fitted image.now × (i < count_of image.now kind) }
-    ensures { (result.now ≡ record_at image.now kind i) × ((length result.now ≡ record_size (edition_of image.now) kind) × (record_size One kind ≤ length result.now)) }
+    ensures { (result.now ≡ record_at image.now kind i)
+        × ((length result.now ≡ record_size (edition_of image.now) kind) × (record_size One kind ≤ length result.now)) }
 {
     shaped_part(image, shape_of(image, kind), kind, i)
 }

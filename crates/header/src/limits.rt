@@ -33,6 +33,5 @@ pub fn text_limit(image: &[u8]) -> usize
     requires { 512 ≤ length image.now }
     ensures { result ≡ (limits_of image.now).text }
 {
-    let limits = limits_in(edition_of(image));
-    limits.text
+    limits_in(edition_of(image)).text
 }

@@ -2,7 +2,7 @@
 ghost use Rattle.std.specs.Prelude.{◌≤◌, ◌≡◌, length};
 ghost use Rattle.header.specs.Layout.{profile_named, profile_of};
 
-#[derive(Clone, Copy)]
+#[derive(Clone, Copy, PartialEq, Eq)]
 pub enum Profile {
     // Groups may have parents, and a group reaches all that lie below it.
     Tree,
@@ -10,7 +10,7 @@ pub enum Profile {
     Release,
 }
 
-// The profile that a byte names.
+// The profile that a byte names. It is no From<u8>, as only 0 and 1 name one: the rule is this function's, and its name stands at each use.
 pub fn profile_named(byte: u8) -> Profile
     ensures { result ≡ profile_named byte }
 {

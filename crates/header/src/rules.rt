@@ -26,8 +26,7 @@ pub fn known_profile(byte: u8) -> bool
 pub fn counts_within(counts: Counts, users: usize, labels: usize) -> bool
     ensures { result ≡ counts_within counts users labels }
 {
-    let edition = counts.edition;
-    let limits = limits_in(edition);
+    let limits = limits_in(counts.edition);
     (1 <= counts.levels)
         & (counts.levels <= limits.levels)
         & (counts.compartments <= limits.compartments)

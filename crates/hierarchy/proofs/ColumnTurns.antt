@@ -11,7 +11,7 @@ use borrow.Author.Tests.{eqb-true, eqb-false, lt-ltb, le-ltb, ltb-true}
 use lib.Dec.{eqb, ltb}
 use lib.ListN.{length, get_or, set, length-set}
 use lib.Seq.{get_or-set_same, get_or-set_other}
-use Rattle.sets.specs.Sets.{has, one, union, intersection, difference, collect}
+use Rattle.sets.specs.Sets.{has, one, union, intersection, collect}
 use Rattle.sets.proofs.Has.{has-ext, none_has, one_has, union-has, intersection-has, difference-has, collect-has}
 use Rattle.sets.proofs.Words.{moved-has}
 use Rattle.hierarchy.specs.Forest.{Forest, below_in, table_room, parent_by, forest_by, order_at, OrderedBy}
@@ -162,7 +162,8 @@ module _ (count : ℕ) (table rows₀ rows : List ℕ) (r i g p : ℕ) (all : Or
       ∙ ap₂ (λ (s t : Bool). s && not t)
       (ap₂ (λ (s t : Bool). s && has asked b || t) (was (16 + b)) (was (32 + b)))
       (row-after count table all (column count rows₀ b) i g p b rows so.size (so.each b) left is up below joins)
-      ∙ ap (λ (x : ℕ). (has (get_or rows₀ x 0) (16 + b) && has asked b || has (get_or rows₀ x 0) (32 + b)) && not (has (below_in f (column count rows₀ b)) x)) is
+      ∙ ap
+      (λ (x : ℕ). (has (get_or rows₀ x 0) (16 + b) && has asked b || has (get_or rows₀ x 0) (32 + b)) && not (has (below_in f (column count rows₀ b)) x)) is
 
   pub pass-next : (l new : ℕ) → l ≡ lacking (get_or rows g 0) below → new ≡ union r l → Passing count table rows₀ (set rows g below) new (i + 1)
   pass-next l new lack adds =

@@ -116,7 +116,8 @@ module _ (count : ℕ) (before table places : List ℕ) (end g n : ℕ) (fits : 
       }
 
   module _ (ends : n ≤ count) where
-    walk-sure : (k : ℕ) → k ≤ n → ancestor (λ p. parent_by table p) k g < count → ends_in (forest_by count before) (ancestor (λ p. parent_by table p) k g) ≡ true
+    walk-sure : (k : ℕ) → k ≤ n → ancestor (λ p. parent_by table p) k g < count
+        → ends_in (forest_by count before) (ancestor (λ p. parent_by table p) k g) ≡ true
     walk-sure k h l =
         sym (as_before (ancestor (λ p. parent_by table p) k g) l)
         ∙ walk_ends (forest_by count table) places g n walk ends (λ p m q. as_before p m ∙ turn.ends p m q) (n - k) k (omega arith) l

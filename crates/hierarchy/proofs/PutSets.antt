@@ -128,7 +128,8 @@ module _ (n : ℕ) (before now part : List ℕ) (h : n < table_room) (so : Turni
 
   lower : (g : ℕ) → g < n → get_or after g 0 ≡ get_or now g 0
   lower g l =
-      sym (get_or-take n after g 0 l) ∙ ap (λ (xs : List ℕ). get_or xs g 0) (take_put n (n + 64 - n) now part (let r = room in omega arith)) ∙ get_or-take n now g 0 l
+      sym (get_or-take n after g 0 l)
+      ∙ ap (λ (xs : List ℕ). get_or xs g 0) (take_put n (n + 64 - n) now part (let r = room in omega arith)) ∙ get_or-take n now g 0 l
 
   upper : (g : ℕ) → n + 64 ≤ g → get_or after g 0 ≡ get_or now g 0
   upper g l =

@@ -24,9 +24,15 @@ use Rattle.records.proofs.Parts.{run-count, run-record, run_inside}
 use Rattle.hierarchy.specs.declared.users.Users.{Users}
 use Rattle.hierarchy.specs.Forest.{Forest}
 use Rattle.hierarchy.specs.Below.{forest_in, record_sets, group_sets_in, first_bad_sets}
-use Rattle.hierarchy.specs.Users.{user_at, Held, user_rule, first_bad_user}
+use Rattle.hierarchy.specs.Users.{user_at, Among, Held, user_rule, first_bad_user}
 use Rattle.hierarchy.proofs.Alike.{Alike, sets-alike}
 use Rattle.hierarchy.proofs.OfImage.{user-record}
+
+-- where the record stands, as a sum
+pub user_inside : (users : Users) (bytes : List ℕ) (u : ℕ) → Among users bytes → u < users.count
+    → users.base + users.size * u + users.gap * (u / users.each) + users.size ≤ length bytes
+unfolding user_at
+user_inside users bytes u among here = among.whole u here
 
 -- ---- of an image
 pub image-base : (im : List ℕ) (shape : Shape) → Counted im → Shaped im User shape → 512 * shape.first + 4 ≤ length im + 512

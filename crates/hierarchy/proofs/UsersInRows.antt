@@ -1,4 +1,5 @@
 -- Users in rows, sixteen at once: the loop that passes over users, and those that fill the rows. Assumes nothing.
+use Rattle.std.specs.Prelude.{Option, None, Some, MatchOption}
 use Prim.Native.Nat.{ℕ, ◌+◌, ◌-◌, ◌*◌, ◌/◌, ◌≤◌, ◌<◌}
 use mathlib.Core.Path.{◌≡◌, refl, sym, ap, ◌∙◌, subst}
 use mathlib.Core.Bool.{Bool, true, false, cond}
@@ -8,7 +9,6 @@ use native.Mathlib.Omega.{arith}
 use borrow.Author.Count.{below_more}
 use borrow.Author.Tests.{lt-ltb, le-ltb, ltb-true, ltb-false}
 use lib.Dec.{ltb}
-use lib.ListN.{length}
 use Rattle.fields.specs.Bytes.{number8}
 use Rattle.fields.proofs.Both.{parts}
 use Rattle.fields.proofs.Words.{Bytes, word_low}
@@ -23,9 +23,9 @@ use Rattle.records.specs.declared.users.GroupSets.{GroupSets}
 use Rattle.records.specs.Fields.{groups_at, read_groups, write_groups, default_groups, row_groups}
 use Rattle.records.specs.Users.{GroupsAre}
 use Rattle.hierarchy.specs.declared.users.Users.{Users}
-use Rattle.hierarchy.specs.Forest.{Forest, below_in, table_room}
+use Rattle.hierarchy.specs.Forest.{Forest, below_in}
 use Rattle.hierarchy.specs.Below.{below_sets, of_sets}
-use Rattle.hierarchy.specs.Users.{user_in}
+use Rattle.hierarchy.specs.Users.{user_in, UserRecord}
 use Rattle.hierarchy.specs.SetRows.{set_at, UserPut, RowsFit}
 use Rattle.hierarchy.specs.UserRows.{user_set, NoSets, SetsAre, plain_sets, plain_rule, PlainUpto, HoldsSet, Filled}
 use Rattle.hierarchy.proofs.Under.{below_self}
@@ -70,6 +70,14 @@ module _ (l : Users) (bytes : List ℕ) (u : ℕ) where
         default = empty.default ∙ sym (user-none default_groups h);
         row = empty.row ∙ sym (user-none row_groups h);
       }
+
+  -- the sets that were read in the record, where there is one
+  pub sets-read : {T : Type 0} (now : T → List ℕ) (found : Option T) (sets : GroupSets)
+      → MatchOption found (l.count ≤ u) (λ rec. UserRecord l bytes u (now rec))
+      → MatchOption found (NoSets sets) (λ rec. GroupsAre l.edition (now rec) sets)
+      → SetsAre l bytes u sets
+  sets-read now None sets past empty = sets-none sets past empty
+  sets-read now (Some rec) sets there are = sets-there (now rec) sets there.here there.is are
 
   -- the rule of a user who is there, by the values that code has for the sets
   pub sets-rule : (rule : (read write default row : ℕ) → Bool) (sets : GroupSets) → u < l.count → SetsAre l bytes u sets
@@ -123,22 +131,7 @@ plain-next all l bytes from u sets so are e =
           (λ m. rw (← are.read, ← are.write, ← are.default, ← are.row) e) v high low;
     }
 
--- ---- filling the rows: what holds at each turn of the loops that do so
-abbrev pub Filling : (all : ℕ) (l : Users) (bytes : List ℕ) (from i : ℕ) (rows : List ℕ) → Type 0
-Filling all l bytes from i rows = (i ≤ 16) × Filled all l bytes from i rows
-
-pub fill_none : (all : ℕ) (l : Users) (bytes : List ℕ) (from : ℕ) (rows : List ℕ) → length rows ≡ table_room → Filling all l bytes from 0 rows
-fill_none all l bytes from rows size = (
-  omega arith,
-  record {
-    size = size;
-    read = λ i h. absurd (omega arith);
-    write = λ i h. absurd (omega arith);
-    default = λ i h. absurd (omega arith);
-    row = λ i h. absurd (omega arith);
-  },
-)
-
+-- ---- filling the rows
 -- the set at place b of `rows` is also that of the new rows
 kept : (all : ℕ) (rows new : List ℕ) (b s : ℕ) → set_at new b ≡ set_at rows b → HoldsSet all rows b s → HoldsSet all new b s
 kept all rows new b s same was = (same ∙ was.0, ap (λ (x : ℕ). within x all) same ∙ was.1)
@@ -200,17 +193,10 @@ module _ (all : ℕ) (l : Users) (bytes : List ℕ) (from i : ℕ) (sets : Group
 
 -- one turn: the sets are those of the next user, they fit, and they are put
 pub fill-next : (all : ℕ) (l : Users) (bytes : List ℕ) (from i : ℕ) (sets : GroupSets) (rows new : List ℕ) (fits : Bool) → i < 16
-    → Filling all l bytes from i rows → SetsAre l bytes (from + i) sets
+    → Filled all l bytes from i rows → SetsAre l bytes (from + i) sets
     → fits ≡ of_sets (λ read write default row. within (union (union read write) (union default row)) all) sets → fits ≡ true → UserPut i sets rows new
-    → Filling all l bytes from (i + 1) new
-fill-next all l bytes from i sets rows new fits h so are is good put =
-    (omega arith, next-filled all l bytes from i sets rows new h so.1 are put (sym is ∙ good))
-
-pub fill_end : (all : ℕ) (l : Users) (bytes : List ℕ) (from i : ℕ) (rows : List ℕ) → 16 ≤ i → Filling all l bytes from i rows
-    → Filled all l bytes from 16 rows
-fill_end all l bytes from i rows h so =
-    let end : i ≡ 16 = omega (arith, so.0) in
-    subst (λ (n : ℕ). Filled all l bytes from n rows) end so.1
+    → Filled all l bytes from (i + 1) new
+fill-next all l bytes from i sets rows new fits h so are is good put = next-filled all l bytes from i sets rows new h so are put (sym is ∙ good)
 
 -- all sets are inside
 pub filled-fit : (all : ℕ) (l : Users) (bytes : List ℕ) (from count : ℕ) (rows : List ℕ) → all ≡ all_below count → Filled all l bytes from 16 rows

@@ -1,6 +1,6 @@
 -- The sets of users, one by one and those of sixteen in rows, from the user at place `from` on. Where there is no user, there are empty sets. `all`
 -- are all groups.
-use Rattle.std.specs.Prelude.{ℕ, ◌+◌, ◌≤◌, ◌<◌, ◌≡◌, Bool, true, cond, ◌&&◌, List, ltb, length}
+use Rattle.std.specs.Prelude.{ℕ, ◌+◌, ◌^◌, ◌≤◌, ◌<◌, ◌≡◌, Bool, true, cond, ◌&&◌, List, ltb, length}
 use Rattle.sets.specs.Sets.{none, union, intersection, within}
 use Rattle.sets.specs.Groups.{places_of}
 use Rattle.header.specs.declared.edition.Edition.{Edition}
@@ -21,6 +21,10 @@ pub record SetsAre (l : Users) (bytes : List ℕ) (u : ℕ) (sets : GroupSets) :
   pub write : places_of sets.write ≡ user_set l bytes write_groups u
   pub default : places_of sets.default ≡ user_set l bytes default_groups u
   pub row : places_of sets.row ≡ user_set l bytes row_groups u
+
+-- what tells the sets of the user at each place: `tells u sets` says that `sets` may be told of the one at place u
+abbrev pub Reads : (ℕ → GroupSets → Type 0) → Users → List ℕ → Type 0
+Reads tells l bytes = (u : ℕ) → u < 2 ^ 64 → (sets : GroupSets) → tells u sets → SetsAre l bytes u sets
 
 -- the four values are empty sets
 pub record NoSets (sets : GroupSets) : Type 0 where

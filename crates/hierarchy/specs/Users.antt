@@ -20,6 +20,13 @@ user_at l u = l.base + l.size * u + l.gap * (u / l.each)
 abbrev pub user_in : Users → List ℕ → ℕ → List ℕ
 user_in l bytes u = part bytes (user_at l u) l.size
 
+-- there is a user at place u, and this is the record, which is as long as any of its edition and 128 bytes at least
+pub record UserRecord (l : Users) (bytes : List ℕ) (u : ℕ) (rec : List ℕ) : Type 0 where
+  pub here : u < l.count
+  pub is : rec ≡ user_in l bytes u
+  pub size : length rec ≡ record_size l.edition User
+  pub least : 128 ≤ length rec
+
 -- all of them are among the bytes, and they are so few that no place overflows
 pub record Among (l : Users) (bytes : List ℕ) : Type 0 where
   pub some : 1 ≤ l.each

@@ -34,15 +34,13 @@ fn lacked(count: usize, table: &Table, rows: &mut [u64]) -> u64
     ensures { Lacked (forest_by count table.now) rows.old result }
 {
     let mut all = 0;
-    let mut i = 0;
-    while i < count {
+    for i in 0..count {
         let g = ordered(table, i);
         let p = stored(table, g);
         let x = rows[g];
         let below = x | row_above(count, rows, p);
-        all = all | lacking(x, below);
+        all |= lacking(x, below);
         rows[g] = below;
-        i += 1;
     }
     all
 }

@@ -24,32 +24,24 @@ fn below_ok(count: usize, table: &Table, all: Groups, sets: GroupSets) -> bool
     requires { OrderedBy count table.now × (places_of all ≡ all_below count) }
     ensures { result ≡ of_sets (below_sets (forest_by count table.now)) sets }
 {
-    let read = sets.read;
-    let write = sets.write;
-    let default = sets.default;
-    let row = sets.row;
-    if !table::lies_below(count, table, all, write.union(default), read) {
+    if !table::lies_below(count, table, all, sets.write.union(sets.default), sets.read) {
         return false;
     }
     // What lies below the default groups then lies below the write groups too.
-    if default.within(write) {
-        return table::lies_below(count, table, all, row, default);
+    if sets.default.within(sets.write) {
+        return table::lies_below(count, table, all, sets.row, sets.default);
     }
-    if !table::lies_below(count, table, all, row, default) {
+    if !table::lies_below(count, table, all, sets.row, sets.default) {
         return false;
     }
-    table::lies_below(count, table, all, row, write)
+    table::lies_below(count, table, all, sets.row, sets.write)
 }
 
 // In the release profile default groups contain the read groups and row groups the default groups, and write groups are the read groups.
 fn release_ok(sets: GroupSets) -> bool
     ensures { result ≡ of_sets release_sets sets }
 {
-    let read = sets.read;
-    let write = sets.write;
-    let default = sets.default;
-    let row = sets.row;
-    read.within(default) & default.within(row) & write.same(read)
+    sets.read.within(sets.default) & sets.default.within(sets.row) & sets.write.same(sets.read)
 }
 
 // A user's sets of groups among each other, by the profile. `all` are all groups.
@@ -94,14 +86,12 @@ pub(crate) fn first_bad_singly(
     ensures { result ≡ first_bad_user profile (forest_by count table.now) users bytes.now }
 {
     let all = Groups::all_below(count);
-    let mut u = 0;
-    while u < users.count {
+    for u in 0..users.count {
         if !sets_ok(profile, count, table, all, sets_or_none(users, bytes, u)) {
             return u;
         }
-        u += 1;
     }
-    u
+    users.count
 }
 
 // The lowest user whose groups break their rule; the number of users where there is none. The rows are room to work in.

@@ -17,8 +17,7 @@ fn walk_length(count: usize, table: &[u8], places: &[u16], g: usize) -> usize
     ensures { Passes count (parent_by table.now) places.now g result }
 {
     let mut at = g;
-    let mut n = 0;
-    while n <= count {
+    for n in 0..count + 1 {
         if at >= count {
             return n;
         }
@@ -26,9 +25,8 @@ fn walk_length(count: usize, table: &[u8], places: &[u16], g: usize) -> usize
             return n;
         }
         at = number2(table, 2 * at) as usize;
-        n += 1;
     }
-    n
+    count + 1
 }
 
 // Gives the groups of the walk from g the places from `from` up to `end`.
@@ -38,12 +36,10 @@ fn put_walk(table: &mut [u8], places: &mut [u16], g: usize, from: usize, end: us
     ensures { Placed (parent_by table.old) g from end table.old places.old table.new places.new }
 {
     let mut at = g;
-    let mut to = end;
-    while from < to {
-        table[511 + to] = at as u8;
-        places[at] = to as u16;
+    for i in (from..end).rev() {
+        table[512 + i] = at as u8;
+        places[at] = (i + 1) as u16;
         at = number2(table, 2 * at) as usize;
-        to -= 1;
     }
 }
 
@@ -54,17 +50,15 @@ fn place_all(count: usize, table: &mut [u8], places: &mut [u16]) -> usize
     ensures { OrderFound count table.old table.new result }
 {
     let mut end = 0;
-    let mut g = 0;
-    while g < count {
+    for g in 0..count {
         let n = walk_length(count, table, places, g);
         if n > count {
             return g;
         }
         put_walk(table, places, g, end, end + n);
         end += n;
-        g += 1;
     }
-    g
+    count
 }
 
 // Puts the order of the groups into the table, which has their parents. Gives the lowest group whose parents never end; the number of groups

@@ -38,11 +38,8 @@ fn turn_over(count: usize, rows: &mut [u64])
         transpose(&mut rows[0..64]);
         return;
     }
-    let mut from = 0;
-    while from < count {
-        let end = from + 64;
-        transpose(&mut rows[from..end]);
-        from = end;
+    for j in 0..count.div_ceil(64) {
+        transpose(&mut rows[64 * j..64 * j + 64]);
     }
 }
 
@@ -51,25 +48,20 @@ pub(crate) fn put_user(rows: &mut [u64], i: usize, sets: GroupSets)
     requires { (length rows.old ≡ table_room) × (i < 16) }
     ensures { UserPut i sets rows.old rows.new }
 {
-    let read = sets.read;
-    let write = sets.write;
-    let default = sets.default;
-    let row = sets.row;
-    put_set(rows, i, read);
-    put_set(rows, 16 + i, write);
-    put_set(rows, 32 + i, default);
-    put_set(rows, 48 + i, row);
+    put_set(rows, i, sets.read);
+    put_set(rows, 16 + i, sets.write);
+    put_set(rows, 32 + i, sets.default);
+    put_set(rows, 48 + i, sets.row);
 }
 
 // Are all groups of the four sets in `all`?
 pub(crate) fn sets_fit(all: Groups, sets: GroupSets) -> bool
     ensures { result ≡ of_sets (λ read write default row. within (union (union read write) (union default row)) (places_of all)) sets }
 {
-    let read = sets.read;
-    let write = sets.write;
-    let default = sets.default;
-    let row = sets.row;
-    read.union(write).union(default.union(row)).within(all)
+    sets.read
+        .union(sets.write)
+        .union(sets.default.union(sets.row))
+        .within(all)
 }
 
 // The lowest of the sixteen users whose groups break the rule of the tree; 16 where there is none. The rows are written over.

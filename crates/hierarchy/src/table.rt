@@ -15,18 +15,12 @@ use records::components::parent_in;
 use sets::groups::Groups;
 use sets::word;
 
-// The parent's place of every group in two bytes, and from byte 512 on the groups in an order, in one byte each.
+// The parent's place of every group in two bytes, and from byte 512 on the groups in an order, in one byte each. Bytes, as
+// `parent_by` and `order_at` of specs/Forest.antt speak of a list of bytes, and by them the contracts of all crates that have such a table.
 pub type Table = [u8; 768];
 
 // A table before it is filled.
 pub const EMPTY: Table = [0u8; 768];
-
-// A place as a number of the machine's width.
-fn wide(place: u8) -> usize
-    ensures { result ≡ place }
-{
-    place as usize
-}
 
 // The parent's place that the table holds for g.
 pub(crate) fn stored(table: &Table, g: usize) -> usize
@@ -41,7 +35,7 @@ pub(crate) fn ordered(table: &Table, i: usize) -> usize
     requires { i < table_room }
     ensures { result ≡ order_at table.now i }
 {
-    wide(table[512 + i])
+    usize::from(table[512 + i])
 }
 
 // Puts the parent's place of every group into the places. The walk goes from record to record, so that nothing is divided here.
@@ -54,15 +48,13 @@ fn fill_places(image: &[u8], places: &mut [u8])
     let first = layout::class_first(image, 3);
     let shape = layout::shape_of(image, Kind::Component);
     let mut here = walk::record_at(shape, first);
-    let mut g = 0;
-    while g < count {
+    for g in 0..count {
         let i = first + g;
         let rec = layout::placed_part(image, shape, Kind::Component, i, here.at);
         let parent = parent_in(edition, rec);
         places[2 * g] = (parent % 256) as u8;
         places[2 * g + 1] = (parent / 256) as u8;
         here = walk::next_record(shape, here, i);
-        g += 1;
     }
 }
 
@@ -98,8 +90,7 @@ fn below_in_word(count: usize, table: &Table, s: u64) -> u64
     ensures { result ≡ below_in (forest_by count table.now) s }
 {
     let mut groups = word::intersection(s, word::all_below(count));
-    let mut i = 0;
-    while i < count {
+    for i in 0..count {
         let g = ordered(table, i);
         let p = stored(table, g);
         if p < count {
@@ -107,12 +98,12 @@ fn below_in_word(count: usize, table: &Table, s: u64) -> u64
                 groups = word::with(groups, g);
             }
         }
-        i += 1;
     }
     groups
 }
 
-// The same for any number of groups. The set is kept as its words, which is quicker than as one value.
+// The same for any number of groups. The set is kept as its words, which is quicker than as one value. One loop for both would need a trait of sets
+// with its laws and an impl for each of the two, which is longer than this loop.
 fn below_in_words(count: usize, table: &Table, s: Groups) -> Groups
     requires { OrderedBy count table.now }
     ensures { places_of result ≡ below_in (forest_by count table.now) (places_of s) }
@@ -124,8 +115,7 @@ fn below_in_words(count: usize, table: &Table, s: Groups) -> Groups
         groups.word(2),
         groups.word(3),
     ];
-    let mut i = 0;
-    while i < count {
+    for i in 0..count {
         let g = ordered(table, i);
         let p = stored(table, g);
         if p < count {
@@ -133,7 +123,6 @@ fn below_in_words(count: usize, table: &Table, s: Groups) -> Groups
                 words[g / 64] = word::with(words[g / 64], g % 64);
             }
         }
-        i += 1;
     }
     Groups::of_words(words[0], words[1], words[2], words[3])
 }

@@ -1,12 +1,12 @@
 // Where the records of users stand among bytes, and the sets of groups that they hold.
-ghost use Rattle.std.specs.Prelude.{◌<◌, ◌≤◌, ◌≡◌, length};
+ghost use Rattle.std.specs.Prelude.{◌<◌, ◌≤◌, ◌≡◌, length, MatchOption};
 ghost use Rattle.header.specs.declared.edition.Edition.TheVariants.{One};
 ghost use Rattle.header.specs.declared.layout.Kind.TheVariants.{User};
 ghost use Rattle.header.specs.Layout.{edition_of, record_size, records_of};
 ghost use Rattle.header.specs.Limits.{Counted};
 ghost use Rattle.records.specs.Rules.{run_records};
 ghost use Rattle.records.specs.Users.{GroupsAre};
-ghost use Rattle.hierarchy.specs.Users.{user_in, Among, Held};
+ghost use Rattle.hierarchy.specs.Users.{UserRecord, Among, Held};
 ghost use Rattle.hierarchy.specs.UserRows.{NoSets, SetsAre};
 
 use fields::numbers::number8;
@@ -61,12 +61,16 @@ pub fn in_run(edition: Edition, run: &[u8]) -> Users
 }
 
 // The record of the user at place u.
-fn user_record<'a>(users: Users, bytes: &'a [u8], u: usize) -> &'a [u8]
-    requires { Among users bytes.now × (u < users.count) }
-    ensures { (result.now ≡ user_in users bytes.now u) × ((length result.now ≡ record_size users.edition User) × (128 ≤ length result.now)) }
+#[tactic(auto, using(crate::proofs::UsersHeld::user_inside))]
+fn user_record<'a>(users: Users, bytes: &'a [u8], u: usize) -> Option<&'a [u8]>
+    requires { Among users bytes.now }
+    ensures { MatchOption result (users.count ≤ u) (λ rec. UserRecord users bytes.now u rec.now) }
 {
+    if u >= users.count {
+        return None;
+    }
     let at = users.base + users.size * u + users.gap * (u / users.each);
-    &bytes[at..at + users.size]
+    Some(&bytes[at..at + users.size])
 }
 
 // The sets where there is no user.
@@ -87,11 +91,7 @@ pub(crate) fn sets_or_none(users: Users, bytes: &[u8], u: usize) -> GroupSets
     requires { Among users bytes.now }
     ensures { SetsAre users bytes.now u result }
 {
-    if u < users.count {
-        let edition = users.edition;
-        return sets_in(edition, user_record(users, bytes, u));
-    }
-    no_sets()
+    user_record(users, bytes, u).map_or_else(no_sets, |rec| sets_in(users.edition, rec))
 }
 
 // The four sets of groups in a user's record of edition 1, where a set is one word.
@@ -112,8 +112,5 @@ pub(crate) fn words_or_none(users: Users, bytes: &[u8], u: usize) -> GroupSets
     requires { Among users bytes.now × (users.edition ≡ One) }
     ensures { SetsAre users bytes.now u result }
 {
-    if u < users.count {
-        return words_in(user_record(users, bytes, u));
-    }
-    no_sets()
+    user_record(users, bytes, u).map_or_else(no_sets, words_in)
 }

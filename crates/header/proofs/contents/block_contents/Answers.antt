@@ -1,7 +1,6 @@
-use Prim.Native.Nat.{◌*◌, ◌-◌}
 use native.Mathlib.Omega.{arith}
 use Rattle.header.specs.Layout.{contents_of}
-use Rattle.header.proofs.Inside.{block-shaped, room_for}
+use Rattle.header.proofs.Inside.{block-shaped}
 use Rattle.header.proofs.contents.block_contents.Goals as goal
 
 pub overflow_sub-from : goal.overflow_sub-from
@@ -23,19 +22,7 @@ overflow_sub-end c =
     let s = c.shape_of-shape.ensures in
     omega (arith, block-shaped _ _ _ _ c.kind_at-kind.ensures s c.requires.1.0 c.requires.1.1)
 
-pub overflow_mul-end : goal.overflow_mul-end
-overflow_mul-end c =
-    let s = c.shape_of-shape.ensures in
-    let n = c.lower-to.result - c.shape_of-shape.result.capacity * (c.args.b - c.shape_of-shape.result.first) in
-    omega (arith, room_for c.shape_of-shape.result s.roomy n (omega arith))
-
-pub overflow_add-end : goal.overflow_add-end
-overflow_add-end c =
-    let s = c.shape_of-shape.ensures in
-    let n = c.lower-to.result - c.shape_of-shape.result.capacity * (c.args.b - c.shape_of-shape.result.first) in
-    omega (arith, room_for c.shape_of-shape.result s.roomy n (omega arith))
-
 pub returns : goal.returns
 unfolding contents_of
 returns c =
-    rw (c.lower-to.ensures, c.shape_of-shape.ensures.is, c.kind_at-kind.ensures)
+    rw (c.min-to.ensures, c.shape_of-shape.ensures.is, c.kind_at-kind.ensures)

@@ -3,9 +3,6 @@ use native.Mathlib.Omega.{arith}
 use Rattle.header.specs.Layout.{compartments}
 use Rattle.header.proofs.layout.compartments.Goals as goal
 
-pub overflow_cast-result : goal.overflow_cast-result
-overflow_cast-result c = omega (arith, c.type_inv.image 6)
-
 pub returns : goal.returns
 unfolding compartments
 returns c = (refl, omega (arith, c.type_inv.image 6))

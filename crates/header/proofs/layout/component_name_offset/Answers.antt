@@ -16,8 +16,3 @@ pub overflow_add-result : goal.overflow_add-result
 overflow_add-result c =
     let e = offset-shaped _ _ _ _ _ c.shape_of.ensures c.record_offset.ensures in
     omega (arith, record-inside _ c.requires.0 Component _ c.requires.1)
-
-pub returns : goal.returns
-returns c =
-    let e = offset-shaped _ _ _ _ _ c.shape_of.ensures c.record_offset.ensures in
-    rw e

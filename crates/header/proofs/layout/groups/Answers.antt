@@ -3,9 +3,6 @@ use native.Mathlib.Omega.{arith}
 use Rattle.header.specs.Layout.{groups}
 use Rattle.header.proofs.layout.groups.Goals as goal
 
-pub overflow_cast-result : goal.overflow_cast-result
-overflow_cast-result c = omega (arith, c.type_inv.image 7)
-
 pub returns-in-One : goal.returns-in-One
 unfolding groups
 returns-in-One c =

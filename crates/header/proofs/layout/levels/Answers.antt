@@ -3,9 +3,6 @@ use native.Mathlib.Omega.{arith}
 use Rattle.header.specs.Layout.{levels}
 use Rattle.header.proofs.layout.levels.Goals as goal
 
-pub overflow_cast-result : goal.overflow_cast-result
-overflow_cast-result c = omega (arith, c.type_inv.image 5)
-
 pub returns : goal.returns
 unfolding levels
 returns c = (refl, omega (arith, c.type_inv.image 5))

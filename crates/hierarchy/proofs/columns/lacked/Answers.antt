@@ -15,44 +15,6 @@ group count table i g all h is = let l = all.2.group i h in let room = all.0 in 
 pub loop-i-init : goal.loop-i-init
 loop-i-init c = pass-start _ _ _ c.requires.1
 
-pub ordered-g-requires : goal.ordered-g-requires
-ordered-g-requires c = omega (arith, c.requires.0.0)
-
-pub stored-p-requires : goal.stored-p-requires
-stored-p-requires c =
-    let g = group _ _ _ _ c.requires.0 c.loop-i-test.true c.ordered-g.ensures in
-    g
-
-pub offset_bounds-rows-g : goal.offset_bounds-rows-g
-offset_bounds-rows-g c =
-    let g = group _ _ _ _ c.requires.0 c.loop-i-test.true c.ordered-g.ensures in
-    omega arith
-
-pub bounds-rows-g : goal.bounds-rows-g
-bounds-rows-g c =
-    let g = group _ _ _ _ c.requires.0 c.loop-i-test.true c.ordered-g.ensures in
-    omega (arith, c.loop-i.invariant.size)
-
-pub row_above-requires : goal.row_above-requires
-row_above-requires c =
-    (c.requires.0.0, c.loop-i.invariant.size)
-
-pub offset_bounds-rows-g-in-loop-i : goal.offset_bounds-rows-g-in-loop-i
-offset_bounds-rows-g-in-loop-i c =
-    let g = group _ _ _ _ c.requires.0 c.loop-i-test.true c.ordered-g.ensures in
-    omega arith
-
-pub bounds-rows-g-in-loop-i : goal.bounds-rows-g-in-loop-i
-bounds-rows-g-in-loop-i c =
-    let g = group _ _ _ _ c.requires.0 c.loop-i-test.true c.ordered-g.ensures in
-    omega (arith, c.loop-i.invariant.size)
-
-pub overflow_add-i : goal.overflow_add-i
-overflow_add-i c = omega arith
-
-pub loop-i-smaller : goal.loop-i-smaller
-loop-i-smaller c = omega arith
-
 pub loop-i-preserved : goal.loop-i-preserved
 loop-i-preserved c =
     let x = get_or c.loop-i.rows c.ordered-g.result 0 in

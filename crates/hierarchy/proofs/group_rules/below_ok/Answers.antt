@@ -1,11 +1,11 @@
 use Prim.Native.Nat.{ℕ}
 use mathlib.Core.Path.{◌≡◌, sym, ap, ◌∙◌}
-use mathlib.Core.Bool.{true, ◌&&◌}
-use borrow.Author.Tests.{not-true, not-false}
+use mathlib.Core.Bool.{Bool, true, ◌&&◌}
 use Rattle.fields.proofs.Both.{both, parts, same_truth}
 use Rattle.sets.specs.Sets.{union, within}
 use Rattle.sets.specs.Groups.{places_of}
 use Rattle.sets.proofs.Within.{within-trans, within-union-left, within-union-right, within-union-both}
+use Rattle.records.specs.declared.users.GroupSets.{GroupSets}
 use Rattle.hierarchy.specs.Forest.{Forest, below_in, forest_by}
 use Rattle.hierarchy.specs.Below.{below_sets}
 use Rattle.hierarchy.proofs.Under.{below-mono}
@@ -18,6 +18,14 @@ each_within a b c =
     (λ e. let p = parts _ _ e in within-union-both a b c p.0 p.1)
     (λ e. both _ _ (within-trans a (union a b) c (within-union-left a b) e) (within-trans b (union a b) c (within-union-right a b) e))
 
+-- and so are told by the test of their union
+asked_together : (f : Forest) (sets : GroupSets) (both : ℕ) (told : Bool) → both ≡ union (places_of sets.write) (places_of sets.default)
+    → told ≡ within both (below_in f (places_of sets.read))
+    → (within (places_of sets.write) (below_in f (places_of sets.read)) && within (places_of sets.default) (below_in f (places_of sets.read))) ≡ told
+asked_together f sets both told is tells =
+    let reached : ℕ = below_in f (places_of sets.read) in
+    each_within (places_of sets.write) (places_of sets.default) reached ∙ ap (λ (s : ℕ). within s reached) (sym is) ∙ sym tells
+
 -- what lies below a set lies below a larger one too
 either-below : (f : Forest) (row less more : ℕ) → within less more ≡ true
     → (within row (below_in f less) && within row (below_in f more)) ≡ within row (below_in f less)
@@ -27,43 +35,27 @@ either-below f row less more w =
 pub returns-then-not-lies_below : goal.returns-then-not-lies_below
 unfolding below_sets
 returns-then-not-lies_below c =
-    let first-asked : let a = c.args in (within (places_of a.sets.write) (below_in (forest_by a.count a.table.now) (places_of a.sets.read)) && within (places_of a.sets.default) (below_in (forest_by a.count a.table.now) (places_of a.sets.read))) ≡ c.lies_below.result = (
-    let a = c.args in
-    let reached = below_in (forest_by a.count a.table.now) (places_of a.sets.read) in
-    each_within _ _ reached ∙ ap (λ (s : ℕ). within s reached) (sym c.union.ensures) ∙ sym c.lies_below.ensures
-    ) in
-    rw (first-asked ∙ c.if-not-lies_below.true)
+    let f = forest_by c.args.count c.args.table.now in
+    rw (asked_together f c.args.sets _ _ c.union.ensures c.lies_below.ensures ∙ c.if-not-lies_below.true)
 
 -- the default groups are in the write groups
 pub returns-then-within : goal.returns-then-within
 unfolding below_sets
 returns-then-within c =
-    let first-asked : let a = c.args in (within (places_of a.sets.write) (below_in (forest_by a.count a.table.now) (places_of a.sets.read)) && within (places_of a.sets.default) (below_in (forest_by a.count a.table.now) (places_of a.sets.read))) ≡ c.lies_below.result = (
-    let a = c.args in
-    let reached = below_in (forest_by a.count a.table.now) (places_of a.sets.read) in
-    each_within _ _ reached ∙ ap (λ (s : ℕ). within s reached) (sym c.union.ensures) ∙ sym c.lies_below.ensures
-    ) in
-    rw (first-asked ∙ c.if-not-lies_below.false)
+    let f = forest_by c.args.count c.args.table.now in
+    rw (asked_together f c.args.sets _ _ c.union.ensures c.lies_below.ensures ∙ c.if-not-lies_below.false)
     (c.lies_below-then-within.ensures ∙ sym (either-below _ _ _ _ (sym c.within.ensures ∙ c.if-within.true)))
 
 pub returns-then-not-lies_below-2 : goal.returns-then-not-lies_below-2
 unfolding below_sets
 returns-then-not-lies_below-2 c =
-    let first-asked : let a = c.args in (within (places_of a.sets.write) (below_in (forest_by a.count a.table.now) (places_of a.sets.read)) && within (places_of a.sets.default) (below_in (forest_by a.count a.table.now) (places_of a.sets.read))) ≡ c.lies_below.result = (
-    let a = c.args in
-    let reached = below_in (forest_by a.count a.table.now) (places_of a.sets.read) in
-    each_within _ _ reached ∙ ap (λ (s : ℕ). within s reached) (sym c.union.ensures) ∙ sym c.lies_below.ensures
-    ) in
     let no = sym c.lies_below-2.ensures ∙ c.if-not-lies_below-2.true in
-    rw (first-asked ∙ c.if-not-lies_below.false, no)
+    let f = forest_by c.args.count c.args.table.now in
+    rw (asked_together f c.args.sets _ _ c.union.ensures c.lies_below.ensures ∙ c.if-not-lies_below.false, no)
 
 pub returns : goal.returns
 unfolding below_sets
 returns c =
-    let first-asked : let a = c.args in (within (places_of a.sets.write) (below_in (forest_by a.count a.table.now) (places_of a.sets.read)) && within (places_of a.sets.default) (below_in (forest_by a.count a.table.now) (places_of a.sets.read))) ≡ c.lies_below.result = (
-    let a = c.args in
-    let reached = below_in (forest_by a.count a.table.now) (places_of a.sets.read) in
-    each_within _ _ reached ∙ ap (λ (s : ℕ). within s reached) (sym c.union.ensures) ∙ sym c.lies_below.ensures
-    ) in
     let yes = sym c.lies_below-2.ensures ∙ c.if-not-lies_below-2.false in
-    rw (first-asked ∙ c.if-not-lies_below.false, yes) c.lies_below-3.ensures
+    let f = forest_by c.args.count c.args.table.now in
+    rw (asked_together f c.args.sets _ _ c.union.ensures c.lies_below.ensures ∙ c.if-not-lies_below.false, yes) c.lies_below-3.ensures

@@ -1,22 +1,10 @@
-use mathlib.Core.Path.{sym, ◌∙◌}
-use native.Mathlib.Nat.{sub-zero}
+use mathlib.Core.Path.{◌≡◌, sym, ◌∙◌}
 use native.Mathlib.Omega.{arith}
-use borrow.Author.Tests.{not-true, not-false}
 use Rattle.fields.proofs.Scan.{loop-bad, loop-good, loop-end}
 use Rattle.hierarchy.specs.Forest.{forest_by}
 use Rattle.hierarchy.specs.Below.{sets_rule, record_sets}
 use Rattle.hierarchy.proofs.UsersInRows.{sets-rule}
 use Rattle.hierarchy.proofs.group_rules.first_bad_singly.Goals as goal
-
-pub all_below-all-requires : goal.all_below-all-requires
-all_below-all-requires c = omega (arith, c.requires.0.0)
-
-pub loop-u-init : goal.loop-u-init
-loop-u-init c = rw sub-zero
-
-pub sets_ok-requires : goal.sets_ok-requires
-sets_ok-requires c =
-    (c.requires.0, c.all_below-all.ensures)
 
 pub returns-then-not-sets_ok : goal.returns-then-not-sets_ok
 unfolding record_sets
@@ -25,13 +13,6 @@ returns-then-not-sets_ok c =
     let is = sets-rule a.users a.bytes.now _ (sets_rule a.profile (forest_by a.count a.table.now)) _ c.loop-u-test.true
     c.sets_or_none.ensures in
     loop-bad _ _ _ _ c.loop-u-test.true c.loop-u.invariant (sym (c.sets_ok.ensures ∙ is) ∙ c.if-not-sets_ok.true)
-
-pub overflow_add-u : goal.overflow_add-u
-overflow_add-u c =
-    omega (arith, c.requires.1.few)
-
-pub loop-u-smaller : goal.loop-u-smaller
-loop-u-smaller c = omega arith
 
 pub loop-u-preserved : goal.loop-u-preserved
 unfolding record_sets
@@ -42,4 +23,6 @@ loop-u-preserved c =
     loop-good _ _ _ _ c.loop-u-test.true c.loop-u.invariant (sym (c.sets_ok.ensures ∙ is) ∙ c.if-not-sets_ok.false)
 
 pub returns : goal.returns
-returns c = loop-end _ _ _ _ c.loop-u-test.false c.loop-u.invariant
+returns c =
+    let done : c.args.users.count ≡ c.loop-u.u = omega arith in
+    done ∙ loop-end _ _ _ _ c.loop-u-test.false c.loop-u.invariant

@@ -7,7 +7,5 @@ use Rattle.hierarchy.proofs.group_rules.first_bad_singly.Given as goal
 
 abbrev pub invariant-loop-u : goal.invariant-loop-u
 invariant-loop-u l =
-    first_bad (user_rule l.profile (forest_by l.count l.table) l.users l.bytes) (l.users.count - l.u) l.u ≡ first_bad_user l.profile (forest_by l.count l.table) l.users l.bytes
-
-abbrev pub decreases-loop-u : goal.decreases-loop-u
-decreases-loop-u l = l.users.count - l.u
+    first_bad (user_rule l.profile (forest_by l.count l.table) l.users l.bytes) (l.users.count - l.u) l.u
+    ≡ first_bad_user l.profile (forest_by l.count l.table) l.users l.bytes

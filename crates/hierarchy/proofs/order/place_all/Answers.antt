@@ -1,5 +1,8 @@
+use Prim.Native.Nat.{ℕ}
+use mathlib.Core.Path.{◌≡◌, subst}
 use native.Mathlib.Omega.{arith}
 use borrow.Author.Rules.{rules}
+use Rattle.hierarchy.specs.Paths.{OrderFound}
 use Rattle.hierarchy.proofs.Ordering.{walk-room, walk-room-differ}
 use Rattle.hierarchy.proofs.OrderTurns.{turn-start, turn-ring, turn-next, turn_end}
 use Rattle.hierarchy.proofs.order.place_all.Goals as goal
@@ -8,17 +11,9 @@ pub loop-g-init : goal.loop-g-init
 loop-g-init c =
     turn-start _ _ _ c.requires.count_le_table_room.1.0 c.requires.count_le_table_room.1.1 c.requires.by_index
 
-pub walk_length-n-requires : goal.walk_length-n-requires
-walk_length-n-requires c =
-    (c.requires.count_le_table_room.0, (c.loop-g.invariant.long, c.loop-g.invariant.room))
-
 pub returns-then-n-count : goal.returns-then-n-count
 returns-then-n-count c =
     turn-ring _ _ _ _ _ _ _ c.requires.count_le_table_room.0 c.loop-g.invariant c.loop-g-test.true c.walk_length-n.ensures c.if-n-count.true
-
-pub overflow_add-end : goal.overflow_add-end
-overflow_add-end c =
-    omega (arith, walk-room _ _ _ _ _ _ _ c.loop-g.invariant.placing c.walk_length-n.ensures c.if-n-count.false)
 
 pub put_walk-requires : goal.put_walk-requires
 put_walk-requires c =
@@ -27,15 +22,6 @@ put_walk-requires c =
     let differ = walk-room-differ _ _ _ _ _ _ _ inv.placing c.walk_length-n.ensures c.if-n-count.false c.requires.count_le_table_room.0 in
     record { table_len = (inv.long, inv.room); from_le_end = (omega arith, (omega (arith, room, c.requires.count_le_table_room.0), differ)) }
 
-pub overflow_add-end-in-loop-g : goal.overflow_add-end-in-loop-g
-overflow_add-end-in-loop-g c = omega arith
-
-pub overflow_add-g : goal.overflow_add-g
-overflow_add-g c = omega arith
-
-pub loop-g-smaller : goal.loop-g-smaller
-loop-g-smaller c = omega arith
-
 pub loop-g-preserved : goal.loop-g-preserved
 loop-g-preserved c =
     turn-next _ _ _ _ _ _ _ c.requires.count_le_table_room.0 c.loop-g.invariant c.loop-g-test.true c.walk_length-n.ensures
@@ -43,4 +29,6 @@ loop-g-preserved c =
 
 pub returns : goal.returns
 returns c =
-    turn_end _ _ _ _ _ _ c.requires.count_le_table_room.0 c.loop-g.invariant c.loop-g-test.false
+    let done : c.loop-g.g ≡ c.args.count = omega arith in
+    subst (λ (g : ℕ). OrderFound c.args.count c.args.table.now c.loop-g.table g) done
+    (turn_end _ _ _ _ _ _ c.requires.count_le_table_room.0 c.loop-g.invariant c.loop-g-test.false)

@@ -1,9 +1,5 @@
-use Prim.Native.Nat.{◌-◌}
 use Rattle.hierarchy.proofs.OrderTurns.{Turn}
 use Rattle.hierarchy.proofs.order.place_all.Given as goal
 
 abbrev pub invariant-loop-g : goal.invariant-loop-g
 invariant-loop-g l = Turn l.count l.initial.table l.table l.places l.end l.g
-
-abbrev pub decreases-loop-g : goal.decreases-loop-g
-decreases-loop-g l = l.count - l.g

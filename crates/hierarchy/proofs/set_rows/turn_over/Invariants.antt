@@ -1,9 +1,6 @@
-use Prim.Native.Nat.{◌-◌}
+use Prim.Native.Nat.{◌*◌}
 use Rattle.hierarchy.proofs.PutSets.{Turning}
 use Rattle.hierarchy.proofs.set_rows.turn_over.Given as goal
 
-abbrev pub invariant-loop-from : goal.invariant-loop-from
-invariant-loop-from l = Turning l.from l.initial.rows l.rows
-
-abbrev pub decreases-loop-from : goal.decreases-loop-from
-decreases-loop-from l = l.count - l.from
+abbrev pub invariant-loop-j : goal.invariant-loop-j
+invariant-loop-j l = Turning (64 * l.j) l.initial.rows l.rows

@@ -18,23 +18,6 @@ loop-i-init c =
     let s = c.args.s in
     descend-start _ _ s _ (c.intersection-groups.ensures ∙ ap (intersection s) c.all_below.ensures)
 
-pub ordered-g-requires : goal.ordered-g-requires
-ordered-g-requires c = omega (arith, c.requires.0.0)
-
-pub stored-p-requires : goal.stored-p-requires
-stored-p-requires c =
-    omega (arith, c.requires.0.0, group _ _ _ _ c.requires.0 c.loop-i-test.true c.ordered-g.ensures)
-
-pub with-groups-requires : goal.with-groups-requires
-with-groups-requires c =
-    omega (arith, c.requires.1, group _ _ _ _ c.requires.0 c.loop-i-test.true c.ordered-g.ensures)
-
-pub overflow_add-i : goal.overflow_add-i
-overflow_add-i c = omega arith
-
-pub loop-i-smaller : goal.loop-i-smaller
-loop-i-smaller c = omega arith
-
 pub loop-i-preserved : goal.loop-i-preserved
 loop-i-preserved c =
     let all = c.requires.0 in

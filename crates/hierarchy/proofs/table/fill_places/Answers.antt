@@ -3,8 +3,7 @@ use mathlib.Core.Path.{◌≡◌, sym, ◌∙◌, subst}
 use mathlib.Core.List.{List}
 use native.Mathlib.Nat.{add-zero}
 use native.Mathlib.Omega.{arith}
-use borrow.Author.Count.{below_none}
-use lib.ListN.{length, length-set}
+use lib.ListN.{length}
 use Rattle.header.specs.declared.layout.Kind.TheVariants.{Component}
 use Rattle.header.specs.declared.layout.Shape.{Shape}
 use Rattle.header.specs.declared.edition.Edition.{Edition}
@@ -53,56 +52,16 @@ record_at-here-requires c =
     let shaped = c.shape_of-shape.ensures in
     (shaped.roomy, rw add-zero at (walk_inside _ c.requires.0 _ c.class_first-first.ensures.0 _ shaped (omega arith) 0 zero-le))
 
-pub loop-g-init : goal.loop-g-init
-loop-g-init c =
-    (zero-le, (rw add-zero c.record_at-here.ensures, (c.requires.1, below_none _)))
-
-pub overflow_add-i : goal.overflow_add-i
-overflow_add-i c =
-    omega (arith, c.class_first-first.ensures.1)
-
 pub placed_part-rec-requires : goal.placed_part-rec-requires
 placed_part-rec-requires c =
     let g : c.loop-g.g < groups c.args.image.now = omega arith in
     (c.requires.0.fitted, (c.shape_of-shape.ensures, (among _ c.requires.0 _ c.class_first-first.ensures.0 _ g, c.loop-g.invariant.1.0.begins)))
-
-pub parent_in-parent-requires : goal.parent_in-parent-requires
-parent_in-parent-requires c = c.placed_part-rec.ensures.1.0
-
-pub overflow_cast-places : goal.overflow_cast-places
-overflow_cast-places c = omega arith
-
-pub overflow_cast-places-in-loop-g : goal.overflow_cast-places-in-loop-g
-overflow_cast-places-in-loop-g c = omega arith
-
-pub overflow_mul-places-in-loop-g : goal.overflow_mul-places-in-loop-g
-overflow_mul-places-in-loop-g c = omega arith
-
-pub overflow_add-places : goal.overflow_add-places
-overflow_add-places c = omega arith
-
-pub bounds-places-g-in-loop-g : goal.bounds-places-g-in-loop-g
-bounds-places-g-in-loop-g c =
-    rw length-set (omega (arith, c.loop-g.invariant.1.1.0, groups-table c.args.image.now c.requires.0))
-
-pub overflow_mul-places : goal.overflow_mul-places
-overflow_mul-places c = omega arith
-
-pub bounds-places-g : goal.bounds-places-g
-bounds-places-g c =
-    omega (arith, groups-table c.args.image.now c.requires.0)
 
 pub next_record-here-requires : goal.next_record-here-requires
 next_record-here-requires c =
     let shaped = c.shape_of-shape.ensures in
     let g : c.loop-g.g ≤ groups c.args.image.now = omega arith in
     (shaped.roomy, (c.loop-g.invariant.1.0, walk_inside _ c.requires.0 _ c.class_first-first.ensures.0 _ shaped (omega arith) _ g))
-
-pub overflow_add-g : goal.overflow_add-g
-overflow_add-g c = omega arith
-
-pub loop-g-smaller : goal.loop-g-smaller
-loop-g-smaller c = omega arith
 
 pub loop-g-preserved : goal.loop-g-preserved
 loop-g-preserved c =

@@ -1,4 +1,4 @@
-use Prim.Native.Nat.{ℕ, ◌+◌, ◌-◌, ◌≤◌, ◌<◌}
+use Prim.Native.Nat.{ℕ, ◌+◌, ◌≤◌, ◌<◌}
 use mathlib.Core.Path.{◌≡◌}
 use lib.ListN.{length}
 use Rattle.header.specs.Layout.{groups, Standing}
@@ -10,6 +10,3 @@ abbrev pub invariant-loop-g : goal.invariant-loop-g
 invariant-loop-g l =
     (l.g ≤ groups l.image)
     × (Standing l.shape (l.first + l.g) l.here × ((length l.places ≡ table_length) × ((k : ℕ) → k < l.g → parent_by l.places k ≡ parent l.image k)))
-
-abbrev pub decreases-loop-g : goal.decreases-loop-g
-decreases-loop-g l = groups l.image - l.g

@@ -1,23 +1,8 @@
-use Prim.Native.Nat.{◌^◌, ◌<◌}
 use mathlib.Core.Path.{◌∙◌}
-use native.Mathlib.Omega.{arith}
-use borrow.Author.Tests.{not-false}
-use mathlib.Core.Bool.{true}
 use Rattle.hierarchy.specs.Forest.{forest_by}
 use Rattle.hierarchy.proofs.UsersInRows.{filled-fit}
 use Rattle.hierarchy.proofs.RowsTell.{good-upto, rows-good, rows-bad, rows_end}
 use Rattle.hierarchy.proofs.tree_rules.first_bad_in_tree.Goals as goal
-
-pub all_below-all-requires : goal.all_below-all-requires
-all_below-all-requires c = omega (arith, c.requires.0.0)
-
-pub loop-from-init : goal.loop-from-init
-loop-from-init c =
-    (c.requires.1.1, λ u h l. absurd (omega arith))
-
-pub first_not_plain-asked-requires : goal.first_not_plain-asked-requires
-first_not_plain-asked-requires c =
-    (c.requires.1.0, omega (arith, c.requires.1.0.few))
 
 pub returns-then-users-asked : goal.returns-then-users-asked
 returns-then-users-asked c =
@@ -25,14 +10,6 @@ returns-then-users-asked c =
     let f = forest_by a.count a.table.now in
     let is = c.all_below-all.ensures in
     rows_end f _ is a.users a.bytes.now _ c.if-users-asked.true (good-upto _ _ is _ _ _ _ c.loop-from.invariant.1 c.first_not_plain-asked.ensures)
-
-pub fill_rows-requires : goal.fill_rows-requires
-fill_rows-requires c =
-    let small : c.first_not_plain-asked.result < 2 ^ 60 = omega (arith, c.requires.1.0.few, c.if-users-asked.false) in
-    (c.requires.1.0, (small, c.loop-from.invariant.0))
-
-pub returns-then-not-fill_rows : goal.returns-then-not-fill_rows
-returns-then-not-fill_rows c = c.first_bad_singly.ensures
 
 pub lowest_bad_user-i-requires : goal.lowest_bad_user-i-requires
 lowest_bad_user-i-requires c =
@@ -45,10 +22,6 @@ returns-then-i-lt16 c =
     let so = c.fill_rows.ensures c.if-not-fill_rows.false in
     let good = good-upto _ _ is _ _ _ _ c.loop-from.invariant.1 c.first_not_plain-asked.ensures in
     rows-bad _ _ is _ _ _ _ so good _ c.lowest_bad_user-i.ensures c.if-i-lt16.true
-
-pub loop-from-smaller : goal.loop-from-smaller
-loop-from-smaller c =
-    omega (arith, c.first_not_plain-asked.ensures.after)
 
 pub loop-from-preserved : goal.loop-from-preserved
 loop-from-preserved c =
