@@ -6,6 +6,7 @@
 --     Widths      a session that keeps its rules fits its bytes
 --     Refusing    what a call on a refused session answers
 --     InBytes     a call on a session in bytes is the call on that session
+--     Storing     a changed session that is laid down
 pub mod Places
 pub mod RowPlaces
 pub mod MapPlaces
@@ -13,3 +14,4 @@ pub mod WritePlaces
 pub mod Widths
 pub mod Refusing
 pub mod InBytes
+pub mod Storing

@@ -1,11 +1,9 @@
 -- Every call on a session refuses as soon as the session is refused. Assumes nothing.
+use Rattle.std.proofs.Common.{Err}
 use Prim.Native.Nat.{ℕ}
 use mathlib.Core.Path.{◌≡◌}
 use mathlib.Core.List.{List}
 use Rattle.refusals.specs.declared.Refusal.{Refusal}
-use Rattle.refusals.specs.declared.answers.Checked.TheVariants.{Refused}
-use Rattle.refusals.specs.declared.answers.Verdict.TheVariants as verdict
-use Rattle.printing.specs.declared.answers.Printed.TheVariants as printed
 use Rattle.sessions.specs.Session.{SessionMarks, lent_answer}
 use Rattle.sessions.specs.Changes.{set_label_of, set_row_label_of}
 use Rattle.sessions.specs.Asking.{may_read_of, may_write_of}
@@ -16,35 +14,34 @@ use Rattle.rows.specs.Reading.{read_rows_of}
 use Rattle.rows.specs.Updating.{update_row_of}
 use Rattle.rows.specs.Masked.{masked_verdict_of}
 use Rattle.rows.specs.Mapped.{read_mapped_of}
-use Rattle.rows.specs.declared.answers.RowsRead.TheVariants as read
 
 -- ---- every call on a session refuses as soon as the session is refused
-module _ (im : List ℕ) (s : SessionMarks) (r : Refusal) (e : lent_answer im s ≡ Refused r) where
-  pub set-label-refused : (text : List ℕ) → set_label_of im s text ≡ (s, Refused r)
+module _ (im : List ℕ) (s : SessionMarks) (r : Refusal) (e : lent_answer im s ≡ Err r) where
+  pub set-label-refused : (text : List ℕ) → set_label_of im s text ≡ (s, Err r)
   unfolding set_label_of
   set-label-refused text = rw e
 
-  pub set-row-label-refused : (text : List ℕ) → set_row_label_of im s text ≡ (s, Refused r)
+  pub set-row-label-refused : (text : List ℕ) → set_row_label_of im s text ≡ (s, Err r)
   unfolding set_row_label_of
   set-row-label-refused text = rw e
 
-  pub may-read-refused : (tag : ℕ) → may_read_of im s tag ≡ verdict.Refused r
+  pub may-read-refused : (tag : ℕ) → may_read_of im s tag ≡ Err r
   unfolding may_read_of
   may-read-refused tag = rw e
 
-  pub may-write-refused : (tag : ℕ) → may_write_of im s tag ≡ verdict.Refused r
+  pub may-write-refused : (tag : ℕ) → may_write_of im s tag ≡ Err r
   unfolding may_write_of
   may-write-refused tag = rw e
 
-  pub read-refused : (table : List ℕ) (w : ℕ) (buffer : List ℕ) → read_rows_of im s table w buffer ≡ (read.Refused r, buffer)
+  pub read-refused : (table : List ℕ) (w : ℕ) (buffer : List ℕ) → read_rows_of im s table w buffer ≡ (Err r, buffer)
   unfolding read_rows_of table_answer
   read-refused table w buffer = rw e
 
-  pub update-refused : (table : List ℕ) (w n : ℕ) (payload : List ℕ) → update_row_of im s table w n payload ≡ (Refused r, table)
+  pub update-refused : (table : List ℕ) (w n : ℕ) (payload : List ℕ) → update_row_of im s table w n payload ≡ (Err r, table)
   unfolding update_row_of table_answer
   update-refused table w n payload = rw e
 
-  pub masked-refused : (table : List ℕ) (w place : ℕ) → masked_verdict_of im s table w place ≡ verdict.Refused r
+  pub masked-refused : (table : List ℕ) (w place : ℕ) → masked_verdict_of im s table w place ≡ Err r
   unfolding masked_verdict_of table_answer
   masked-refused table w place = rw e
 
@@ -52,10 +49,10 @@ module _ (im : List ℕ) (s : SessionMarks) (r : Refusal) (e : lent_answer im s 
   unfolding make_map_of
   make-map-refused buffer = rw e
 
-  pub judge-map-refused : (bits : List ℕ) → judge_map_of im s bits ≡ Refused r
+  pub judge-map-refused : (bits : List ℕ) → judge_map_of im s bits ≡ Err r
   unfolding judge_map_of
   judge-map-refused bits = rw e
 
-  pub read-mapped-refused : (table : List ℕ) (w : ℕ) (bits buffer : List ℕ) → read_mapped_of im s table w bits buffer ≡ (read.Refused r, buffer)
+  pub read-mapped-refused : (table : List ℕ) (w : ℕ) (bits buffer : List ℕ) → read_mapped_of im s table w bits buffer ≡ (Err r, buffer)
   unfolding read_mapped_of table_answer
   read-mapped-refused table w bits buffer = rw e

@@ -1,5 +1,6 @@
 -- The labels of an accepted session fit their bytes: they name only what exists, and an image has at most 64 compartments and 256 groups.
 -- Assumes nothing.
+use Rattle.std.proofs.Common.{Ok}
 use Prim.Native.Nat.{ℕ}
 use mathlib.Core.Path.{◌≡◌}
 use mathlib.Core.Bool.{true}
@@ -9,7 +10,6 @@ use native.Mathlib.Nat.{lt_of_lt_of_le}
 use native.Mathlib.Omega.{arith}
 use Rattle.header.specs.Layout.{compartments, groups}
 use Rattle.header.proofs.Editions.{counted-groups, counted-users}
-use Rattle.refusals.specs.declared.answers.Checked.TheVariants.{Accepted}
 use Rattle.image.specs.Check.{IsAccepted}
 use Rattle.image.proofs.Accepted.{accepted-counted}
 use Rattle.labels.specs.Label.{Marks, label_exists}
@@ -32,7 +32,7 @@ label-fits im acc m e =
       groups = lt_of_lt_of_le k.groups (pow_mono (counted-groups im n));
     }
 
-pub lent-widths : (im : List ℕ) (s : SessionMarks) → lent_answer im s ≡ Accepted → SessionPartsFit s
+pub lent-widths : (im : List ℕ) (s : SessionMarks) → lent_answer im s ≡ (Ok tt) → SessionPartsFit s
 lent-widths im s e =
     let acc = lent-accepted im s e in
     let x = session-labels-exist im s e in

@@ -1,9 +1,6 @@
 -- The C functions on sessions.
-use Rattle.std.specs.Prelude.{ℕ, List}
-use Rattle.refusals.specs.declared.answers.Checked.{Checked}
-use Rattle.refusals.specs.declared.answers.Checked.TheVariants.{Refused}
-use Rattle.refusals.specs.declared.answers.Verdict.TheVariants as verdict
-use Rattle.refusals.specs.Answers.{Given, done, refusal_given}
+use Rattle.std.specs.Prelude.{ℕ, List, Err}
+use Rattle.refusals.specs.Answers.{Given, done, refusal_given, Checked}
 use Rattle.sessions.specs.Session.{SessionMarks}
 use Rattle.sessions.specs.Opening.{Opening, session, refused, open_of}
 use Rattle.sessions.specs.Changes.{set_label_of, set_row_label_of}
@@ -30,7 +27,7 @@ open_answer im name old = coded opened_given (open_of im name, opened_into (open
 -- of the change that is made of the session that the bytes hold
 abbrev pub change_answer : List ℕ → List ℕ → (SessionMarks → SessionMarks × Checked) → ℕ × List ℕ
 change_answer im bytes change =
-    let changed = with_session im bytes (λ r. (session_in bytes, Refused r)) change in changed_into changed.0 changed.1 bytes
+    let changed = with_session im bytes (λ r. (session_in bytes, Err r)) change in changed_into changed.0 changed.1 bytes
 
 abbrev pub set_label_answer : List ℕ → List ℕ → List ℕ → ℕ × List ℕ
 set_label_answer im bytes text = change_answer im bytes (λ s. set_label_of im s text)
@@ -40,7 +37,7 @@ set_row_label_answer im bytes text = change_answer im bytes (λ s. set_row_label
 
 -- ---- `brawnesk_may_read`, `brawnesk_may_write`: 1 yes, 0 no
 abbrev pub may_read_answer : List ℕ → List ℕ → ℕ → ℕ
-may_read_answer im bytes tag = verdict_code (with_session im bytes verdict.Refused (λ s. may_read_of im s tag))
+may_read_answer im bytes tag = verdict_code (with_session im bytes Err (λ s. may_read_of im s tag))
 
 abbrev pub may_write_answer : List ℕ → List ℕ → ℕ → ℕ
-may_write_answer im bytes tag = verdict_code (with_session im bytes verdict.Refused (λ s. may_write_of im s tag))
+may_write_answer im bytes tag = verdict_code (with_session im bytes Err (λ s. may_write_of im s tag))

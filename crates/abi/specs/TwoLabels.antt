@@ -1,7 +1,7 @@
 -- Dominance, which is lent the image; and merging, which is lent none.
-use Rattle.std.specs.Prelude.{ℕ, List}
+use Rattle.std.specs.Prelude.{ℕ, List, Ok, Err}
 use Rattle.refusals.specs.Answers.{Given, done, refusal_given}
-use Rattle.dominance.specs.TwoLabels.{dominates_of, strictly_dominates_of, Merging, label, refused, merge_of}
+use Rattle.dominance.specs.TwoLabels.{dominates_of, strictly_dominates_of, Merging, merge_of}
 use Rattle.encoding.specs.Labels.{label_bytes, label_in}
 use Rattle.encoding.specs.Verdicts.{verdict_code}
 use Rattle.abi.specs.Answers.{coded}
@@ -16,13 +16,13 @@ strictly_dominates_answer im bytes1 bytes2 = verdict_code (strictly_dominates_of
 -- ---- `brawnesk_merge`: the answer, and the label's bytes after it
 -- what merging gives back: 0 where there is a label
 abbrev pub merged_given : Merging → Given
-merged_given (label m) = done 0
-merged_given (refused r) = refusal_given r
+merged_given (Ok m) = done 0
+merged_given (Err r) = refusal_given r
 
 -- and the bytes that it leaves: the label's, or as they were
 abbrev pub merged_into : Merging → List ℕ → List ℕ
-merged_into (label m) old = label_bytes m
-merged_into (refused r) old = old
+merged_into (Ok m) old = label_bytes m
+merged_into (Err r) old = old
 
 abbrev pub merge_answer : List ℕ → List ℕ → List ℕ → List ℕ → ℕ × List ℕ
 merge_answer bytes1 bytes2 letters old =

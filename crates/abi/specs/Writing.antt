@@ -1,6 +1,6 @@
 -- The C functions that write an image and take one apart: the answer, and the buffer after it.
+use Rattle.refusals.specs.Answers.{amount_given}
 use Rattle.std.specs.Prelude.{ℕ, List}
-use Rattle.buffers.specs.Filling.{filled_given}
 use Rattle.header.specs.declared.layout.Kind.{Kind}
 use Rattle.writing.specs.Calls.{write_of, write_given, records_given_of}
 use Rattle.abi.specs.Answers.{coded}
@@ -11,4 +11,4 @@ write_answer edition profile components labels users buffer = coded write_given 
 
 -- ---- `brawnesk_component_records`, `brawnesk_label_records`, `brawnesk_user_records`
 abbrev pub records_answer : Kind → List ℕ → List ℕ → ℕ × List ℕ
-records_answer kind im buffer = coded filled_given (records_given_of kind im buffer)
+records_answer kind im buffer = coded amount_given (records_given_of kind im buffer)

@@ -1,40 +1,14 @@
 // Numbers for what several C functions give back.
-ghost use Rattle.std.specs.Prelude.{◌≡◌};
+ghost use Rattle.std.specs.Prelude.{◌≡◌, Err};
 ghost use Rattle.refusals.specs.Answers.{PlaceFits, code_of};
-ghost use Rattle.buffers.specs.Filling.{filled_given};
 ghost use Rattle.image.specs.Exactly.{record_number};
 ghost use Rattle.writing.specs.Lent.{fault_given};
 ghost use Rattle.writing.specs.Calls.{write_given};
-ghost use Rattle.abi.specs.Tables.{rows_given};
 
-use buffers::answers::Filled;
 use encoding::answers::{refused, told};
 use header::layout::Kind;
 use refusals::{Refusal, number};
-use rows::answers::RowsRead;
-use writing::answers::{LentFault, WriteAnswer};
-
-// How many bytes are written, or the refusal.
-pub(crate) fn filled_code(answer: Filled) -> u64
-    requires { PlaceFits (filled_given answer) }
-    ensures { result ≡ code_of (filled_given answer) }
-{
-    match answer {
-        Filled::Done(n) => n as u64,
-        Filled::Refused(r) => refused(r),
-    }
-}
-
-// How many rows, or the refusal.
-pub(crate) fn rows_code(answer: RowsRead) -> u64
-    requires { PlaceFits (rows_given answer) }
-    ensures { result ≡ code_of (rows_given answer) }
-{
-    match answer {
-        RowsRead::Done(count) => count as u64,
-        RowsRead::Refused(r) => refused(r),
-    }
-}
+use writing::answers::{LentFault, WriteRefusal};
 
 // The number of a fault of a record of that kind, wherever the record stands.
 fn record_number(kind: Kind) -> u8
@@ -59,13 +33,24 @@ fn fault_code(fault: LentFault) -> u64
     }
 }
 
+// Why no image is written.
+fn unwritten_code(refusal: WriteRefusal) -> u64
+    requires { PlaceFits (write_given (Err refusal)) }
+    ensures { result ≡ code_of (write_given (Err refusal)) }
+{
+    match refusal {
+        WriteRefusal::Lent(fault) => fault_code(fault),
+        WriteRefusal::Buffer(room) => refused(room),
+    }
+}
+
 // How many bytes the image has, or the refusal.
-pub(crate) fn write_code(answer: WriteAnswer) -> u64
+pub(crate) fn write_code(answer: Result<usize, WriteRefusal>) -> u64
     requires { PlaceFits (write_given answer) }
     ensures { result ≡ code_of (write_given answer) }
 {
     match answer {
-        WriteAnswer::Image(filled) => filled_code(filled),
-        WriteAnswer::Refused(fault) => fault_code(fault),
+        Ok(n) => n as u64,
+        Err(refusal) => unwritten_code(refusal),
     }
 }

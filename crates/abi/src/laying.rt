@@ -3,7 +3,8 @@ ghost use Rattle.std.specs.Prelude.{◌≡◌};
 ghost use Rattle.header.specs.declared.layout.Kind.TheVariants.{Component, Label, User};
 ghost use Rattle.abi.specs.Writing.{write_answer, records_answer};
 
-use crate::codes::{filled_code, write_code};
+use crate::codes::write_code;
+use encoding::answers::amount_code;
 
 // The image of that edition and profile with those records at the front of `out`. Done: its length.
 pub fn brawnesk_write(
@@ -23,19 +24,19 @@ pub fn brawnesk_write(
 pub fn brawnesk_component_records(image: &[u8], out: &mut [u8]) -> u64
     ensures { (result, out.new) ≡ records_answer Component image.now out.old }
 {
-    filled_code(writing::component_records(image, out))
+    amount_code(writing::component_records(image, out))
 }
 
 // The label records of the image.
 pub fn brawnesk_label_records(image: &[u8], out: &mut [u8]) -> u64
     ensures { (result, out.new) ≡ records_answer Label image.now out.old }
 {
-    filled_code(writing::label_records(image, out))
+    amount_code(writing::label_records(image, out))
 }
 
 // The user records of the image.
 pub fn brawnesk_user_records(image: &[u8], out: &mut [u8]) -> u64
     ensures { (result, out.new) ≡ records_answer User image.now out.old }
 {
-    filled_code(writing::user_records(image, out))
+    amount_code(writing::user_records(image, out))
 }

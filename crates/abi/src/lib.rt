@@ -8,23 +8,17 @@ pub mod mapping;
 pub mod moving;
 
 ghost use Rattle.std.specs.Prelude.{◌≡◌};
-ghost use Rattle.refusals.specs.Answers.{PlaceFits, refusal_given, code_of, answer_of};
+ghost use Rattle.refusals.specs.Answers.{PlaceFits, refusal_given, code_of, answer_of, amount_given};
 ghost use Rattle.abi.specs.Answers.{after_check, check_answer, name_span};
-ghost use Rattle.abi.specs.Labels.{parse_answer, printed_given, print_answer};
+ghost use Rattle.abi.specs.Labels.{parse_answer, print_answer};
 ghost use Rattle.abi.specs.Sessions.{open_answer, set_label_answer, set_row_label_answer, may_read_answer, may_write_answer};
 ghost use Rattle.abi.specs.Tables.{read_answer, update_answer, masked_answer};
 ghost use Rattle.abi.specs.TwoLabels.{dominates_answer, strictly_dominates_answer, merge_answer};
 
-use codes::rows_code;
-use dominance::merging::Merged;
-use encoding::answers::{checked_code, refused, verdict_code};
+use encoding::answers::{amount_code, checked_code, refused, verdict_code};
 use encoding::{bytes48, bytes104};
 use image::lookup;
-use labels::answers::Parsed;
-use printing::answers::Printed;
 use refusals::Refusal;
-use refusals::answers::Checked;
-use sessions::answers::Opened;
 
 // Is the image accepted? Done: 0.
 pub fn brawnesk_check(image: &[u8]) -> u64
@@ -37,14 +31,13 @@ pub fn brawnesk_check(image: &[u8]) -> u64
 pub fn brawnesk_name(image: &[u8], class: u8, place: u8) -> u64
     ensures { result ≡ name_span image.now class place }
 {
-    let answer = image::name_answer(image, class, place);
-    match answer {
-        Checked::Accepted => {
+    match image::name_answer(image, class, place) {
+        Ok(()) => {
             let offset = lookup::name_offset(image, class, place as usize);
             let length = lookup::name_length(image, class, place as usize);
             (offset + 65536 * length) as u64
         }
-        Checked::Refused(r) => refused(r),
+        Err(r) => refused(r),
     }
 }
 
@@ -53,10 +46,9 @@ pub(crate) fn after_check(image: &[u8], refusal: Refusal) -> u64
     requires { PlaceFits (refusal_given refusal) }
     ensures { result ≡ answer_of (after_check image.now refusal) }
 {
-    let answer = image::check(image);
-    match answer {
-        Checked::Accepted => refused(refusal),
-        Checked::Refused(r) => refused(r),
+    match image::check(image) {
+        Ok(()) => refused(refusal),
+        Err(r) => refused(r),
     }
 }
 
@@ -64,25 +56,12 @@ pub(crate) fn after_check(image: &[u8], refusal: Refusal) -> u64
 pub fn brawnesk_parse(image: &[u8], text: &[u8], label: &mut [u8; 48]) -> u64
     ensures { (result, label.new) ≡ parse_answer image.now text.now label.old }
 {
-    let answer = labels::parse(image, text);
-    match answer {
-        Parsed::Done(read) => {
+    match labels::parse(image, text) {
+        Ok(read) => {
             *label = bytes48::label_bytes(read);
             0
         }
-        Parsed::Refused(reason) => refused(labels::answers::refusal(reason)),
-        Parsed::BadImage(r) => refused(r),
-    }
-}
-
-// The text's length, or the refusal.
-fn printed_code(answer: Printed) -> u64
-    requires { PlaceFits (printed_given answer) }
-    ensures { result ≡ code_of (printed_given answer) }
-{
-    match answer {
-        Printed::Done(n) => n as u64,
-        Printed::Refused(r) => refused(r),
+        Err(r) => refused(r),
     }
 }
 
@@ -90,20 +69,19 @@ fn printed_code(answer: Printed) -> u64
 pub fn brawnesk_print(image: &[u8], label: &[u8; 48], text: &mut [u8]) -> u64
     ensures { (result, text.new) ≡ print_answer image.now label.now text.old }
 {
-    printed_code(printing::print(image, bytes48::label_in(label), text))
+    amount_code(printing::print(image, bytes48::label_in(label), text))
 }
 
 // Opens a session for the user of that name. Done: 0.
 pub fn brawnesk_open(image: &[u8], name: &[u8], session: &mut [u8; 104]) -> u64
     ensures { (result, session.new) ≡ open_answer image.now name.now session.old }
 {
-    let answer = sessions::open(image, name);
-    match answer {
-        Opened::Done(opened) => {
+    match sessions::open(image, name) {
+        Ok(opened) => {
             *session = bytes104::session_bytes(opened);
             0
         }
-        Opened::Refused(r) => refused(r),
+        Err(refusal) => refused(refusal),
     }
 }
 
@@ -162,7 +140,7 @@ pub fn brawnesk_read(
     if !bytes104::one_user(session) {
         return after_check(image, Refusal::SessionRules);
     }
-    rows_code(rows::read(image, bytes104::session_in(session), table, width, out))
+    amount_code(rows::read(image, bytes104::session_in(session), table, width, out))
 }
 
 // Replaces the payload of the n-th row, from 0, among those that the session may read. Done: 0.
@@ -236,12 +214,11 @@ pub fn brawnesk_merge(
 {
     let first = bytes48::label_in(label1);
     let second = bytes48::label_in(label2);
-    let answer = dominance::merge(first, second, letters);
-    match answer {
-        Merged::Done(label) => {
+    match dominance::merge(first, second, letters) {
+        Ok(label) => {
             *merged = bytes48::label_bytes(label);
             0
         }
-        Merged::Refused(r) => refused(r),
+        Err(r) => refused(r),
     }
 }

@@ -3,8 +3,7 @@ ghost use Rattle.std.specs.Prelude.{◌≡◌};
 ghost use Rattle.abi.specs.Maps.{make_map_answer, judge_map_answer, read_mapped_answer};
 
 use crate::after_check;
-use crate::codes::{filled_code, rows_code};
-use encoding::answers::checked_code;
+use encoding::answers::{amount_code, checked_code};
 use encoding::bytes104;
 use refusals::Refusal;
 
@@ -15,7 +14,7 @@ pub fn brawnesk_map(image: &[u8], session: &[u8; 104], out: &mut [u8]) -> u64
     if !bytes104::one_user(session) {
         return after_check(image, Refusal::SessionRules);
     }
-    filled_code(maps::make_map(image, bytes104::session_in(session), out))
+    amount_code(maps::make_map(image, bytes104::session_in(session), out))
 }
 
 // Is that the map of the session? Done: 0.
@@ -43,5 +42,5 @@ pub fn brawnesk_read_mapped(
         return after_check(image, Refusal::SessionRules);
     }
     let s = bytes104::session_in(session);
-    rows_code(rows::read_mapped(image, s, table, width, map, out))
+    amount_code(rows::read_mapped(image, s, table, width, map, out))
 }

@@ -1,4 +1,5 @@
 -- What an accepted answer of the rules for new labels means, and that labels which keep the rules are accepted. Assumes nothing.
+use Rattle.std.proofs.Common.{Ok, Err}
 use Prim.Native.Nat.{ℕ, ◌≤◌, ◌<◌}
 use mathlib.Core.Path.{◌≡◌, refl, sym, ◌∙◌}
 use mathlib.Core.Bool.{Bool, true, false, not, ◌&&◌, true≢false}
@@ -11,21 +12,19 @@ use Rattle.refusals.specs.declared.Refusal.TheVariants.{LevelNotAllowed, Compart
 use Rattle.sets.specs.Sets.{within}
 use Rattle.header.specs.Layout.{users, user_record}
 use Rattle.records.specs.Fields.{maximum_level, minimum_level, read_compartments}
-use Rattle.refusals.specs.declared.answers.Checked.{Checked}
-use Rattle.refusals.specs.declared.answers.Checked.TheVariants.{Accepted, Refused}
 use Rattle.labels.specs.Label.{Marks}
 use Rattle.access.specs.Rights.{Rights, rights_at, between}
 use Rattle.access.specs.NewLabels.{session_groups_rule, row_groups_rule, row_inside, session_label_answer, row_label_answer, session_rule}
-use Rattle.refusals.specs.Answers.{or_refuse, allowed}
+use Rattle.refusals.specs.Answers.{or_refuse, allowed, Checked}
 
 -- a demand that is accepted was met, and so was the rest
 demand-met : (rule : Bool) (r : Refusal) (rest : Checked) → allowed (or_refuse rule r rest) ≡ true → (rule ≡ true) × (allowed rest ≡ true)
 demand-met true r rest e = (refl, e)
 demand-met false r rest e = absurd (true≢false (sym e))
 
-pub accepted-is : (c : Checked) → allowed c ≡ true → c ≡ Accepted
-accepted-is Accepted e = refl
-accepted-is (Refused r) e = absurd (true≢false (sym e))
+pub accepted-is : (c : Checked) → allowed c ≡ true → c ≡ Ok tt
+accepted-is (Ok tt) e = refl
+accepted-is (Err r) e = absurd (true≢false (sym e))
 
 -- the row label stands inside the session's level and write sets
 pub record Inside (rights : Rights) (row : Marks) : Type 0 where
@@ -68,7 +67,7 @@ session-label-means im u new row e =
       inside = inside-means (rights_at im u new) row q4.0;
     }
 
-pub means-session-label : (im : List ℕ) (u : ℕ) (new row : Marks) → SessionLabelKept im u new row → session_label_answer im u new row ≡ Accepted
+pub means-session-label : (im : List ℕ) (u : ℕ) (new row : Marks) → SessionLabelKept im u new row → session_label_answer im u new row ≡ Ok tt
 unfolding session_label_answer
 means-session-label im u new row k =
     rw (le-leb _ _ k.minimum, le-leb _ _ k.maximum, k.compartments, k.groups, means-inside (rights_at im u new) row k.inside)
@@ -76,27 +75,27 @@ means-session-label im u new row k =
 -- the rules in turn, as `session_label_answer` asks them of the user's record: the first that fails gives its refusal
 module _ (im : List ℕ) (u : ℕ) (new row : Marks) (rec : List ℕ) (user : rec ≡ user_record im u) (level : Bool)
     (l : level ≡ between (minimum_level rec) (maximum_level rec) new.level) where
-  pub level-refused : level ≡ false → Refused LevelNotAllowed ≡ session_label_answer im u new row
+  pub level-refused : level ≡ false → Err LevelNotAllowed ≡ session_label_answer im u new row
   unfolding session_label_answer
   level-refused h = rw (← user, sym l ∙ h)
 
   module _ (met : level ≡ true) (compartments : Bool) (c : compartments ≡ within new.compartments (read_compartments rec)) where
-    pub compartments-refused : compartments ≡ false → Refused CompartmentsNotAllowed ≡ session_label_answer im u new row
+    pub compartments-refused : compartments ≡ false → Err CompartmentsNotAllowed ≡ session_label_answer im u new row
     unfolding session_label_answer
     compartments-refused h = rw (← user, sym l ∙ met, sym c ∙ h)
 
     module _ (met2 : compartments ≡ true) (groups : Bool) (g : groups ≡ session_groups_rule im rec new.groups) where
-      pub groups-refused : groups ≡ false → Refused GroupsNotAllowed ≡ session_label_answer im u new row
+      pub groups-refused : groups ≡ false → Err GroupsNotAllowed ≡ session_label_answer im u new row
       unfolding session_label_answer
       groups-refused h = rw (← user, sym l ∙ met, sym c ∙ met2, sym g ∙ h)
 
       module _ (met3 : groups ≡ true) (rights : Rights) (found : rights ≡ rights_at im u new) (inside : Bool) (i : inside ≡ row_inside rights row) where
-        pub outside-refused : inside ≡ false → Refused RowLabelOutside ≡ session_label_answer im u new row
+        pub outside-refused : inside ≡ false → Err RowLabelOutside ≡ session_label_answer im u new row
         unfolding session_label_answer
         outside-refused h =
             rw (← user, sym l ∙ met, sym c ∙ met2, sym g ∙ met3, ← found, sym i ∙ h)
 
-        pub label-accepted : inside ≡ true → Accepted ≡ session_label_answer im u new row
+        pub label-accepted : inside ≡ true → (Ok tt) ≡ session_label_answer im u new row
         unfolding session_label_answer
         label-accepted h =
             rw (← user, sym l ∙ met, sym c ∙ met2, sym g ∙ met3, ← found, sym i ∙ h)
@@ -118,7 +117,7 @@ row-label-means rights new e =
       inside = record { level = leb-true _ _ level.1; compartments = q2.0; groups = q3.0 };
     }
 
-pub means-row-label : (rights : Rights) (new : Marks) → RowLabelKept rights new → row_label_answer rights new ≡ Accepted
+pub means-row-label : (rights : Rights) (new : Marks) → RowLabelKept rights new → row_label_answer rights new ≡ Ok tt
 unfolding row_label_answer
 means-row-label rights new k =
     rw (le-leb _ _ k.minimum, le-leb _ _ k.inside.level, k.inside.compartments, k.inside.groups)

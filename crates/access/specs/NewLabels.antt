@@ -1,13 +1,11 @@
 -- The rules for a new session label and a new row label, and refusal 19, which asks both of them of a lent session.
-use Rattle.std.specs.Prelude.{ℕ, Bool, true, ◌&&◌, List, leb, ltb}
+use Rattle.std.specs.Prelude.{ℕ, Bool, true, ◌&&◌, List, leb, ltb, Ok}
 use Rattle.refusals.specs.declared.Refusal.TheVariants.{LevelNotAllowed, CompartmentsNotAllowed, GroupsNotAllowed, RowLabelOutside}
 use Rattle.sets.specs.Sets.{within, all_below}
 use Rattle.header.specs.Layout.{edition_of, profile_of, by_profile, groups, users, user_record}
 use Rattle.records.specs.Fields.{maximum_level, minimum_level, read_compartments, read_groups}
 use Rattle.hierarchy.specs.Below.{below}
-use Rattle.refusals.specs.declared.answers.Checked.{Checked}
-use Rattle.refusals.specs.Answers.{or_refuse, allowed}
-use Rattle.refusals.specs.declared.answers.Checked.TheVariants.{Accepted}
+use Rattle.refusals.specs.Answers.{or_refuse, allowed, Checked}
 use Rattle.labels.specs.Label.{Marks}
 use Rattle.access.specs.Rights.{Rights, between, rights_at}
 
@@ -37,7 +35,7 @@ session_label_answer im u new row =
     or_refuse (between (minimum_level rec) (maximum_level rec) new.level) LevelNotAllowed
     (or_refuse (within new.compartments (read_compartments rec)) CompartmentsNotAllowed
     (or_refuse (session_groups_rule im rec new.groups) GroupsNotAllowed
-    (or_refuse (row_inside (rights_at im u new) row) RowLabelOutside Accepted)))
+    (or_refuse (row_inside (rights_at im u new) row) RowLabelOutside (Ok tt))))
 
 -- ---- a new row label
 -- minimum ≤ level ≤ session level (8); compartments (9) inside the session's write compartments, groups (10) by `row_groups_rule`
@@ -45,7 +43,7 @@ unfoldable pub row_label_answer : Rights → Marks → Checked
 row_label_answer rights new =
     or_refuse (between rights.minimum rights.level new.level) LevelNotAllowed
     (or_refuse (within new.compartments rights.write_compartments) CompartmentsNotAllowed
-    (or_refuse (row_groups_rule rights new.groups) GroupsNotAllowed Accepted))
+    (or_refuse (row_groups_rule rights new.groups) GroupsNotAllowed (Ok tt)))
 
 -- ---- 19
 -- the user's place exists and both labels meet the two lists

@@ -21,7 +21,6 @@ use hierarchy::table::Table;
 use labels::label::Label;
 use records::users;
 use refusals::Refusal;
-use refusals::answers::Checked;
 use sets::groups::Groups;
 use sets::word;
 
@@ -86,38 +85,38 @@ pub fn session_label_answer(
     new: Label,
     view: View,
     row: Label,
-) -> Checked
+) -> Result<(), Refusal>
     requires { (Counted image.now × (Tabled image.now table.now × (u < users image.now))) × (rights_of view ≡ rights_at image.now u (marks_of new)) }
     ensures { result ≡ session_label_answer image.now u (marks_of new) (marks_of row) }
 {
     let rec = layout::record_part(image, Kind::User, u);
     if !level_ok(rec, new.level) {
-        return Checked::Refused(Refusal::LevelNotAllowed);
+        return Err(Refusal::LevelNotAllowed);
     }
     if !compartments_ok(rec, new.compartments) {
-        return Checked::Refused(Refusal::CompartmentsNotAllowed);
+        return Err(Refusal::CompartmentsNotAllowed);
     }
     if !groups_ok(image, table, rec, new.groups) {
-        return Checked::Refused(Refusal::GroupsNotAllowed);
+        return Err(Refusal::GroupsNotAllowed);
     }
     if !row_inside(view, row) {
-        return Checked::Refused(Refusal::RowLabelOutside);
+        return Err(Refusal::RowLabelOutside);
     }
-    Checked::Accepted
+    Ok(())
 }
 
 // May the session have the new row label? Refusals: 8, 9, 10.
-pub fn row_label_answer(view: View, new: Label) -> Checked
+pub fn row_label_answer(view: View, new: Label) -> Result<(), Refusal>
     ensures { result ≡ row_label_answer (rights_of view) (marks_of new) }
 {
     if !is_between(view.minimum, view.level, new.level) {
-        return Checked::Refused(Refusal::LevelNotAllowed);
+        return Err(Refusal::LevelNotAllowed);
     }
     if !word::within(new.compartments, view.write_compartments) {
-        return Checked::Refused(Refusal::CompartmentsNotAllowed);
+        return Err(Refusal::CompartmentsNotAllowed);
     }
     if !row_groups_ok(view, new.groups) {
-        return Checked::Refused(Refusal::GroupsNotAllowed);
+        return Err(Refusal::GroupsNotAllowed);
     }
-    Checked::Accepted
+    Ok(())
 }

@@ -1,4 +1,5 @@
 -- The answer of a call that writes to the front of a lent buffer: the bytes and how many, or 13. Assumes nothing.
+use Rattle.std.proofs.Common.{Ok, Err}
 use Prim.Native.Nat.{ℕ, ◌≤◌, ◌<◌}
 use mathlib.Core.Path.{◌≡◌, refl, ap, ap₂, ◌∙◌}
 use mathlib.Core.Bool.{Bool, true, false, cond}
@@ -11,24 +12,20 @@ use lib.ListN.{length, take, drop}
 use lib.Seq.{take-append_seam, drop-append_seam}
 use Rattle.refusals.specs.declared.Refusal.{Refusal}
 use Rattle.refusals.specs.declared.Refusal.TheVariants.{Room}
-use Rattle.refusals.specs.declared.answers.Checked.{Checked}
-use Rattle.refusals.specs.declared.answers.Checked.TheVariants.{Accepted, Refused}
-use Rattle.refusals.specs.Answers.{on_checked}
+use Rattle.refusals.specs.Answers.{on_checked, Amount, Checked}
 use Rattle.buffers.specs.Pasting.{at_front, Written}
 use Rattle.buffers.specs.Filling.{unfilled, written_to}
-use Rattle.buffers.specs.declared.answers.Filled.{Filled}
-use Rattle.buffers.specs.declared.answers.Filled.TheVariants as filled
 use Rattle.buffers.proofs.Pasted.{front}
 
 module _ (b bytes : List ℕ) where
   -- n is how many bytes there are
-  pub answer-room : (n : ℕ) → n ≡ length bytes → length b < n → (filled.Refused Room, b) ≡ written_to b bytes
+  pub answer-room : (n : ℕ) → n ≡ length bytes → length b < n → (Err Room, b) ≡ written_to b bytes
   answer-room n e h = rw (lt-leb (length bytes) (length b) (rw e at h))
 
-  pub answer-done : {after : List ℕ} {r : ℕ} (n : ℕ) → n ≡ length bytes → n ≤ length b → Written b 0 bytes after r → (filled.Done r, after) ≡ written_to b bytes
+  pub answer-done : {after : List ℕ} {r : ℕ} (n : ℕ) → n ≡ length bytes → n ≤ length b → Written b 0 bytes after r → (Ok r, after) ≡ written_to b bytes
   answer-done n e h w =
       rw (le-leb (length bytes) (length b) (rw e at h))
-      (ap₂ (λ (n : ℕ) (t : List ℕ). (filled.Done n, t)) (w.stop ∙ zero-add (length bytes)) (w.bytes ∙ front b bytes))
+      (ap₂ (λ (n : ℕ) (t : List ℕ). (Ok n, t)) (w.stop ∙ zero-add (length bytes)) (w.bytes ∙ front b bytes))
 
 -- ---- where such a call is done: the front of the buffer is the bytes, of the length that is told, and later bytes stay
 pub record FrontDone (b bytes after : List ℕ) (n : ℕ) : Type 0 where
@@ -37,11 +34,11 @@ pub record FrontDone (b bytes after : List ℕ) (n : ℕ) : Type 0 where
   pub front : take n after ≡ bytes
   pub later : drop n after ≡ drop n b
 
-pub refused-done : {r : Refusal} {n : ℕ} → filled.Refused r ≡ filled.Done n → ⊥
+pub refused-done : {r : Refusal} {n : ℕ} → ◌≡◌ {A = Amount} (Err r) (Ok n) → ⊥
 refused-done {r} {n} e = let z : ◌≡◌ {A = ℕ} 0 1 = cc in omega arith
 
 module _ (b bytes after : List ℕ) (n : ℕ) where
-  done-same : {m : ℕ} → filled.Done m ≡ filled.Done n → m ≡ n
+  done-same : {m : ℕ} → ◌≡◌ {A = Amount} (Ok m) (Ok n) → m ≡ n
   done-same {m} e = cc
 
   laid : length bytes ≤ length b → length bytes ≡ n → at_front bytes b ≡ after → FrontDone b bytes after n
@@ -54,15 +51,15 @@ module _ (b bytes after : List ℕ) (n : ℕ) where
         later = drop-append_seam bytes (drop (length bytes) b);
       })
 
-  pub front-done : written_to b bytes ≡ (filled.Done n, after) → FrontDone b bytes after n
+  pub front-done : written_to b bytes ≡ (Ok n, after) → FrontDone b bytes after n
   front-done = at (leb (length bytes) (length b)) refl
     where
       at : (t : Bool) → leb (length bytes) (length b) ≡ t
-          → cond {A = Filled × List ℕ} t (filled.Done (length bytes), at_front bytes b) (unfilled b Room) ≡ (filled.Done n, after) → FrontDone b bytes after n
-      at true t q = laid (leb-true _ _ t) (done-same (ap (λ (p : Filled × List ℕ). p.0) q)) (ap (λ (p : Filled × List ℕ). p.1) q)
-      at false t q = absurd (refused-done (ap (λ (p : Filled × List ℕ). p.0) q))
+          → cond {A = Amount × List ℕ} t (Ok (length bytes), at_front bytes b) (unfilled b Room) ≡ (Ok n, after) → FrontDone b bytes after n
+      at true t q = laid (leb-true _ _ t) (done-same (ap (λ (p : Amount × List ℕ). p.0) q)) (ap (λ (p : Amount × List ℕ). p.1) q)
+      at false t q = absurd (refused-done (ap (λ (p : Amount × List ℕ). p.0) q))
 
   -- after a check
-  pub checked-done : (c : Checked) → on_checked c (unfilled b) (written_to b bytes) ≡ (filled.Done n, after) → (c ≡ Accepted) × FrontDone b bytes after n
-  checked-done Accepted q = (refl, front-done q)
-  checked-done (Refused r) q = absurd (refused-done (ap (λ (p : Filled × List ℕ). p.0) q))
+  pub checked-done : (c : Checked) → on_checked c (unfilled b) (written_to b bytes) ≡ (Ok n, after) → (c ≡ Ok tt) × FrontDone b bytes after n
+  checked-done (Ok tt) q = (refl, front-done q)
+  checked-done (Err r) q = absurd (refused-done (ap (λ (p : Amount × List ℕ). p.0) q))

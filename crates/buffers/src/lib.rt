@@ -2,6 +2,5 @@
 
 #![tactic(auto)]
 
-pub mod answers;
 pub mod given;
 pub mod parts;

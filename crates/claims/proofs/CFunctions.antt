@@ -1,5 +1,6 @@
 -- Hidden rows stay hidden from who calls the C functions: each call does what the call by value does on the session that the bytes lent stand
 -- for (Held.antt), and what the caller sees is determined by its answer and by the bytes lent. Assumes nothing.
+use Rattle.std.proofs.Common.{Ok, Err}
 use Prim.Native.Nat.{ℕ, ◌*◌, ◌^◌}
 use mathlib.Core.Path.{◌≡◌, refl, sym, ap, ◌∙◌, subst}
 use mathlib.Core.Bool.{Bool, true, cond, ◌&&◌}
@@ -9,18 +10,15 @@ use lib.Dec.{eqb, ltb}
 use lib.ListN.{take}
 use borrow.Author.Tests.{le-ltb}
 use Rattle.refusals.specs.declared.Refusal.{Refusal}
-use Rattle.refusals.specs.Answers.{checked_given, code_of, answer_of}
+use Rattle.refusals.specs.Answers.{checked_given, code_of, answer_of, Amount, amount_given}
 use Rattle.sessions.specs.Session.{SessionMarks}
 use Rattle.sessions.specs.Opening.{Opening, session, refused, open_of}
 use Rattle.sessions.specs.Changes.{set_label_of, set_row_label_of}
 use Rattle.rows.specs.Reading.{read_rows_of}
 use Rattle.rows.specs.Mapped.{read_mapped_of}
 use Rattle.rows.specs.Updating.{update_row_of}
-use Rattle.rows.specs.declared.answers.RowsRead.{RowsRead}
-use Rattle.rows.specs.declared.answers.RowsRead.TheVariants.{Done, Refused}
 use Rattle.encoding.specs.Sessions.{changed_into}
 use Rattle.abi.specs.Sessions.{opened_given, opened_into, open_answer}
-use Rattle.abi.specs.Tables.{rows_given}
 use Rattle.abi.proofs.InBytes.{open-holds}
 use Rattle.isolation.specs.Calls.{LentAs, last, other, Call, opening, setting_label, setting_row_label, on_rows, reading, reading_mapped, updating}
 use Rattle.isolation.specs.Calls.{lent_session, session_after, bytes_read, row_step, step, run}
@@ -67,7 +65,7 @@ lent_to lately (c_update lent width n payload) = bytes_lent lately lent
 abbrev pub seen_of : List ℕ → Answer → ℕ × List ℕ
 seen_of bytes (opened answer) = (code_of (opened_given answer), opened_into answer [])
 seen_of bytes (label_set s answer) = changed_into s answer bytes
-seen_of bytes (rows_handed answer out) = (code_of (rows_given answer), when_done (code_of (rows_given answer)) out [])
+seen_of bytes (rows_handed answer out) = (code_of (amount_given answer), when_done (code_of (amount_given answer)) out [])
 seen_of bytes (row_done answer) = (code_of (checked_given answer), [])
 
 -- the last bytes after a call, by those before it and those lent to it
@@ -93,11 +91,11 @@ pub record Simulated (im : List ℕ) (state : CState) (call : CCall) : Type 0 wh
   pub seen : (c_step im state call).1 ≡ seen_of (lent_to state.bytes call) answer
 
 -- the bytes that a read hands out by its number are those that it hands out by its answer
-rows_seen : (width : ℕ) (answer : RowsRead) (buffer : List ℕ)
-    → ◌≡◌ {A = ℕ × List ℕ} (code_of (rows_given answer), bytes_handed (code_of (rows_given answer)) width buffer)
+rows_seen : (width : ℕ) (answer : Amount) (buffer : List ℕ)
+    → ◌≡◌ {A = ℕ × List ℕ} (code_of (amount_given answer), bytes_handed (code_of (amount_given answer)) width buffer)
     (seen_of [] (rows_handed answer (bytes_read answer width buffer)))
-rows_seen width (Done count) buffer = refl
-rows_seen width (Refused r) buffer = rw (refusal-handed r (take (answer_of r * width) buffer) [], refusal-handed r [] [])
+rows_seen width (Ok count) buffer = refl
+rows_seen width (Err r) buffer = rw (refusal-handed r (take (answer_of r * width) buffer) [], refusal-handed r [] [])
 
 module _ (im : List ℕ) (state : CState) where
   pub step-simulated : (call : CCall) → Simulated im state call

@@ -1,6 +1,8 @@
 -- The main theorems of the library, each stated in full over definitions of specs (and `EveryRule`, which says the image's rules in places,
 -- `with_compaccess`, and `MovedBy` and `ClearedBy`, which say what a move keeps), and proved by citing where it is proved. A reader who wants to know what
 -- is claimed can begin here; those on maps stand in MapClaims, those on small letters in TextClaims. Assumes nothing.
+use Rattle.std.specs.Result.{IsErrAnd}
+use Rattle.std.proofs.Common.{Ok, Err}
 use Prim.Native.Nat.{ℕ, suc, ◌≤◌, ◌<◌}
 use mathlib.Core.Path.{◌≡◌, refl, sym, ◌∙◌}
 use mathlib.Core.Bool.{true, false}
@@ -17,16 +19,13 @@ use Rattle.header.specs.declared.profile.Profile.TheVariants.{Release}
 use Rattle.header.specs.Layout.{edition_of, profile_of, groups, users, labels}
 use Rattle.hierarchy.specs.Below.{forest_of, Above, below}
 use Rattle.hierarchy.proofs.Under.{below_true, below-above, above-below}
-use Rattle.refusals.specs.declared.answers.Checked.TheVariants.{Accepted, Refused}
-use Rattle.refusals.specs.declared.answers.Verdict.TheVariants.{Yes, No}
 use Rattle.refusals.specs.declared.Refusal.TheVariants.{ImageLayout, ParentRing, CompaccessHolders, MoveLimits}
 use Rattle.image.specs.declared.faults.Fault.{Fault}
-use Rattle.image.specs.declared.faults.Fault.TheVariants.{Sound}
 use Rattle.image.specs.Faults.{key_of, key_before, lowest, Among, faults_of}
 use Rattle.image.specs.Check.{fault_of, check_of, IsAccepted}
 use Rattle.image.specs.Exactly.{Framed, HeaderAtFault, LayoutAtFault, RingAtFault, RecordTold, record_refusal}
 use Rattle.image.proofs.Exactly.{layout-exactly, record-exactly, ring-exactly}
-use Rattle.image.proofs.Lowest.{all_among, faulty-is, lowest-among, lowest-least}
+use Rattle.image.proofs.Lowest.{all_among, lowest-among, lowest-least}
 use Rattle.image.proofs.EveryRule as image
 use Rattle.image.proofs.EveryRule.{EveryRule}
 use Rattle.image.proofs.Policy.{parents-end}
@@ -54,7 +53,6 @@ use Rattle.sessions.proofs.Accepting.{lent-accepted}
 use Rattle.sessions.proofs.Existing.{session-labels-exist}
 use Rattle.sessions.proofs.Passing as passing
 use Rattle.sessions.proofs.Bounded as bounded
-use Rattle.buffers.specs.declared.answers.Filled.TheVariants as filled
 use Rattle.moves.specs.declared.target.Move.TheVariants.{Up, Clear}
 use Rattle.moves.specs.Moved.{new_image}
 use Rattle.moves.specs.Holders.{is_holder, holders}
@@ -83,27 +81,27 @@ pub accepted-exactly : (im : List ℕ) → IsAccepted im ↔ EveryRule im
 accepted-exactly = image.accepted-exactly
 
 -- The fault that is told is one of the image's, and none of them has a lower key (1 and 2 too; the keys are in the order of the papers).
-pub told-among : (im : List ℕ) → (fault_of im ≡ Sound → ⊥) → Among (fault_of im) (faults_of im)
+pub told-among : (im : List ℕ) (told : Fault) → fault_of im ≡ Err told → Among told (faults_of im)
 unfolding fault_of
-told-among im faulty = lowest-among (faults_of im) (faulty-is (lowest (faults_of im)) faulty)
+told-among im told e = lowest-among (faults_of im) told e
 
-pub told-lowest : (im : List ℕ) (f : Fault) → Among f (faults_of im) → key_before (key_of f) (key_of (fault_of im)) ≡ false
+pub told-lowest : (im : List ℕ) (f : Fault) → Among f (faults_of im) → IsErrAnd (fault_of im) (λ told. key_before (key_of f) (key_of told) ≡ false)
 unfolding fault_of
 told-lowest im f listed = all_among (lowest-least (faults_of im)) listed
 
 -- 1 and 2 aside: 31 exactly if the header or the length is at fault, or a block's layout is and no lower block has a fault;
 pub layout-told-exactly : (im : List ℕ) → Framed im
-    → (check_of im ≡ Refused ImageLayout) ↔ (HeaderAtFault im ⊎ ((b : ℕ) × LayoutAtFault im b))
+    → (check_of im ≡ Err ImageLayout) ↔ (HeaderAtFault im ⊎ ((b : ℕ) × LayoutAtFault im b))
 layout-told-exactly = layout-exactly
 
 -- 32 to 34 at block b and record r exactly if no lower block has a fault, b's layout is sound and r is its lowest record at fault, or, as 34
 -- and last, if the record is that of the lowest user who breaks the rule of group sets;
 pub record-told-exactly : (im : List ℕ) → Framed im → (kind : Kind) (b r : ℕ)
-    → (check_of im ≡ Refused (record_refusal kind b r)) ↔ RecordTold im kind b r
+    → (check_of im ≡ Err (record_refusal kind b r)) ↔ RecordTold im kind b r
 record-told-exactly = record-exactly
 
 -- 35 exactly if none of these is at fault and g is the lowest group whose parents never end.
-pub ring-told-exactly : (im : List ℕ) → Framed im → (g : ℕ) → (check_of im ≡ Refused (ParentRing g)) ↔ RingAtFault im g
+pub ring-told-exactly : (im : List ℕ) → Framed im → (g : ℕ) → (check_of im ≡ Err (ParentRing g)) ↔ RingAtFault im g
 ring-told-exactly = ring-exactly
 
 -- ---- the look-up of a tag
@@ -136,7 +134,7 @@ pub label-reads-back : (im : List ℕ) → IsAccepted im → (k : ℕ) → k < l
 label-reads-back = record-reads-back
 
 -- and of both labels of an accepted session.
-pub session-reads-back : (im : List ℕ) (s : SessionMarks) → lent_answer im s ≡ Accepted
+pub session-reads-back : (im : List ℕ) (s : SessionMarks) → lent_answer im s ≡ Ok tt
     → (parse_of im (text_of im s.label) ≡ of_text (read s.label)) × (parse_of im (text_of im s.row) ≡ of_text (read s.row))
 session-reads-back im s e = (
   parse-of-print im (lent-accepted im s e) s.label (session-labels-exist im s e).0,
@@ -145,32 +143,32 @@ session-reads-back im s e = (
 
 -- ---- sessions
 -- A session that opens passes every later test (19) of that image, and so does a session whose label or row label was changed.
-pub opened-passes : (im name : List ℕ) (s : SessionMarks) → open_of im name ≡ session s → lent_answer im s ≡ Accepted
+pub opened-passes : (im name : List ℕ) (s : SessionMarks) → open_of im name ≡ session s → lent_answer im s ≡ Ok tt
 opened-passes = passing.opened-passes
 
-pub label-changed-passes : (im text : List ℕ) (s t : SessionMarks) → set_label_of im s text ≡ (t, Accepted) → lent_answer im t ≡ Accepted
+pub label-changed-passes : (im text : List ℕ) (s t : SessionMarks) → set_label_of im s text ≡ (t, Ok tt) → lent_answer im t ≡ Ok tt
 label-changed-passes = passing.label-changed-passes
 
-pub row-label-changed-passes : (im text : List ℕ) (s t : SessionMarks) → set_row_label_of im s text ≡ (t, Accepted) → lent_answer im t ≡ Accepted
+pub row-label-changed-passes : (im text : List ℕ) (s t : SessionMarks) → set_row_label_of im s text ≡ (t, Ok tt) → lent_answer im t ≡ Ok tt
 row-label-changed-passes = passing.row-label-changed-passes
 
 -- An accepted session that is laid down in bytes reads back as itself, and the bytes name its one user.
-pub session-in-bytes : (im : List ℕ) (s : SessionMarks) → lent_answer im s ≡ Accepted → Holds (session_bytes s) s
+pub session-in-bytes : (im : List ℕ) (s : SessionMarks) → lent_answer im s ≡ (Ok tt) → Holds (session_bytes s) s
 session-in-bytes im s e = bytes-hold s (lent-widths im s e)
 
 -- ---- verdicts
 -- No session reads a row that is not readable at its user's maximum read label.
-pub reads-within-maximum : (im : List ℕ) (s : SessionMarks) (tag : ℕ) → may_read_of im s tag ≡ Yes → readable_at_maximum im s.user tag ≡ true
+pub reads-within-maximum : (im : List ℕ) (s : SessionMarks) (tag : ℕ) → may_read_of im s tag ≡ (Ok true) → readable_at_maximum im s.user tag ≡ true
 reads-within-maximum = bounded.reads-within-maximum
 
 -- A writable row is readable.
-pub writable-readable : (im : List ℕ) (s : SessionMarks) (tag : ℕ) → may_write_of im s tag ≡ Yes → may_read_of im s tag ≡ Yes
+pub writable-readable : (im : List ℕ) (s : SessionMarks) (tag : ℕ) → may_write_of im s tag ≡ (Ok true) → may_read_of im s tag ≡ Ok true
 writable-readable = bounded.writes-readable
 
 -- Dominance agrees with reading: with an accepted session whose user holds none of READ, FULL and COMPACCESS, and a tag that a label record
 -- carries, `may_read` answers yes exactly if `dominates` does of the session's label and the record's.
-pub reads-exactly-if-dominates : (im : List ℕ) (s : SessionMarks) (tag : ℕ) → lent_answer im s ≡ Accepted → NoPrivileges im s.user
-    → known_tag im tag ≡ true → (may_read_of im s tag ≡ Yes) ↔ (dominates_of im s.label (label_at im (label_of_tag im tag)) ≡ Yes)
+pub reads-exactly-if-dominates : (im : List ℕ) (s : SessionMarks) (tag : ℕ) → lent_answer im s ≡ (Ok tt) → NoPrivileges im s.user
+    → known_tag im tag ≡ true → (may_read_of im s tag ≡ Ok true) ↔ (dominates_of im s.label (label_at im (label_of_tag im tag)) ≡ Ok true)
 reads-exactly-if-dominates im s tag lent none known = (
   (λ e. sym (reads-dominated im s tag lent none known) ∙ e),
   (λ e. reads-dominated im s tag lent none known ∙ e),
@@ -181,8 +179,8 @@ pub zero-unknown : (im : List ℕ) → IsAccepted im → known_tag im 0 ≡ fals
 zero-unknown = moves.zero-unknown
 
 -- In edition 2 every tag that no label carries is denied to all sessions, whatever privileges their user holds.
-pub unknown-denied : (im : List ℕ) → edition_of im ≡ Two → (s : SessionMarks) → lent_answer im s ≡ Accepted → (tag : ℕ) → known_tag im tag ≡ false
-    → (may_read_of im s tag ≡ No) × (may_write_of im s tag ≡ No)
+pub unknown-denied : (im : List ℕ) → edition_of im ≡ Two → (s : SessionMarks) → lent_answer im s ≡ (Ok tt) → (tag : ℕ) → known_tag im tag ≡ false
+    → (may_read_of im s tag ≡ Ok false) × (may_write_of im s tag ≡ Ok false)
 unfolding may_read_of may_write_of
 unknown-denied im two s lent tag unknown = (
   rw (lent, unknown-unread im two (session_rights im s) tag unknown),
@@ -214,28 +212,28 @@ release-narrows = shown-no-more
 -- Where the call is done, the front of the buffer is an image, of the length that is told, and later bytes stay as they were. The image is accepted,
 -- of edition 2, and holds the same components, labels and users, by the field readers of both editions; the same session opens for each name, the same
 -- sessions are accepted, and their verdicts on every known tag are the same.
-pub move-up-keeps : (im buffer after : List ℕ) (n : ℕ) → move_up_of im buffer ≡ (filled.Done n, after) → MovedBy im buffer after n
+pub move-up-keeps : (im buffer after : List ℕ) (n : ℕ) → move_up_of im buffer ≡ (Ok n, after) → MovedBy im buffer after n
 move-up-keeps = moved-by-call
 
 -- An accepted image of edition 1 is moved if edition 2 has room for its labels and users, nobody holds COMPACCESS and the buffer has room for the new
 -- image, for which 65,536 bytes are always enough. If edition 2 has no room, that is 37; then, if somebody holds COMPACCESS, 36 with how many do; both
 -- before any look at the buffer.
 pub move-up-done : (im buffer : List ℕ) → IsAccepted im → edition_of im ≡ One → labels im ≤ 800 → users im ≤ 32 → holders im ≡ []
-    → 65536 ≤ length buffer → move_up_of im buffer ≡ (filled.Done (length (new_image Up im)), at_front (new_image Up im) buffer)
+    → 65536 ≤ length buffer → move_up_of im buffer ≡ (Ok (length (new_image Up im)), at_front (new_image Up im) buffer)
 move-up-done = moves.done-if-few
 
 pub move-up-limited : (im buffer : List ℕ) → IsAccepted im → edition_of im ≡ One → (800 < labels im) ⊎ (32 < users im)
-    → move_up_of im buffer ≡ (filled.Refused MoveLimits, buffer)
+    → move_up_of im buffer ≡ (Err MoveLimits, buffer)
 move-up-limited = moves.limited-if-many
 
 pub move-up-held : (im buffer : List ℕ) → IsAccepted im → edition_of im ≡ One → labels im ≤ 800 → users im ≤ 32 → (length (holders im) ≡ 0 → ⊥)
-    → move_up_of im buffer ≡ (filled.Refused (CompaccessHolders (length (holders im))), buffer)
+    → move_up_of im buffer ≡ (Err (CompaccessHolders (length (holders im))), buffer)
 move-up-held = moves.held-if-some
 
 -- An image of edition 2 that neither 1 nor 2 refuses is given 31 by the move up, the list and the clearing move, whatever else is wrong with it.
 pub moved-once : (im buffer : List ℕ) → Framed im → edition_of im ≡ Two
-    → (move_up_of im buffer ≡ (filled.Refused ImageLayout, buffer))
-    × ((compaccess_users_of im buffer ≡ (filled.Refused ImageLayout, buffer)) × (clear_compaccess_of im buffer ≡ (filled.Refused ImageLayout, buffer)))
+    → (move_up_of im buffer ≡ (Err ImageLayout, buffer))
+    × ((compaccess_users_of im buffer ≡ (Err ImageLayout, buffer)) × (clear_compaccess_of im buffer ≡ (Err ImageLayout, buffer)))
 moved-once = moves.framed-once
 
 -- ---- COMPACCESS
@@ -254,19 +252,19 @@ pub release-nobody : (im : List ℕ) → IsAccepted im → profile_of im ≡ Rel
 release-nobody = moves.release-nobody
 
 pub list_done : (im buffer : List ℕ) → IsAccepted im → edition_of im ≡ One → length (holders im) ≤ length buffer
-    → compaccess_users_of im buffer ≡ (filled.Done (length (holders im)), at_front (holders im) buffer)
+    → compaccess_users_of im buffer ≡ (Ok (length (holders im)), at_front (holders im) buffer)
 list_done = moves.list_done
 
 -- Where the clearing move is done, the front of the buffer is an image, of the length that is told, and later bytes stay as they were. The image is
 -- accepted; nobody in it holds COMPACCESS, so that a move up is not refused 36; each byte outside the privileges of those who held it and the checks of
 -- their blocks is the old one; the same sessions open and are accepted; users without the bit keep every verdict, and the others lose none but what
 -- COMPACCESS gave.
-pub clear-keeps : (im buffer after : List ℕ) (n : ℕ) → clear_compaccess_of im buffer ≡ (filled.Done n, after) → ClearedBy im buffer after n
+pub clear-keeps : (im buffer after : List ℕ) (n : ℕ) → clear_compaccess_of im buffer ≡ (Ok n, after) → ClearedBy im buffer after n
 clear-keeps = cleared-by-call
 
 -- It is done for every accepted image of edition 1 that the buffer has room for; where nobody holds COMPACCESS it writes the image as it is.
 pub clear-done : (im buffer : List ℕ) → IsAccepted im → edition_of im ≡ One → length im ≤ length buffer
-    → clear_compaccess_of im buffer ≡ (filled.Done (length im), at_front (new_image Clear im) buffer)
+    → clear_compaccess_of im buffer ≡ (Ok (length im), at_front (new_image Clear im) buffer)
 clear-done = moves.clear-done
 
 pub clear-nobody : (im : List ℕ) → IsAccepted im → edition_of im ≡ One → AreBytes im → holders im ≡ [] → new_image Clear im ≡ im

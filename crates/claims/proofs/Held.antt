@@ -1,5 +1,6 @@
 -- Any bytes stand for a session by value: that which they hold, or, where they name two users, one that 19 refuses as it refuses them. Each
 -- C function on the bytes answers what the call on that session answers. Assumes nothing.
+use Rattle.std.proofs.Common.{Ok, Err}
 use Prim.Native.Nat.{ℕ, ◌^◌}
 use mathlib.Core.Path.{◌≡◌, refl, sym, ap, ◌∙◌}
 use mathlib.Core.Bool.{Bool, true, false, cond}
@@ -9,9 +10,7 @@ use borrow.Author.Tests.{le-ltb}
 use Rattle.fields.specs.Bytes.{byte_at}
 use Rattle.refusals.specs.declared.Refusal.{Refusal}
 use Rattle.refusals.specs.declared.Refusal.TheVariants.{SessionRules}
-use Rattle.refusals.specs.declared.answers.Checked.{Checked}
-use Rattle.refusals.specs.declared.answers.Checked.TheVariants.{Accepted, Refused}
-use Rattle.refusals.specs.Answers.{on_checked, or_refuse, checked_given, code_of, answer_of}
+use Rattle.refusals.specs.Answers.{on_checked, or_refuse, checked_given, code_of, answer_of, Checked, amount_given}
 use Rattle.image.specs.Check.{check_of, IsAccepted}
 use Rattle.labels.specs.Label.{marks}
 use Rattle.access.specs.NewLabels.{session_rule}
@@ -22,11 +21,10 @@ use Rattle.sessions.specs.Changes.{set_label_of, set_row_label_of}
 use Rattle.rows.specs.Reading.{read_rows_of}
 use Rattle.rows.specs.Mapped.{read_mapped_of}
 use Rattle.rows.specs.Updating.{update_row_of}
-use Rattle.rows.specs.declared.answers.RowsRead.TheVariants as read
 use Rattle.encoding.specs.Sessions.{session_in, one_user, Holds, changed_into}
 use Rattle.abi.specs.Answers.{coded, after_check, with_session}
 use Rattle.abi.specs.Sessions.{opened_given, opened_into, change_answer, set_label_answer, set_row_label_answer}
-use Rattle.abi.specs.Tables.{rows_given, read_answer, update_answer}
+use Rattle.abi.specs.Tables.{read_answer, update_answer}
 use Rattle.abi.specs.Maps.{read_mapped_answer}
 use Rattle.abi.proofs.Widths.{rule-widths}
 use Rattle.abi.proofs.Refusing.{set-label-refused, set-row-label-refused, read-refused, read-mapped-refused, update-refused}
@@ -62,20 +60,20 @@ module _ (im : List ℕ) (u : ℕ) where
       at true e = let small = (rule-widths im acc (unfit_of u) e).label.level in absurd (omega (arith, small))
       at false e = refl
 
-  pub unfit-refused : lent_answer im (unfit_of u) ≡ Refused (after_check im SessionRules)
+  pub unfit-refused : lent_answer im (unfit_of u) ≡ Err (after_check im SessionRules)
   unfolding lent_answer
   unfit-refused = at (check_of im) refl
     where
       at : (c : Checked) → check_of im ≡ c
-          → on_checked c Refused (or_refuse (session_rule im (unfit_of u).user (unfit_of u).label (unfit_of u).row) SessionRules Accepted)
-          ≡ Refused (on_checked c (λ q. q) SessionRules)
-      at Accepted e = rw (unfit-rule e)
-      at (Refused r) e = refl
+          → on_checked c Err (or_refuse (session_rule im (unfit_of u).user (unfit_of u).label (unfit_of u).row) SessionRules (Ok tt))
+          ≡ Err (on_checked c (λ q. q) SessionRules)
+      at (Ok tt) e = rw (unfit-rule e)
+      at (Err r) e = refl
 
 -- ---- calls that refuse as soon as the session is refused
 module _ (im bytes : List ℕ) where
   with-held : {A : Type 0} (refuse : Refusal → A) (answer : SessionMarks → A)
-      → ((s : SessionMarks) (r : Refusal) → lent_answer im s ≡ Refused r → answer s ≡ refuse r)
+      → ((s : SessionMarks) (r : Refusal) → lent_answer im s ≡ Err r → answer s ≡ refuse r)
       → with_session im bytes refuse answer ≡ answer (held_as bytes)
   with-held {A} refuse answer refused = at (one_user bytes)
     where
@@ -85,34 +83,34 @@ module _ (im bytes : List ℕ) where
       at false = sym (refused (unfit_of (byte_at bytes 0)) (after_check im SessionRules) (unfit-refused im (byte_at bytes 0)))
 
   pub read_as : (table : List ℕ) (w : ℕ) (buffer : List ℕ)
-      → ◌≡◌ {A = ℕ × List ℕ} (read_answer im bytes table w buffer) (coded rows_given (read_rows_of im (held_as bytes) table w buffer))
+      → ◌≡◌ {A = ℕ × List ℕ} (read_answer im bytes table w buffer) (coded amount_given (read_rows_of im (held_as bytes) table w buffer))
   read_as table w buffer =
-      ap (coded rows_given)
-      (with-held (λ r. (read.Refused r, buffer)) (λ s. read_rows_of im s table w buffer) (λ s r e. read-refused im s r e table w buffer))
+      ap (coded amount_given)
+      (with-held (λ r. (Err r, buffer)) (λ s. read_rows_of im s table w buffer) (λ s r e. read-refused im s r e table w buffer))
 
   pub read-mapped-as : (table : List ℕ) (w : ℕ) (bits buffer : List ℕ)
-      → ◌≡◌ {A = ℕ × List ℕ} (read_mapped_answer im bytes table w bits buffer) (coded rows_given (read_mapped_of im (held_as bytes) table w bits buffer))
+      → ◌≡◌ {A = ℕ × List ℕ} (read_mapped_answer im bytes table w bits buffer) (coded amount_given (read_mapped_of im (held_as bytes) table w bits buffer))
   read-mapped-as table w bits buffer =
-      ap (coded rows_given)
-      (with-held (λ r. (read.Refused r, buffer)) (λ s. read_mapped_of im s table w bits buffer) (λ s r e. read-mapped-refused im s r e table w bits buffer))
+      ap (coded amount_given)
+      (with-held (λ r. (Err r, buffer)) (λ s. read_mapped_of im s table w bits buffer) (λ s r e. read-mapped-refused im s r e table w bits buffer))
 
   pub update-as : (table : List ℕ) (w n : ℕ) (payload : List ℕ)
       → ◌≡◌ {A = ℕ × List ℕ} (update_answer im bytes table w n payload) (coded checked_given (update_row_of im (held_as bytes) table w n payload))
   update-as table w n payload =
       ap (coded checked_given)
-      (with-held (λ r. (Refused r, table)) (λ s. update_row_of im s table w n payload) (λ s r e. update-refused im s r e table w n payload))
+      (with-held (λ r. (Err r, table)) (λ s. update_row_of im s table w n payload) (λ s r e. update-refused im s r e table w n payload))
 
   -- ---- label changes: what is told, and the session that the bytes after it stand for
   module _ (change : SessionMarks → SessionMarks × Checked)
-      (refused : (s : SessionMarks) (r : Refusal) → lent_answer im s ≡ Refused r → change s ≡ (s, Refused r)) where
-    unfit-change : change (unfit_of (byte_at bytes 0)) ≡ (unfit_of (byte_at bytes 0), Refused (after_check im SessionRules))
+      (refused : (s : SessionMarks) (r : Refusal) → lent_answer im s ≡ Err r → change s ≡ (s, Err r)) where
+    unfit-change : change (unfit_of (byte_at bytes 0)) ≡ (unfit_of (byte_at bytes 0), Err (after_check im SessionRules))
     unfit-change = refused (unfit_of (byte_at bytes 0)) (after_check im SessionRules) (unfit-refused im (byte_at bytes 0))
 
     change-as : ◌≡◌ {A = ℕ × List ℕ} (change_answer im bytes change) (changed_into (change (held_as bytes)).0 (change (held_as bytes)).1 bytes)
     change-as = at (one_user bytes)
       where
         at : (t : Bool)
-            → let changed = cond t (change (session_in bytes)) (session_in bytes, Refused (after_check im SessionRules)) in
+            → let changed = cond t (change (session_in bytes)) (session_in bytes, Err (after_check im SessionRules)) in
             let s = cond t (session_in bytes) (unfit_of (byte_at bytes 0)) in
             ◌≡◌ {A = ℕ × List ℕ} (changed_into changed.0 changed.1 bytes) (changed_into (change s).0 (change s).1 bytes)
         at true = refl

@@ -1,6 +1,7 @@
 -- When a move up, the list of holders and the clearing move are done and when they are refused, with an instance: the sample is moved up, and so an
 -- accepted image of edition 2 exists, in which MARA's session is accepted and unknown tags are denied; nobody in it holds COMPACCESS. No image's label
 -- carries tag 0. Assumes nothing.
+use Rattle.std.proofs.Common.{Ok, Err}
 use Prim.Native.Nat.{ℕ, suc, ◌+◌, ◌≤◌, ◌<◌}
 use mathlib.Core.Path.{◌≡◌, refl, sym, ap, ◌∙◌, subst}
 use mathlib.Core.Bool.{Bool, true, false, and-false}
@@ -13,8 +14,6 @@ use lib.ListN.{length, get_or, replicate, length-replicate}
 use Rattle.fields.specs.Bytes.{number2}
 use Rattle.fields.proofs.Both.{parts, both}
 use Rattle.fields.proofs.PlacesWhere.{nowhere, listed, every, rising}
-use Rattle.refusals.specs.declared.answers.Checked.TheVariants.{Accepted}
-use Rattle.refusals.specs.declared.answers.Verdict.TheVariants.{No}
 use Rattle.refusals.specs.declared.Refusal.TheVariants.{ImageLayout, CompaccessHolders, MoveLimits}
 use Rattle.buffers.specs.Pasting.{at_front}
 use Rattle.sets.specs.Sets.{has}
@@ -35,7 +34,6 @@ use Rattle.image.proofs.EveryRule.{accepted-keeps}
 use Rattle.image.proofs.Policy.{label-carries}
 use Rattle.access.specs.Verdicts.{known_tag}
 use Rattle.sessions.specs.Session.{lent_answer}
-use Rattle.buffers.specs.declared.answers.Filled.TheVariants as filled
 use Rattle.moves.specs.declared.target.Move.TheVariants.{Up, Clear}
 use Rattle.moves.specs.Moved.{new_image}
 use Rattle.moves.specs.Holders.{is_holder, holders}
@@ -66,23 +64,23 @@ zero-unknown im acc = at (ltb (label_of_tag im 0) (labels im)) refl
 module _ (im buffer : List ℕ) where
   -- an image of edition 2
   pub framed-once : Framed im → edition_of im ≡ Two
-      → (move_up_of im buffer ≡ (filled.Refused ImageLayout, buffer))
-      × ((compaccess_users_of im buffer ≡ (filled.Refused ImageLayout, buffer)) × (clear_compaccess_of im buffer ≡ (filled.Refused ImageLayout, buffer)))
+      → (move_up_of im buffer ≡ (Err ImageLayout, buffer))
+      × ((compaccess_users_of im buffer ≡ (Err ImageLayout, buffer)) × (clear_compaccess_of im buffer ≡ (Err ImageLayout, buffer)))
   unfolding move_up_of compaccess_users_of clear_compaccess_of
   framed-once f e = (rw (framed-refused im f e), (rw (framed-refused im f e), rw (framed-refused im f e)))
 
   module _ (acc : IsAccepted im) (one : edition_of im ≡ One) where
-    pub over-limits : move_limits_rule im ≡ false → move_up_of im buffer ≡ (filled.Refused MoveLimits, buffer)
+    pub over-limits : move_limits_rule im ≡ false → move_up_of im buffer ≡ (Err MoveLimits, buffer)
     unfolding move_up_of
     over-limits many = rw (accepted-old im acc one, many)
 
     pub holders-refused : move_limits_rule im ≡ true → (length (holders im) ≡ 0 → ⊥)
-        → move_up_of im buffer ≡ (filled.Refused (CompaccessHolders (length (holders im))), buffer)
+        → move_up_of im buffer ≡ (Err (CompaccessHolders (length (holders im))), buffer)
     unfolding move_up_of
     holders-refused few some = rw (accepted-old im acc one, few, ne_eqb (length (holders im)) 0 some)
 
     pub within-limits : taken_rule Up im ≡ true → length (new_image Up im) ≤ length buffer
-        → move_up_of im buffer ≡ (filled.Done (length (new_image Up im)), at_front (new_image Up im) buffer)
+        → move_up_of im buffer ≡ (Ok (length (new_image Up im)), at_front (new_image Up im) buffer)
     unfolding move_up_of
     within-limits taken room =
         let q = parts (move_limits_rule im) (eqb (length (holders im)) 0) taken in
@@ -100,16 +98,16 @@ module _ (im buffer : List ℕ) where
     few-rule l u = rw (le-leb (labels im) 800 l, le-leb (users im) 32 u)
 
     pub done-if-few : labels im ≤ 800 → users im ≤ 32 → holders im ≡ [] → 65536 ≤ length buffer
-        → move_up_of im buffer ≡ (filled.Done (length (new_image Up im)), at_front (new_image Up im) buffer)
+        → move_up_of im buffer ≡ (Ok (length (new_image Up im)), at_front (new_image Up im) buffer)
     done-if-few l u none long =
         let taken : taken_rule Up im ≡ true = both _ _ (few-rule l u) (eq-eqb (length (holders im)) 0 (ap length none)) in
         within-limits taken (room-enough taken long)
 
     pub held-if-some : labels im ≤ 800 → users im ≤ 32 → (length (holders im) ≡ 0 → ⊥)
-        → move_up_of im buffer ≡ (filled.Refused (CompaccessHolders (length (holders im))), buffer)
+        → move_up_of im buffer ≡ (Err (CompaccessHolders (length (holders im))), buffer)
     held-if-some l u some = holders-refused (few-rule l u) some
 
-    pub limited-if-many : (800 < labels im) ⊎ (32 < users im) → move_up_of im buffer ≡ (filled.Refused MoveLimits, buffer)
+    pub limited-if-many : (800 < labels im) ⊎ (32 < users im) → move_up_of im buffer ≡ (Err MoveLimits, buffer)
     unfolding move_limits_rule
     limited-if-many many = over-limits (at many)
       where
@@ -119,7 +117,7 @@ module _ (im buffer : List ℕ) where
 
     -- ---- the list of holders
     pub list_done : length (holders im) ≤ length buffer
-        → compaccess_users_of im buffer ≡ (filled.Done (length (holders im)), at_front (holders im) buffer)
+        → compaccess_users_of im buffer ≡ (Ok (length (holders im)), at_front (holders im) buffer)
     unfolding compaccess_users_of
     list_done room = rw (accepted-old im acc one, le-leb (length (holders im)) (length buffer) room)
 
@@ -129,7 +127,7 @@ module _ (im buffer : List ℕ) where
     cleared-long = moved_length Clear im (accepted-counted im acc).fitted one ∙ sym ((accepted-counted im acc).fitted ∙ rw one)
 
     pub clear-done : length im ≤ length buffer
-        → clear_compaccess_of im buffer ≡ (filled.Done (length im), at_front (new_image Clear im) buffer)
+        → clear_compaccess_of im buffer ≡ (Ok (length im), at_front (new_image Clear im) buffer)
     unfolding clear_compaccess_of
     clear-done room =
         let fits : length (new_image Clear im) ≤ length buffer = rw cleared-long room in
@@ -189,7 +187,7 @@ sample-few : (edition_of cooperative ≡ One) × (taken_rule Up cooperative ≡ 
 sample-few = (sample-counts.0, both _ _ sample-counts.1.0 (eq-eqb (length (holders cooperative)) 0 (ap length sample-nobody)))
 
 pub sample-moved : move_up_of cooperative (replicate 65536 0)
-    ≡ (filled.Done (length (new_image Up cooperative)), at_front (new_image Up cooperative) (replicate 65536 0))
+    ≡ (Ok (length (new_image Up cooperative)), at_front (new_image Up cooperative) (replicate 65536 0))
 sample-moved =
     within-limits cooperative (replicate 65536 0) sample-accepted sample-few.0 sample-few.1
     (room-enough cooperative (replicate 65536 0) sample-accepted sample-few.0 sample-few.1 (omega (arith, length-replicate {A = ℕ} 65536 0)))
@@ -198,11 +196,11 @@ sample-kept : KeptByMove cooperative (new_image Up cooperative)
 sample-kept = kept-by-move cooperative (accepted-old cooperative sample-accepted sample-few.0) sample-few.1
 
 -- what `unknown-denied` asks of an image and a session is met
-pub mara-in-edition-two : (edition_of (new_image Up cooperative) ≡ Two) × (lent_answer (new_image Up cooperative) mara ≡ Accepted)
+pub mara-in-edition-two : (edition_of (new_image Up cooperative) ≡ Two) × (lent_answer (new_image Up cooperative) mara ≡ Ok tt)
 mara-in-edition-two = (sample-kept.edition, sample-kept.sessions mara ∙ mara-passes)
 
 -- ---- the sample, cleared: the call is done
 pub sample-cleared : clear_compaccess_of cooperative (replicate 65536 0)
-    ≡ (filled.Done (length cooperative), at_front (new_image Clear cooperative) (replicate 65536 0))
+    ≡ (Ok (length cooperative), at_front (new_image Clear cooperative) (replicate 65536 0))
 sample-cleared =
     clear-done cooperative (replicate 65536 0) sample-accepted sample-few.0 (omega (arith, sample-length, length-replicate {A = ℕ} 65536 0))

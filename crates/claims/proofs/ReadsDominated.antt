@@ -1,4 +1,5 @@
 -- A session with no privileges reads a known row exactly if its label dominates the row's. Assumes nothing.
+use Rattle.std.proofs.Common.{Ok}
 use Prim.Native.Nat.{ℕ, ◌<◌}
 use mathlib.Core.Path.{◌≡◌, refl}
 use mathlib.Core.Bool.{Bool, true, false, ◌&&◌, ◌||◌}
@@ -7,7 +8,6 @@ use borrow.Author.Tests.{ltb-true}
 use lib.Dec.{leb}
 use Rattle.sets.specs.Sets.{within}
 use Rattle.hierarchy.specs.Below.{below, reach}
-use Rattle.refusals.specs.declared.answers.Checked.TheVariants.{Accepted}
 use Rattle.header.specs.Layout.{labels, profile_of}
 use Rattle.image.specs.Lookup.{label_of_tag}
 use Rattle.labels.specs.Label.{Marks, label_at}
@@ -47,7 +47,7 @@ unfolding known_tag
 known-here im tag e = ltb-true (label_of_tag im tag) (labels im) e
 
 -- of the verdict that a call answers
-pub reads-dominated : (im : List ℕ) (s : SessionMarks) (tag : ℕ) → lent_answer im s ≡ Accepted → NoPrivileges im s.user → known_tag im tag ≡ true
+pub reads-dominated : (im : List ℕ) (s : SessionMarks) (tag : ℕ) → lent_answer im s ≡ (Ok tt) → NoPrivileges im s.user → known_tag im tag ≡ true
     → may_read_of im s tag ≡ dominates_of im s.label (label_at im (label_of_tag im tag))
 unfolding may_read_of dominates_of may_read
 reads-dominated im s tag lent none known =

@@ -1,8 +1,7 @@
 -- Demand 3 of the C functions, whose sessions stand in 104 bytes. The calls are those of isolation's Calls.antt, each made of what the C
 -- function of its name answers (specs of abi); the claim is that of Claim.antt, in numbers and bytes.
-use Rattle.std.specs.Prelude.{ℕ, ◌*◌, ◌^◌, ◌≡◌, Bool, true, cond, ◌&&◌, List, [], ◌∷◌, map, eqb, ltb, length, take, replicate}
+use Rattle.std.specs.Prelude.{ℕ, ◌*◌, ◌^◌, ◌≡◌, Bool, true, cond, ◌&&◌, List, [], ◌∷◌, map, eqb, ltb, length, take, replicate, Ok}
 use Rattle.fields.specs.Bytes.{byte_at}
-use Rattle.refusals.specs.declared.answers.Checked.TheVariants.{Accepted}
 use Rattle.rows.specs.Table.{table_shape}
 use Rattle.abi.specs.Sessions.{open_answer, set_label_answer, set_row_label_answer}
 use Rattle.abi.specs.Tables.{read_answer, update_answer}
@@ -115,8 +114,8 @@ CAlike calls1 calls2 = map c_buffer_zeroed calls1 ≡ map c_buffer_zeroed calls2
 -- the premises of isolation's Claim.antt, in bytes
 pub record CPremises (im : List ℕ) (u : ℕ) (table1 table2 : List ℕ) (width : ℕ) (bytes : List ℕ) (calls1 calls2 : List CCall) : Type 0 where
   -- 12 refuses neither table with the row width
-  pub table1-accepted : table_shape table1 width ≡ Accepted
-  pub table2-accepted : table_shape table2 width ≡ Accepted
+  pub table1-accepted : table_shape table1 width ≡ Ok tt
+  pub table2-accepted : table_shape table2 width ≡ Ok tt
   pub lists-equal : list_at_maximum im u table1 width ≡ list_at_maximum im u table2 width
   pub calls-own : c_own_calls im u (c_started table1 bytes) width calls1 ≡ true
   pub calls-alike : CAlike calls1 calls2

@@ -1,21 +1,16 @@
 -- Two labels: dominance under a policy, and merging. Merging takes no image: levels, compartments and groups are merged as they are listed.
-use Rattle.std.specs.Prelude.{ℕ, min, max, Bool, cond, not, ◌&&◌, ◌||◌, List, eqb, leb, length}
+use Rattle.std.specs.Prelude.{ℕ, min, max, Bool, cond, not, ◌&&◌, ◌||◌, List, eqb, leb, length, Result, Ok, Err}
 use Rattle.fields.specs.Bytes.{byte_at}
 use Rattle.refusals.specs.declared.Refusal.{Refusal}
 use Rattle.refusals.specs.declared.Refusal.TheVariants.{MergeLetters, NoComponent}
-use Rattle.refusals.specs.declared.answers.Checked.{Checked}
-use Rattle.refusals.specs.declared.answers.Checked.TheVariants.{Accepted, Refused}
-use Rattle.refusals.specs.declared.answers.Verdict.{Verdict}
-use Rattle.refusals.specs.declared.answers.Verdict.TheVariants as verdict
-use Rattle.refusals.specs.Answers.{on_checked, or_refuse, verdict_of}
+use Rattle.refusals.specs.Answers.{on_checked, or_refuse, Checked, Verdict}
 use Rattle.sets.specs.Sets.{none, union, intersection, difference, within}
 use Rattle.header.specs.Layout.{profile_of}
 use Rattle.hierarchy.specs.Below.{reach}
 use Rattle.image.specs.Check.{check_of}
+use Rattle.labels.specs.declared.label.Label.{Label}
 use Rattle.labels.specs.Label.{Marks, marks_of, label_exists}
 use Rattle.labels.specs.GroupTest.{group_test}
-use Rattle.dominance.specs.declared.merging.Merged.{Merged}
-use Rattle.dominance.specs.declared.merging.Merged.TheVariants as merged
 
 -- ---- dominance
 -- label 1's level is at least as high
@@ -45,13 +40,13 @@ strictly_dominates im a b = dominates im a b && not (same_label a b)
 -- ---- the answers of `dominates` and `strictly_dominates`
 -- 1, 2, 31 to 35; then 18 where either label names a component that the policy lacks
 unfoldable pub compared_answer : List ℕ → Marks → Marks → Checked
-compared_answer im a b = on_checked (check_of im) Refused (or_refuse (label_exists im a && label_exists im b) NoComponent Accepted)
+compared_answer im a b = on_checked (check_of im) Err (or_refuse (label_exists im a && label_exists im b) NoComponent (Ok tt))
 
 unfoldable pub dominates_of : List ℕ → Marks → Marks → Verdict
-dominates_of im a b = on_checked (compared_answer im a b) verdict.Refused (verdict_of (dominates im a b))
+dominates_of im a b = on_checked (compared_answer im a b) Err (Ok (dominates im a b))
 
 unfoldable pub strictly_dominates_of : List ℕ → Marks → Marks → Verdict
-strictly_dominates_of im a b = on_checked (compared_answer im a b) verdict.Refused (verdict_of (strictly_dominates im a b))
+strictly_dominates_of im a b = on_checked (compared_answer im a b) Err (Ok (strictly_dominates im a b))
 
 -- ---- merging
 -- the letters H and L; U, I, M and N
@@ -89,9 +84,8 @@ merge_sets letter a b =
     cond (eqb letter letter_u) (union a b) (cond (eqb letter letter_i) (intersection a b) (cond (eqb letter letter_m) (difference a b) none))
 
 -- ---- the answer of `merge`
-pub data Merging : Type 0 where
-  label : Marks → Merging
-  refused : Refusal → Merging
+abbrev pub Merging : Type 0
+Merging = Result Marks Refusal
 
 -- exactly three letters, each of those allowed at its place
 unfoldable pub letters_rule : List ℕ → Bool
@@ -109,9 +103,9 @@ merged_label a b letters =
 
 -- the only refusal is 17
 unfoldable pub merge_of : Marks → Marks → List ℕ → Merging
-merge_of a b letters = cond (letters_rule letters) (label (merged_label a b letters)) (refused MergeLetters)
+merge_of a b letters = cond (letters_rule letters) (Ok (merged_label a b letters)) (Err MergeLetters)
 
 -- what an answer of the code stands for
-abbrev pub merging_of : Merged → Merging
-merging_of (merged.Done l) = label (marks_of l)
-merging_of (merged.Refused r) = refused r
+abbrev pub merging_of : Result Label Refusal → Merging
+merging_of (Ok l) = Ok (marks_of l)
+merging_of (Err r) = Err r

@@ -10,25 +10,23 @@ use hierarchy::table;
 use labels::group_test;
 use labels::label::{Label, label_exists};
 use refusals::Refusal;
-use refusals::answers::Checked;
 use sets::word;
 
 // May the labels be compared? Refusals: 1, 2, 31 to 35, 18.
-pub fn compared(image: &[u8], label1: Label, label2: Label) -> Checked
+#[tactic(auto, unfolding(crate::specs::TwoLabels::compared_answer))]
+pub fn compared(image: &[u8], label1: Label, label2: Label) -> Result<(), Refusal>
     ensures { result ≡ compared_answer image.now (marks_of label1) (marks_of label2) }
 {
-    let answer = image::check(image);
-    let Checked::Accepted = answer else {
-        return answer;
-    };
+    image::check(image)?;
     if label_exists(image, label1) & label_exists(image, label2) {
-        Checked::Accepted
+        Ok(())
     } else {
-        Checked::Refused(Refusal::NoComponent)
+        Err(Refusal::NoComponent)
     }
 }
 
 // Has label 2 no groups, or does one of them lie below label 1's? In the release profile: are all of label 1's among label 2's?
+#[tactic(auto, unfolding(crate::specs::TwoLabels::dominates_groups))]
 fn groups_reached(image: &[u8], label1: Label, label2: Label) -> bool
     requires { IsAccepted image.now }
     ensures { result ≡ dominates_groups image.now (marks_of label1) (marks_of label2) }
@@ -40,6 +38,7 @@ fn groups_reached(image: &[u8], label1: Label, label2: Label) -> bool
 }
 
 // Does label 1 dominate label 2?
+#[tactic(auto, unfolding(crate::specs::TwoLabels::dominates, crate::specs::TwoLabels::dominates_level, crate::specs::TwoLabels::dominates_compartments))]
 pub fn is_above(image: &[u8], label1: Label, label2: Label) -> bool
     requires { IsAccepted image.now }
     ensures { result ≡ dominates image.now (marks_of label1) (marks_of label2) }
@@ -49,6 +48,7 @@ pub fn is_above(image: &[u8], label1: Label, label2: Label) -> bool
         & groups_reached(image, label1, label2)
 }
 
+#[tactic(auto, unfolding(crate::specs::TwoLabels::same_label))]
 pub fn same_label(label1: Label, label2: Label) -> bool
     ensures { result ≡ same_label (marks_of label1) (marks_of label2) }
 {
@@ -60,6 +60,7 @@ pub fn same_label(label1: Label, label2: Label) -> bool
 }
 
 // And do the labels differ?
+#[tactic(auto, unfolding(crate::specs::TwoLabels::strictly_dominates))]
 pub fn is_strictly_above(image: &[u8], label1: Label, label2: Label) -> bool
     requires { IsAccepted image.now }
     ensures { result ≡ strictly_dominates image.now (marks_of label1) (marks_of label2) }

@@ -1,10 +1,11 @@
 -- A session in 104 bytes: byte 0 the user's place, byte 1 the signed-on user's place, which equals it; 2..7 are written as zero and
 -- not looked at; 8..55 session label; 56..103 row label.
-use Rattle.std.specs.Prelude.{ℕ, ◌^◌, ◌<◌, ◌≡◌, Bool, true, List, ◌∷◌, ◌++◌, eqb}
+use Rattle.std.specs.Prelude.{ℕ, ◌^◌, ◌<◌, ◌≡◌, Bool, true, List, ◌∷◌, ◌++◌, eqb, Result, Ok, Err}
 use Rattle.fields.specs.Bytes.{byte_at, part}
-use Rattle.refusals.specs.declared.answers.Checked.{Checked}
-use Rattle.refusals.specs.Answers.{on_checked, checked_given, code_of}
-use Rattle.sessions.specs.Session.{SessionMarks, session_marks}
+use Rattle.refusals.specs.declared.Refusal.{Refusal}
+use Rattle.refusals.specs.Answers.{on_checked, Given, done, refusal_given, checked_given, code_of, answer_of, Checked}
+use Rattle.sessions.specs.declared.session.Session.{Session}
+use Rattle.sessions.specs.Session.{SessionMarks, session_marks, session_of}
 use Rattle.encoding.specs.Labels.{label_bytes, label_in, LabelFits}
 
 unfoldable pub session_bytes : SessionMarks → List ℕ
@@ -32,3 +33,12 @@ pub record Holds (bytes : List ℕ) (s : SessionMarks) : Type 0 where
 -- what a label change leaves: 0 and the session, or the refusal and the bytes as they were
 abbrev pub changed_into : SessionMarks → Checked → List ℕ → ℕ × List ℕ
 changed_into s answer old = (code_of (checked_given answer), on_checked answer (λ r. old) (session_bytes s))
+
+-- the same of an answer of the code: what is given back, and what it leaves of the bytes
+abbrev pub changed_given : Result Session Refusal → Given
+changed_given (Ok new) = done 0
+changed_given (Err r) = refusal_given r
+
+abbrev pub stored : Result Session Refusal → List ℕ → ℕ × List ℕ
+stored (Ok new) old = (0, session_bytes (session_of new))
+stored (Err r) old = (answer_of r, old)

@@ -1,10 +1,9 @@
 // The numbers that tell a refusal, an answer and a verdict.
 ghost use Rattle.std.specs.Prelude.{◌+◌, ◌*◌, ◌^◌, ◌<◌, ◌≡◌};
-ghost use Rattle.refusals.specs.Answers.{PlaceFits, refusal_given, checked_given, verdict_given, code_of, answer_of};
+ghost use Rattle.refusals.specs.Answers.{PlaceFits, refusal_given, checked_given, amount_given, verdict_given, code_of, answer_of};
 ghost use Rattle.encoding.specs.Verdicts.{verdict_code};
 
 use refusals::Refusal;
-use refusals::answers::{Checked, Verdict};
 
 // 2^63 + number × 2^32 + place.
 pub fn told(number: u8, place: usize) -> u64
@@ -23,24 +22,34 @@ pub fn refused(r: Refusal) -> u64
 }
 
 // 0 done.
-pub fn checked_code(answer: Checked) -> u64
+pub fn checked_code(answer: Result<(), Refusal>) -> u64
     requires { PlaceFits (checked_given answer) }
     ensures { result ≡ code_of (checked_given answer) }
 {
     match answer {
-        Checked::Accepted => 0,
-        Checked::Refused(r) => refused(r),
+        Ok(()) => 0,
+        Err(refusal) => refused(refusal),
+    }
+}
+
+// How many: bytes that are written, or rows.
+pub fn amount_code(answer: Result<usize, Refusal>) -> u64
+    requires { PlaceFits (amount_given answer) }
+    ensures { result ≡ code_of (amount_given answer) }
+{
+    match answer {
+        Ok(n) => n as u64,
+        Err(r) => refused(r),
     }
 }
 
 // 1 yes, 0 no.
-pub fn verdict_code(verdict: Verdict) -> u64
+pub fn verdict_code(verdict: Result<bool, Refusal>) -> u64
     requires { PlaceFits (verdict_given verdict) }
     ensures { result ≡ verdict_code verdict }
 {
     match verdict {
-        Verdict::Yes => 1,
-        Verdict::No => 0,
-        Verdict::Refused(r) => refused(r),
+        Ok(granted) => u64::from(granted),
+        Err(r) => refused(r),
     }
 }

@@ -1,13 +1,12 @@
 // A session in 104 bytes.
 ghost use Rattle.std.specs.Prelude.{◌≡◌, length};
-ghost use Rattle.refusals.specs.Answers.{PlaceFits, checked_given};
+ghost use Rattle.refusals.specs.Answers.{PlaceFits};
 ghost use Rattle.sessions.specs.Session.{session_of};
-ghost use Rattle.encoding.specs.Sessions.{session_bytes, session_in, one_user, changed_into};
+ghost use Rattle.encoding.specs.Sessions.{session_bytes, session_in, one_user, changed_given, stored};
 
 use crate::answers::refused;
 use crate::bytes48::{label_bytes, label_in};
-use refusals::answers::Checked;
-use sessions::answers::Changed;
+use refusals::Refusal;
 use sessions::session::Session;
 
 // Each byte of the session; the unused ones are zero. They read back as the session.
@@ -45,17 +44,15 @@ pub fn session_in(bytes: &[u8]) -> Session
 }
 
 // Lays a changed session down; a refusal leaves the bytes as they were.
-pub fn store(session: &mut [u8; 104], change: Changed) -> u64
-    requires { PlaceFits (checked_given change.answer) }
-    ensures { (result, session.new) ≡ changed_into (session_of change.session) change.answer session.old }
+pub fn store(session: &mut [u8; 104], changed: Result<Session, Refusal>) -> u64
+    requires { PlaceFits (changed_given changed) }
+    ensures { (result, session.new) ≡ stored changed session.old }
 {
-    let answer = change.answer;
-    let changed = change.session;
-    match answer {
-        Checked::Accepted => {
-            *session = session_bytes(changed);
+    match changed {
+        Ok(new) => {
+            *session = session_bytes(new);
             0
         }
-        Checked::Refused(r) => refused(r),
+        Err(r) => refused(r),
     }
 }

@@ -1,7 +1,9 @@
 -- An image is accepted exactly if it keeps every rule: acceptance gives each rule back. Assumes nothing.
+use Rattle.std.proofs.Common.{Ok, Err}
+use Rattle.refusals.specs.Answers.{Checked}
 use Prim.Native.Nat.{ℕ, zero-le, ◌+◌, ◌-◌, ◌≤◌, ◌<◌}
-use mathlib.Core.Path.{◌≡◌, refl, sym, ap, ◌∙◌, subst}
-use mathlib.Core.Bool.{Bool, true, false, cond, ◌&&◌, false≢true}
+use mathlib.Core.Path.{◌≡◌, refl, sym, ◌∙◌, subst}
+use mathlib.Core.Bool.{Bool, true, false, cond, ◌&&◌}
 use mathlib.Core.List.{List}
 use native.Mathlib.Nat.{sub-zero}
 use native.Mathlib.Omega.{arith}
@@ -21,48 +23,25 @@ use Rattle.hierarchy.specs.Forest.{first_ring_in}
 use Rattle.hierarchy.specs.Below.{ends_rule, group_sets_rule, first_ring, first_bad_below, AllEnd}
 use Rattle.hierarchy.proofs.OfImage.{first-bad-users}
 use Rattle.image.specs.declared.faults.Fault.{Fault}
-use Rattle.image.specs.declared.faults.Fault.TheVariants.{Sound, Length, Block, Layout, Component, Label, User, Ring, Below}
-use Rattle.refusals.specs.declared.answers.Checked.{Checked}
-use Rattle.refusals.specs.declared.answers.Checked.TheVariants.{Accepted, Refused}
-use Rattle.image.specs.Faults.{shown_as, below_fault}
+use Rattle.image.specs.declared.faults.Fault.TheVariants.{Length, Block, Layout, Ring}
+use Rattle.image.specs.Faults.{Inspection, no_fault, fault_where, below_fault}
 use Rattle.image.specs.Check.{fault_of, check_of, IsAccepted}
 use Rattle.image.specs.Walk.{first_bad_content, counted_fault, found_fault}
-use Rattle.image.proofs.Lowest.{is_sound, content-faulty}
+use Rattle.image.proofs.Tables.{shown-sound}
 use Rattle.image.proofs.Told.{found-lowest}
 
 -- ---- telling sound from faulty
-abbrev is_accepted : Checked → Bool
-is_accepted Accepted = true
-is_accepted (Refused r) = false
-
-faulty : (f : Fault) → is_sound f ≡ false → f ≡ Sound → ⊥
-faulty f e s = false≢true (sym e ∙ ap is_sound s)
-
-refused : (c : Checked) → is_accepted c ≡ false → c ≡ Accepted → ⊥
-refused c e s = false≢true (sym e ∙ ap is_accepted s)
-
-pub refused-not : (r : Refusal) → Refused r ≡ Accepted → ⊥
-refused-not r e = refused (Refused r) refl e
-
-shown-sound : (f : Fault) → shown_as f ≡ Accepted → f ≡ Sound
-shown-sound Sound e = refl
-shown-sound Length e = absurd (refused _ refl e)
-shown-sound (Block b) e = absurd (refused _ refl e)
-shown-sound (Layout b) e = absurd (refused _ refl e)
-shown-sound (Component b r) e = absurd (refused _ refl e)
-shown-sound (Label b r) e = absurd (refused _ refl e)
-shown-sound (User b r) e = absurd (refused _ refl e)
-shown-sound (Ring g) e = absurd (refused _ refl e)
-shown-sound (Below b r) e = absurd (refused _ refl e)
+pub refused-not : (r : Refusal) → ◌≡◌ {A = Checked} (Err r) (Ok tt) → ⊥
+refused-not r e = cc
 
 -- a choice that is sound has taken the branch that can be
-took-first : (t : Bool) (x y : Fault) → is_sound y ≡ false → cond t x y ≡ Sound → (t ≡ true) × (x ≡ Sound)
-took-first true x y n e = (refl, e)
-took-first false x y n e = absurd (faulty y n e)
+took-first : (t : Bool) (x : Inspection) (f : Fault) → cond t x (Err f) ≡ Ok tt → (t ≡ true) × (x ≡ no_fault)
+took-first true x f e = (refl, e)
+took-first false x f e = absurd cc
 
-took-second : (t : Bool) (x y : Fault) → is_sound x ≡ false → cond t x y ≡ Sound → (t ≡ false) × (y ≡ Sound)
-took-second true x y n e = absurd (faulty x n e)
-took-second false x y n e = (refl, e)
+took-second : (t : Bool) (f : Fault) (y : Inspection) → fault_where t f y ≡ Ok tt → (t ≡ false) × (y ≡ no_fault)
+took-second true f y e = absurd cc
+took-second false f y e = (refl, e)
 
 -- ---- the rules, one by one
 pub record Keeps (im : List ℕ) : Type 0 where
@@ -75,33 +54,34 @@ pub record Keeps (im : List ℕ) : Type 0 where
   pub below : (u : ℕ) → u < users im → group_sets_rule im u ≡ true
 
 module _ (im : List ℕ) (acc : IsAccepted im) where
-  sound : found_fault im ≡ Sound
+  sound : found_fault im ≡ Ok tt
   unfolding check_of fault_of
   sound = sym (found-lowest im) ∙ shown-sound (fault_of im) acc
 
   outer : (length_rule im ≡ true)
-      × (cond (ltb (first_bad_block im) (block_count im)) (Block (first_bad_block im)) (cond (header_rule im && fit_rule im) (counted_fault im) (Layout 0)) ≡ Sound)
+      × (fault_where (ltb (first_bad_block im) (block_count im)) (Block (first_bad_block im))
+      (cond (header_rule im && fit_rule im) (counted_fault im) (Err (Layout 0))) ≡ no_fault)
   unfolding found_fault
-  outer = took-first _ _ Length refl sound
+  outer = took-first _ _ Length sound
 
-  framed : (ltb (first_bad_block im) (block_count im) ≡ false) × (cond (header_rule im && fit_rule im) (counted_fault im) (Layout 0) ≡ Sound)
-  framed = took-second _ _ _ refl outer.1
+  framed : (ltb (first_bad_block im) (block_count im) ≡ false) × (cond (header_rule im && fit_rule im) (counted_fault im) (Err (Layout 0)) ≡ no_fault)
+  framed = took-second _ _ _ outer.1
 
-  headed : ((header_rule im && fit_rule im) ≡ true) × (counted_fault im ≡ Sound)
-  headed = took-first _ _ (Layout 0) refl framed.1
+  headed : ((header_rule im && fit_rule im) ≡ true) × (counted_fault im ≡ no_fault)
+  headed = took-first _ _ (Layout 0) framed.1
 
   filled : (ltb (first_bad_content im) (blocks_needed im) ≡ false)
-      × (cond (ltb (first_ring im) (groups im)) (Ring (first_ring im))
-      (cond (ltb (first_bad_below im) (users im)) (below_fault im (first_bad_below im)) Sound) ≡ Sound)
+      × (fault_where (ltb (first_ring im) (groups im)) (Ring (first_ring im))
+      (fault_where (ltb (first_bad_below im) (users im)) (below_fault im (first_bad_below im)) no_fault) ≡ no_fault)
   unfolding counted_fault
-  filled = took-second _ _ _ (content-faulty im (first_bad_content im)) headed.1
+  filled = took-second _ _ _ headed.1
 
   ringless : (ltb (first_ring im) (groups im) ≡ false)
-      × (cond (ltb (first_bad_below im) (users im)) (below_fault im (first_bad_below im)) Sound ≡ Sound)
-  ringless = took-second _ _ _ refl filled.1
+      × (fault_where (ltb (first_bad_below im) (users im)) (below_fault im (first_bad_below im)) no_fault ≡ no_fault)
+  ringless = took-second _ _ _ filled.1
 
   lowered : ltb (first_bad_below im) (users im) ≡ false
-  lowered = (took-second _ _ _ refl ringless.1).0
+  lowered = (took-second _ _ _ ringless.1).0
 
   -- a search that found nothing bad below n has passed every place from k up to n
   passed : (rule : ℕ → Bool) (k n first : ℕ) → first ≡ first_bad rule (n - k) k → ltb first n ≡ false

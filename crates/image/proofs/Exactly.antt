@@ -1,4 +1,5 @@
 -- 31 to 35 are given exactly when request R-2 says, 1 and 2 aside. Assumes nothing.
+use Rattle.std.proofs.Common.{Ok, Err}
 use Prim.Native.Nat.{ℕ, zero-le, ◌+◌, ◌-◌, ◌≤◌, ◌<◌}
 use mathlib.Core.Path.{◌≡◌, refl, sym, ◌∙◌, ap, subst}
 use mathlib.Core.Bool.{Bool, true, false, cond, ◌&&◌, true≢false}
@@ -22,25 +23,23 @@ use Rattle.hierarchy.specs.Forest.{first_ring_in}
 use Rattle.hierarchy.specs.Below.{ends_rule, group_sets_rule, first_bad_below}
 use Rattle.hierarchy.proofs.OfImage.{first-bad-users}
 use Rattle.refusals.specs.declared.Refusal.TheVariants.{ImageLayout, ParentRing}
-use Rattle.refusals.specs.declared.answers.Checked.TheVariants.{Refused}
-use Rattle.image.specs.declared.faults.Fault.{Fault}
-use Rattle.image.specs.declared.faults.Fault.TheVariants.{Sound, Layout, Ring}
-use Rattle.image.specs.Faults.{shown_as, record_fault, below_fault}
+use Rattle.image.specs.declared.faults.Fault.TheVariants.{Layout, Ring}
+use Rattle.image.specs.Faults.{Inspection, no_fault, fault_where, shown_as, record_fault, below_fault}
 use Rattle.image.specs.Check.{fault_of, check_of}
 use Rattle.image.specs.Exactly.{Framed, HeaderAtFault, SoundBefore, LayoutAtFault, RecordAtFault, RingAtFault, BelowAtFault, RecordTold, record_refusal}
 use Rattle.image.specs.Walk.{first_bad_content, content_fault, counted_fault, found_fault}
-use Rattle.image.proofs.Telling.{number_told, values_told, one_number, one-record, record-line, number-among, same_kind, same_block, same-slot}
+use Rattle.image.proofs.Telling.{values_told, one_number, one-record, record-line, number-among, same_kind, same_block, same-slot}
 use Rattle.image.proofs.InBlocks.{slot_rule, bad_slot, bad-counted}
 use Rattle.image.proofs.Told.{found-lowest}
 
--- ---- what each fault says of the image
-data Meant (im : List ℕ) (f : Fault) : Type 0 where
-  header : f ≡ Layout 0 → HeaderAtFault im → Meant im f
-  layout : (b : ℕ) → f ≡ Layout b → LayoutAtFault im b → Meant im f
-  rec : (k : Kind) (b r : ℕ) → f ≡ record_fault k b r → RecordAtFault im k b r → Meant im f
-  ring : (g : ℕ) → f ≡ Ring g → RingAtFault im g → Meant im f
-  below : (u : ℕ) → f ≡ below_fault im u → BelowAtFault im u → Meant im f
-  nothing : f ≡ Sound → Meant im f
+-- ---- what each finding says of the image
+data Meant (im : List ℕ) (f : Inspection) : Type 0 where
+  header : f ≡ Err (Layout 0) → HeaderAtFault im → Meant im f
+  layout : (b : ℕ) → f ≡ Err (Layout b) → LayoutAtFault im b → Meant im f
+  rec : (k : Kind) (b r : ℕ) → f ≡ Err (record_fault k b r) → RecordAtFault im k b r → Meant im f
+  ring : (g : ℕ) → f ≡ Err (Ring g) → RingAtFault im g → Meant im f
+  below : (u : ℕ) → f ≡ Err (below_fault im u) → BelowAtFault im u → Meant im f
+  nothing : f ≡ Ok tt → Meant im f
 
 module _ (im : List ℕ) (framed : Framed im) where
   no_block : ltb (first_bad_block im) (block_count im) ≡ false
@@ -51,7 +50,7 @@ module _ (im : List ℕ) (framed : Framed im) where
       le-ltb (first_bad (block_rule im) (block_count im) 0) (block_count im) (omega arith)
 
   -- the walk once length, checks and places are right
-  framed-fault : fault_of im ≡ cond (header_rule im && fit_rule im) (counted_fault im) (Layout 0)
+  framed-fault : fault_of im ≡ cond (header_rule im && fit_rule im) (counted_fault im) (Err (Layout 0))
   unfolding fault_of found_fault
   framed-fault = found-lowest im ∙ rw (framed.length, no_block)
 
@@ -87,12 +86,12 @@ module _ (im : List ℕ) (sound : (header_rule im && fit_rule im) ≡ true) wher
           fault = bad-at (slot_rule im b) n 0 (omega (arith, there));
         })
 
-    content-meant : Meant im (content_fault im b)
+    content-meant : Meant im (Err (content_fault im b))
     unfolding content_fault content_rule
     content-meant = at (layout_rule im b) refl (eqb (first_bad_record im b) (contents_of im b).to) refl fault
       where
         at : (t : Bool) → layout_rule im b ≡ t → (s : Bool) → eqb (first_bad_record im b) (contents_of im b).to ≡ s → (t && s) ≡ false
-            → Meant im (cond t (record_fault (contents_of im b).kind b (first_bad_record im b - (contents_of im b).from)) (Layout b))
+            → Meant im (Err (cond t (record_fault (contents_of im b).kind b (first_bad_record im b - (contents_of im b).from)) (Layout b)))
         at true e true d f = absurd (true≢false f)
         at true e false d f = rec _ _ _ refl (record-meant e d)
         at false e s d f = layout b refl (record { after = low; inside = high; lower = before; fault = e })
@@ -124,7 +123,7 @@ module _ (im : List ℕ) (sound : (header_rule im && fit_rule im) ≡ true) wher
           }
 
       at : (s : Bool) → ltb b (blocks_needed im) ≡ s → (t : Bool) → ltb g (groups im) ≡ t → (v : Bool) → ltb u (users im) ≡ v
-          → Meant im (cond s (content_fault im b) (cond t (Ring g) (cond v (below_fault im u) Sound)))
+          → Meant im (fault_where s (content_fault im b) (fault_where t (Ring g) (fault_where v (below_fault im u) no_fault)))
       at true e t d v f =
           content-meant b (bad-from (content_rule im) (blocks_needed im - 1) 1) (ltb-true b (blocks_needed im) e)
           (good-before (content_rule im) (blocks_needed im - 1) 1)
@@ -159,20 +158,20 @@ first-none rule n k h good =
     le-ltb (first_bad rule (n - k) k) n (omega arith)
 
 module _ (im : List ℕ) (framed : Framed im) where
-  header-told : HeaderAtFault im → fault_of im ≡ Layout 0
+  header-told : HeaderAtFault im → fault_of im ≡ Err (Layout 0)
   header-told h = framed-fault im framed ∙ rw h
 
-  content-told : (b : ℕ) → 1 ≤ b → b < blocks_needed im → SoundBefore im b → content_rule im b ≡ false → fault_of im ≡ content_fault im b
+  content-told : (b : ℕ) → 1 ≤ b → b < blocks_needed im → SoundBefore im b → content_rule im b ≡ false → fault_of im ≡ Err (content_fault im b)
   unfolding counted_fault first_bad_content
   content-told b low high lower fault =
       let e : first_bad (content_rule im) (blocks_needed im - 1) 1 ≡ b = first-is (content_rule im) (blocks_needed im) 1 b low high lower.contents fault in
       framed-fault im framed ∙ rw (lower.header, e, lt-ltb b (blocks_needed im) high)
 
-  layout-told : (b : ℕ) → LayoutAtFault im b → fault_of im ≡ Layout b
+  layout-told : (b : ℕ) → LayoutAtFault im b → fault_of im ≡ Err (Layout b)
   unfolding content_rule content_fault
   layout-told b k = content-told b k.after k.inside k.lower (rw k.fault) ∙ rw k.fault
 
-  record-told : (kind : Kind) (b r : ℕ) → RecordAtFault im kind b r → fault_of im ≡ record_fault kind b r
+  record-told : (kind : Kind) (b r : ℕ) → RecordAtFault im kind b r → fault_of im ≡ Err (record_fault kind b r)
   unfolding content_rule content_fault
   record-told kind b r k =
       let c = contents_of im b in
@@ -188,14 +187,14 @@ module _ (im : List ℕ) (framed : Framed im) where
   unfolding first_bad_content
   contents-none k = first-none (content_rule im) (blocks_needed im) 1 (some im k.header) k.contents
 
-  ring-told : (g : ℕ) → RingAtFault im g → fault_of im ≡ Ring g
+  ring-told : (g : ℕ) → RingAtFault im g → fault_of im ≡ Err (Ring g)
   unfolding counted_fault first_ring_in
   ring-told g k =
       let e : first_bad (ends_rule im) (groups im) 0 ≡ g =
       bad-is (ends_rule im) (groups im) 0 g zero-le (omega (arith, k.among)) (λ j low high. k.earlier j high) k.fault in
       framed-fault im framed ∙ rw (k.blocks.header, contents-none k.blocks, e, lt-ltb g (groups im) k.among)
 
-  below-told : (u : ℕ) → BelowAtFault im u → fault_of im ≡ below_fault im u
+  below-told : (u : ℕ) → BelowAtFault im u → fault_of im ≡ Err (below_fault im u)
   unfolding counted_fault first_ring_in
   below-told u k =
       let e : first_bad_below im ≡ u =
@@ -214,63 +213,63 @@ module _ (im : List ℕ) (framed : Framed im) where
   meant : Meant im (fault_of im)
   meant = subst (Meant im) (sym (framed-fault im framed)) (at (header_rule im && fit_rule im) refl)
     where
-      at : (t : Bool) → (header_rule im && fit_rule im) ≡ t → Meant im (cond t (counted_fault im) (Layout 0))
+      at : (t : Bool) → (header_rule im && fit_rule im) ≡ t → Meant im (cond t (counted_fault im) (Err (Layout 0)))
       at true e = counted-meant im e
       at false e = header refl e
 
-  pub layout-exactly : (check_of im ≡ Refused ImageLayout) ↔ (HeaderAtFault im ⊎ ((b : ℕ) × LayoutAtFault im b))
+  pub layout-exactly : (check_of im ≡ Err ImageLayout) ↔ (HeaderAtFault im ⊎ ((b : ℕ) × LayoutAtFault im b))
   unfolding check_of
   layout-exactly = (at meant, back)
     where
-      back : HeaderAtFault im ⊎ ((b : ℕ) × LayoutAtFault im b) → shown_as (fault_of im) ≡ Refused ImageLayout
+      back : HeaderAtFault im ⊎ ((b : ℕ) × LayoutAtFault im b) → shown_as (fault_of im) ≡ Err ImageLayout
       back (inl h) = ap shown_as (header-told h)
       back (inr (b, k)) = ap shown_as (layout-told b k)
 
-      at : Meant im (fault_of im) → shown_as (fault_of im) ≡ Refused ImageLayout → HeaderAtFault im ⊎ ((b : ℕ) × LayoutAtFault im b)
+      at : Meant im (fault_of im) → shown_as (fault_of im) ≡ Err ImageLayout → HeaderAtFault im ⊎ ((b : ℕ) × LayoutAtFault im b)
       at (header q h) e = inl h
       at (layout b q k) e = inr (b, k)
       at (rec k b r q h) e = absurd (omega (arith, one-record k b r q e, (number-among k).0))
-      at (ring g q h) e = absurd (omega (arith, one_number (Ring g) q e))
-      at (below u q h) e = absurd (omega (arith, one_number (below_fault im u) q e))
-      at (nothing q) e = absurd (omega (arith, one_number Sound q e))
+      at (ring g q h) e = absurd (omega (arith, one_number (Err (Ring g)) q e))
+      at (below u q h) e = absurd (omega (arith, one_number (Err (below_fault im u)) q e))
+      at (nothing q) e = absurd (omega (arith, one_number (Ok tt) q e))
 
-  pub record-exactly : (k : Kind) (b r : ℕ) → (check_of im ≡ Refused (record_refusal k b r)) ↔ RecordTold im k b r
+  pub record-exactly : (k : Kind) (b r : ℕ) → (check_of im ≡ Err (record_refusal k b r)) ↔ RecordTold im k b r
   unfolding check_of
   record-exactly k b r = (at meant, back)
     where
-      back : RecordTold im k b r → shown_as (fault_of im) ≡ Refused (record_refusal k b r)
+      back : RecordTold im k b r → shown_as (fault_of im) ≡ Err (record_refusal k b r)
       back (inl h) = ap shown_as (record-told k b r h) ∙ (record-line k b r).0
       back (inr (e, (u, (h, p)))) = ap shown_as (below-told u h) ∙ rw (e, p.block, p.slot)
 
-      at : Meant im (fault_of im) → shown_as (fault_of im) ≡ Refused (record_refusal k b r) → RecordTold im k b r
-      at (header q h) e = absurd (omega (arith, one_number (Layout 0) q e, (record-line k b r).1.0, (number-among k).0))
-      at (layout c q h) e = absurd (omega (arith, one_number (Layout c) q e, (record-line k b r).1.0, (number-among k).0))
+      at : Meant im (fault_of im) → shown_as (fault_of im) ≡ Err (record_refusal k b r) → RecordTold im k b r
+      at (header q h) e = absurd (omega (arith, one_number (Err (Layout 0)) q e, (record-line k b r).1.0, (number-among k).0))
+      at (layout c q h) e = absurd (omega (arith, one_number (Err (Layout c)) q e, (record-line k b r).1.0, (number-among k).0))
       at (rec j c s q h) e =
           let d = sym (record-line j c s).0 ∙ ap shown_as (sym q) ∙ e in
           inl
           (subst (λ (x : Kind). RecordAtFault im x b r) (same_kind j k c s b r d)
           (subst (λ (x : ℕ). RecordAtFault im j x r) (same_block j k c s b r d) (subst (λ (x : ℕ). RecordAtFault im j c x) (same-slot j k c s b r d) h)))
-      at (ring g q h) e = absurd (omega (arith, one_number (Ring g) q e, (record-line k b r).1.0, (number-among k).1))
+      at (ring g q h) e = absurd (omega (arith, one_number (Err (Ring g)) q e, (record-line k b r).1.0, (number-among k).1))
       at (below u q h) e =
           let c : ℕ = record_block (shape_of im kind.User) u in
           let s : ℕ = record_slot (shape_of im kind.User) u in
-          let d : Refused (record_refusal kind.User c s) ≡ Refused (record_refusal k b r) = ap shown_as (sym q) ∙ e in
+          let d : Err (record_refusal kind.User c s) ≡ Err (record_refusal k b r) = ap shown_as (sym q) ∙ e in
           inr (
             sym (same_kind kind.User k c s b r d),
             (u, (h, record { block = same_block kind.User k c s b r d; slot = same-slot kind.User k c s b r d })),
           )
-      at (nothing q) e = absurd (omega (arith, one_number Sound q e, (record-line k b r).1.0, (number-among k).0))
+      at (nothing q) e = absurd (omega (arith, one_number (Ok tt) q e, (record-line k b r).1.0, (number-among k).0))
 
-  pub ring-exactly : (g : ℕ) → (check_of im ≡ Refused (ParentRing g)) ↔ RingAtFault im g
+  pub ring-exactly : (g : ℕ) → (check_of im ≡ Err (ParentRing g)) ↔ RingAtFault im g
   unfolding check_of
   ring-exactly g = (at meant, λ k. ap shown_as (ring-told g k))
     where
-      at : Meant im (fault_of im) → shown_as (fault_of im) ≡ Refused (ParentRing g) → RingAtFault im g
-      at (header q h) e = absurd (omega (arith, one_number (Layout 0) q e))
-      at (layout b q h) e = absurd (omega (arith, one_number (Layout b) q e))
+      at : Meant im (fault_of im) → shown_as (fault_of im) ≡ Err (ParentRing g) → RingAtFault im g
+      at (header q h) e = absurd (omega (arith, one_number (Err (Layout 0)) q e))
+      at (layout b q h) e = absurd (omega (arith, one_number (Err (Layout b)) q e))
       at (rec k b r q h) e = absurd (omega (arith, one-record k b r q e, (number-among k).1))
       at (ring f q h) e =
           let d : f ∷ [] ≡ g ∷ [] = ap values_told (ap shown_as (sym q) ∙ e) in
           subst (RingAtFault im) (ap (λ (l : List ℕ). get_or l 0 0) d) h
-      at (below u q h) e = absurd (omega (arith, one_number (below_fault im u) q e))
-      at (nothing q) e = absurd (omega (arith, one_number Sound q e))
+      at (below u q h) e = absurd (omega (arith, one_number (Err (below_fault im u)) q e))
+      at (nothing q) e = absurd (omega (arith, one_number (Ok tt) q e))

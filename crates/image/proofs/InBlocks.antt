@@ -1,5 +1,6 @@
 -- The lowest fault of the blocks after the header is that of the lowest block with a fault, and there of its layout or else its lowest bad
 -- record. Assumes nothing.
+use Rattle.std.specs.Prelude.{Err}
 use Prim.Native.Nat.{ℕ, zero, suc, ◌+◌, ◌-◌, ◌≤◌, ◌<◌}
 use mathlib.Core.Path.{◌≡◌, refl, sym, ◌∙◌, ap, ap₂}
 use mathlib.Core.Bool.{Bool, true, false, cond, ◌&&◌}
@@ -18,10 +19,10 @@ use Rattle.header.specs.Layout.{blocks_needed, contents_of}
 use Rattle.header.proofs.Inside.{held-is}
 use Rattle.records.specs.Rules.{layout_rule, record_rule, first_bad_record, content_rule}
 use Rattle.image.specs.declared.faults.Fault.{Fault}
-use Rattle.image.specs.declared.faults.Fault.TheVariants.{Sound, Layout}
-use Rattle.image.specs.Faults.{key_of, key_before, lowest, faults_at, record_fault, content_faults}
+use Rattle.image.specs.declared.faults.Fault.TheVariants.{Layout}
+use Rattle.image.specs.Faults.{Inspection, no_fault, fault_where, key_of, key_before, lowest, faults_at, record_fault, content_faults}
 use Rattle.image.specs.Walk.{content_fault}
-use Rattle.image.proofs.Lowest.{or_else, All, none, all_append, all-unless, all-at, all_map, Upto, From, upto-later, from-earlier, content-faulty, not-before, not_itself, lowest-append, lowest-unless, lowest-at}
+use Rattle.image.proofs.Lowest.{or_else, All, none, all_append, all-unless, all-at, all_map, Upto, From, upto-later, from-earlier, not-before, not_itself, lowest-append, lowest-unless, lowest-at}
 
 -- ---- keys, number by number
 pub lower-number : (x y : ℕ) (xs ys : List ℕ) → x < y → key_before (x ∷ xs) (y ∷ ys) ≡ true
@@ -81,21 +82,19 @@ module _ (im : List ℕ) (b : ℕ) where
   abbrev pub bad_slot : ℕ
   bad_slot = first_bad slot_rule (c.to - c.from) 0
 
-  records-lowest : lowest records ≡ cond (ltb bad_slot (c.to - c.from)) (record_fault c.kind b bad_slot) Sound
-  unfolding name_before
+  records-lowest : lowest records ≡ fault_where (ltb bad_slot (c.to - c.from)) (record_fault c.kind b bad_slot) no_fault
   records-lowest =
       lowest-at slot_rule (record_fault c.kind b)
       (λ i j h. rw (record-key c.kind b i, record-key c.kind b j) (three-numbers 3 b i j h))
-      (λ i. rw (record-key c.kind b i) refl)
       (c.to - c.from) 0 ∙ rw zero-add
 
-  content-parts : lowest (content_faults im b) ≡ or_else (cond (layout_rule im b) Sound (Layout b)) (lowest records)
-  unfolding content_faults name_before
+  content-parts : lowest (content_faults im b) ≡ or_else (cond (layout_rule im b) no_fault (Err (Layout b))) (lowest records)
+  unfolding content_faults
   content-parts =
-      lowest-append (3 ∷ b ∷ 0 ∷ []) refl
+      lowest-append (3 ∷ b ∷ 0 ∷ [])
       (all-unless (layout_rule im b) (Layout b) (longer (3 ∷ b ∷ []) 0 []))
       (all-at slot_rule (record_fault c.kind b) (c.to - c.from) 0 (λ r h. rw (record-key c.kind b r) (at r (ltb 0 r) refl)))
-      ∙ ap (λ (f : Fault). or_else f (lowest records)) (lowest-unless (layout_rule im b) (Layout b) refl)
+      ∙ ap (λ (r : Inspection). or_else r (lowest records)) (lowest-unless (layout_rule im b) (Layout b))
     where
       at : (r : ℕ) (t : Bool) → ltb 0 r ≡ t → key_before (3 ∷ b ∷ r ∷ []) (3 ∷ b ∷ 0 ∷ []) ≡ false
       at r true e = not-before (3 ∷ b ∷ 0 ∷ []) (3 ∷ b ∷ r ∷ []) (three-numbers 3 b 0 r (ltb-true 0 r e))
@@ -110,17 +109,20 @@ module _ (im : List ℕ) (b : ℕ) where
       ap (first_bad (record_rule im c.kind) (c.to - c.from)) (sym (add-zero c.from))
       ∙ bad-shift (record_rule im c.kind) c.from (c.to - c.from) 0
 
-  content-lowest : 1 ≤ b → b < blocks_needed im → lowest (content_faults im b) ≡ cond (content_rule im b) Sound (content_fault im b)
+  content-lowest : 1 ≤ b → b < blocks_needed im → lowest (content_faults im b) ≡ cond (content_rule im b) no_fault (Err (content_fault im b))
   unfolding content_rule content_fault
   content-lowest low high =
-      content-parts ∙ ap (or_else (cond (layout_rule im b) Sound (Layout b))) records-lowest ∙ at (layout_rule im b) (ltb bad_slot (c.to - c.from)) refl
+      content-parts
+      ∙ ap (or_else (cond (layout_rule im b) no_fault (Err (Layout b)))) records-lowest
+      ∙ at (layout_rule im b) (ltb bad_slot (c.to - c.from)) refl
     where
       ordered : c.from ≤ c.to
       ordered = (held-is im b low high).ordered
 
       at : (t s : Bool) → ltb bad_slot (c.to - c.from) ≡ s
-          → or_else (cond t Sound (Layout b)) (cond s (record_fault c.kind b bad_slot) Sound)
-          ≡ cond (t && eqb (first_bad_record im b) c.to) Sound (cond t (record_fault c.kind b (first_bad_record im b - c.from)) (Layout b))
+          → or_else (cond t no_fault (Err (Layout b))) (fault_where s (record_fault c.kind b bad_slot) no_fault)
+          ≡ cond (t && eqb (first_bad_record im b) c.to) no_fault
+          (Err (cond t (record_fault c.kind b (first_bad_record im b - c.from)) (Layout b)))
       at false s e = refl
       at true true e =
           let h : bad_slot < c.to - c.from = ltb-true bad_slot (c.to - c.from) e in
@@ -149,17 +151,18 @@ module _ (im : List ℕ) where
 
   pub blocks-lowest : (n k : ℕ) → 1 ≤ k → k + n ≤ blocks_needed im
       → lowest (flatten (list_from (content_faults im) n k))
-      ≡ cond (ltb (first_bad (content_rule im) n k) (k + n)) (content_fault im (first_bad (content_rule im) n k)) Sound
-  unfolding list_from flatten lowest first_bad name_before
+      ≡ fault_where (ltb (first_bad (content_rule im) n k) (k + n)) (content_fault im (first_bad (content_rule im) n k)) no_fault
+  unfolding list_from flatten lowest first_bad
   blocks-lowest zero k low high = rw (le-ltb k (k + 0) (omega arith))
   blocks-lowest (suc n) k low high =
-      lowest-append (3 ∷ suc k ∷ []) refl (content-upto im k) (blocks_from n (suc k))
+      lowest-append (3 ∷ suc k ∷ []) (content-upto im k) (blocks_from n (suc k))
       ∙ ap₂ or_else (content-lowest im k low (omega arith)) (blocks-lowest n (suc k) (omega arith) (omega arith))
       ∙ at (content_rule im k)
     where
       at : (t : Bool)
-          → or_else (cond t Sound (content_fault im k))
-          (cond (ltb (first_bad (content_rule im) n (suc k)) (suc k + n)) (content_fault im (first_bad (content_rule im) n (suc k))) Sound)
-          ≡ cond (ltb (cond t (first_bad (content_rule im) n (suc k)) k) (k + suc n)) (content_fault im (cond t (first_bad (content_rule im) n (suc k)) k)) Sound
+          → or_else (cond t no_fault (Err (content_fault im k)))
+          (fault_where (ltb (first_bad (content_rule im) n (suc k)) (suc k + n)) (content_fault im (first_bad (content_rule im) n (suc k))) no_fault)
+          ≡ fault_where (ltb (cond t (first_bad (content_rule im) n (suc k)) k) (k + suc n))
+          (content_fault im (cond t (first_bad (content_rule im) n (suc k)) k)) no_fault
       at true = rw (add-suc, ← suc-add)
-      at false = rw (content-faulty im k, lt-ltb k (k + suc n) (omega arith))
+      at false = rw (lt-ltb k (k + suc n) (omega arith))

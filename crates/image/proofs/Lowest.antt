@@ -1,7 +1,10 @@
 -- The fault with the lowest key, of faults in runs of rising keys: of two runs one after the other it is the first's, where the first has a
 -- fault; of the places of a rule it is that of the first bad place. Assumes nothing.
-use Prim.Native.Nat.{ℕ, zero, suc, ◌+◌, ◌-◌, ◌≤◌, ◌<◌}
-use mathlib.Core.Path.{◌≡◌, refl, sym, ◌∙◌, ap, ap₂, subst}
+use Rattle.std.specs.Prelude.{Ok, Err}
+use Rattle.std.specs.Result.{result_and, IfErr, IsErrAnd}
+use Rattle.std.proofs.lemmas.Result.{IfErr-at_err}
+use Prim.Native.Nat.{ℕ, zero, suc, ◌+◌, ◌≤◌, ◌<◌}
+use mathlib.Core.Path.{◌≡◌, refl, sym, ◌∙◌, ap, ap₂}
 use mathlib.Core.Bool.{Bool, true, false, cond, true≢false}
 use mathlib.Core.List.{List, [], ◌∷◌, ◌++◌}
 use mathlib.Core.Logic.{◌⊎◌, inl, inr}
@@ -11,62 +14,12 @@ use borrow.Author.Tests.{lt-ltb, le-ltb}
 use lib.Dec.{ltb}
 use Rattle.fields.specs.Scan.{first_bad}
 use Rattle.fields.proofs.Meaning.{before-irrefl, before-trans, before-total}
-use Rattle.header.specs.declared.layout.Kind.{Kind}
-use Rattle.header.specs.declared.layout.Kind.TheVariants as kind
-use Rattle.header.specs.Layout.{contents_of}
-use Rattle.records.specs.Rules.{layout_rule, first_bad_record}
 use Rattle.image.specs.declared.faults.Fault.{Fault}
-use Rattle.image.specs.declared.faults.Fault.TheVariants.{Sound, Length, Block, Layout, Component, Label, User, Ring, Below}
-use Rattle.image.specs.Faults.{key_of, key_before, lower, lowest, Among, here, later, fault_unless, faults_at, record_fault}
-use Rattle.image.specs.Walk.{content_fault}
-
--- ---- no fault
-abbrev pub is_sound : Fault → Bool
-is_sound Sound = true
-is_sound Length = false
-is_sound (Block b) = false
-is_sound (Layout b) = false
-is_sound (Component b r) = false
-is_sound (Label b r) = false
-is_sound (User b r) = false
-is_sound (Ring g) = false
-is_sound (Below b r) = false
-
-pub sound-is : (f : Fault) → is_sound f ≡ true → f ≡ Sound
-sound-is Sound e = refl
-sound-is Length e = absurd (true≢false (sym e))
-sound-is (Block b) e = absurd (true≢false (sym e))
-sound-is (Layout b) e = absurd (true≢false (sym e))
-sound-is (Component b r) e = absurd (true≢false (sym e))
-sound-is (Label b r) e = absurd (true≢false (sym e))
-sound-is (User b r) e = absurd (true≢false (sym e))
-sound-is (Ring g) e = absurd (true≢false (sym e))
-sound-is (Below b r) e = absurd (true≢false (sym e))
-
-record-faulty : (k : Kind) (b r : ℕ) → is_sound (record_fault k b r) ≡ false
-record-faulty kind.Component b r = refl
-record-faulty kind.Label b r = refl
-record-faulty kind.User b r = refl
-
-pub content-faulty : (im : List ℕ) (b : ℕ) → is_sound (content_fault im b) ≡ false
-unfolding content_fault
-content-faulty im b = at (layout_rule im b)
-  where
-    at : (t : Bool)
-        → is_sound (cond t (record_fault (contents_of im b).kind b (first_bad_record im b - (contents_of im b).from)) (Layout b)) ≡ false
-    at true = record-faulty (contents_of im b).kind b (first_bad_record im b - (contents_of im b).from)
-    at false = refl
-
-pub faulty-is : (f : Fault) → (f ≡ Sound → ⊥) → is_sound f ≡ false
-faulty-is f n = at (is_sound f) refl
-  where
-    at : (t : Bool) → is_sound f ≡ t → t ≡ false
-    at true e = absurd (n (sound-is f e))
-    at false e = refl
+use Rattle.image.specs.Faults.{Inspection, no_fault, fault_where, key_of, key_before, lower, lowest, Among, here, later, fault_unless, faults_at}
 
 -- the first fault, or else the second
-abbrev pub or_else : Fault → Fault → Fault
-or_else f g = cond (is_sound f) g f
+abbrev pub or_else : Inspection → Inspection → Inspection
+or_else f g = result_and f g
 
 -- ---- every fault of a list
 pub data All (P : Fault → Type 0) : List Fault → Type 0 where
@@ -127,65 +80,59 @@ not_itself a = at (key_before a a) refl
     at false d = refl
 
 -- ---- the lowest of a list
-lowest-from : (key : List ℕ) → From key Sound → {fs : List Fault} → All (From key) fs → From key (lowest fs)
-unfolding lowest
-lowest-from key s none = s
-lowest-from key s (also {f} {fs} p ps) = at (key_before (key_of (lowest fs)) (key_of f)) (lowest-from key s ps)
+-- what holds of a fault, and of what is found after it, holds of the lower
+lower-keeps : (P : Fault → Type 0) (f : Fault) (r : Inspection) → P f → IfErr r P → IfErr (lower f r) P
+lower-keeps P f (Ok sound) p q = p
+lower-keeps P f (Err g) p q = at (key_before (key_of g) (key_of f))
   where
-    at : (t : Bool) → From key (lowest fs) → From key (cond t (lowest fs) f)
-    at true q = q
-    at false q = p
+    at : (t : Bool) → IfErr (fault_where t g (Err f)) P
+    at true = q
+    at false = p
+
+lowest-keeps : {P : Fault → Type 0} {fs : List Fault} → All P fs → IfErr (lowest fs) P
+unfolding lowest
+lowest-keeps none = tt
+lowest-keeps (also {f} {fs} p ps) = lower-keeps _ f (lowest fs) p (lowest-keeps ps)
 
 -- the first is the lowest, where the others' keys are not before its own
-pub lowest-first : (f : Fault) → From (key_of f) Sound → {fs : List Fault} → All (From (key_of f)) fs → lowest (f ∷ fs) ≡ f
+pub lowest-first : (f : Fault) {fs : List Fault} → All (From (key_of f)) fs → lowest (f ∷ fs) ≡ Err f
 unfolding lowest
-lowest-first f s ps = rw (lowest-from (key_of f) s ps)
-
--- a fault with a key before that of "none" is one
-upto-faulty : (key : List ℕ) → From key Sound → (f : Fault) → Upto key f → is_sound f ≡ false
-upto-faulty key s f u = at (is_sound f) refl
+lowest-first f {fs} ps = at (lowest fs) (lowest-keeps ps)
   where
-    at : (t : Bool) → is_sound f ≡ t → t ≡ false
-    at true e = absurd (true≢false (sym (subst (Upto key) (sound-is f e) u) ∙ s))
-    at false e = refl
+    at : (r : Inspection) → IfErr r (From (key_of f)) → lower f r ≡ Err f
+    at (Ok sound) q = refl
+    at (Err g) q = rw q
 
 -- of two runs, the first with keys before the middle and the second from there on: the first's lowest fault, or else the second's
-pub lowest-append : (middle : List ℕ) → From middle Sound → {xs ys : List Fault} → All (Upto middle) xs → All (From middle) ys
+pub lowest-append : (middle : List ℕ) {xs ys : List Fault} → All (Upto middle) xs → All (From middle) ys
     → lowest (xs ++ ys) ≡ or_else (lowest xs) (lowest ys)
 unfolding lowest
-lowest-append middle s none q = refl
-lowest-append middle s {ys = ys} (also {f} {fs} p ps) q =
-    ap (lower f) (lowest-append middle s ps q) ∙ at (is_sound (lowest fs)) refl (key_before (key_of (lowest fs)) (key_of f)) refl
+lowest-append middle none q = refl
+lowest-append middle {ys = ys} (also {f} {fs} p ps) q =
+    ap (lower f) (lowest-append middle ps q) ∙ at (lowest fs) (lowest ys) (lowest-keeps q)
   where
-    faulty : is_sound f ≡ false
-    faulty = upto-faulty middle s f p
+    chosen : (t : Bool) (g : Fault) (s : Inspection) → fault_where t g (Err f) ≡ or_else (fault_where t g (Err f)) s
+    chosen true g s = refl
+    chosen false g s = refl
 
-    later : (g : Fault) → From middle g → key_before (key_of g) (key_of f) ≡ false
-    later g e = from-earlier (key_of f) middle p g e
-
-    last : key_before (key_of (lowest ys)) (key_of f) ≡ false
-    last = later (lowest ys) (lowest-from middle s q)
-
-    at : (t : Bool) → is_sound (lowest fs) ≡ t → (d : Bool) → key_before (key_of (lowest fs)) (key_of f) ≡ d
-        → lower f (or_else (lowest fs) (lowest ys)) ≡ or_else (lower f (lowest fs)) (lowest ys)
-    at true e d g = rw (sound-is (lowest fs) e, last, later Sound s, faulty)
-    at false e true g = rw (e, g, e)
-    at false e false g = rw (e, g, faulty)
+    at : (r s : Inspection) → IfErr s (From middle) → lower f (or_else r s) ≡ or_else (lower f r) s
+    at (Ok sound) (Ok both) e = refl
+    at (Ok sound) (Err g) e = rw (from-earlier (key_of f) middle p g e)
+    at (Err g) s e = chosen (key_before (key_of g) (key_of f)) g s
 
 -- the same with both told
-pub lowest-then : (middle : List ℕ) → From middle Sound → {xs ys : List Fault} → All (Upto middle) xs → All (From middle) ys
-    → {f g : Fault} → lowest xs ≡ f → lowest ys ≡ g → lowest (xs ++ ys) ≡ or_else f g
-lowest-then middle s p q e d = lowest-append middle s p q ∙ ap₂ or_else e d
+pub lowest-then : (middle : List ℕ) {xs ys : List Fault} → All (Upto middle) xs → All (From middle) ys
+    → {f g : Inspection} → lowest xs ≡ f → lowest ys ≡ g → lowest (xs ++ ys) ≡ or_else f g
+lowest-then middle p q e d = lowest-append middle p q ∙ ap₂ or_else e d
 
-pub lowest-unless : (t : Bool) (f : Fault) → From (key_of f) Sound → lowest (fault_unless t f) ≡ cond t Sound f
+pub lowest-unless : (t : Bool) (f : Fault) → lowest (fault_unless t f) ≡ cond t no_fault (Err f)
 unfolding lowest
-lowest-unless true f s = refl
-lowest-unless false f s = rw s
+lowest-unless true f = refl
+lowest-unless false f = refl
 
 -- of the places of a rule, where later places have later keys: the fault of the first bad place
-module _ (rule : ℕ → Bool) (fault : ℕ → Fault) (rise : (i j : ℕ) → i < j → key_before (key_of (fault i)) (key_of (fault j)) ≡ true)
-    (last : (i : ℕ) → From (key_of (fault i)) Sound) where
-  pub lowest-at : (n k : ℕ) → lowest (faults_at rule fault n k) ≡ cond (ltb (first_bad rule n k) (k + n)) (fault (first_bad rule n k)) Sound
+module _ (rule : ℕ → Bool) (fault : ℕ → Fault) (rise : (i j : ℕ) → i < j → key_before (key_of (fault i)) (key_of (fault j)) ≡ true) where
+  pub lowest-at : (n k : ℕ) → lowest (faults_at rule fault n k) ≡ fault_where (ltb (first_bad rule n k) (k + n)) (fault (first_bad rule n k)) no_fault
   unfolding lowest faults_at first_bad
   lowest-at zero k = rw (le-ltb k (k + 0) (omega arith))
   lowest-at (suc n) k = at (rule k) (lowest-at n (suc k))
@@ -193,11 +140,12 @@ module _ (rule : ℕ → Bool) (fault : ℕ → Fault) (rise : (i j : ℕ) → i
       rest : All (From (key_of (fault k))) (faults_at rule fault n (suc k))
       rest = all-at rule fault n (suc k) (λ i h. not-before (key_of (fault k)) (key_of (fault i)) (rise k i (omega arith)))
 
-      at : (t : Bool) → lowest (faults_at rule fault n (suc k)) ≡ cond (ltb (first_bad rule n (suc k)) (suc k + n)) (fault (first_bad rule n (suc k))) Sound
+      at : (t : Bool)
+          → lowest (faults_at rule fault n (suc k)) ≡ fault_where (ltb (first_bad rule n (suc k)) (suc k + n)) (fault (first_bad rule n (suc k))) no_fault
           → lowest (fault_unless t (fault k) ++ faults_at rule fault n (suc k))
-          ≡ cond (ltb (cond t (first_bad rule n (suc k)) k) (k + suc n)) (fault (cond t (first_bad rule n (suc k)) k)) Sound
+          ≡ fault_where (ltb (cond t (first_bad rule n (suc k)) k) (k + suc n)) (fault (cond t (first_bad rule n (suc k)) k)) no_fault
       at true ih = rw (add-suc, ← suc-add) ih
-      at false ih = lowest-first (fault k) (last k) rest ∙ rw (lt-ltb k (k + suc n) (omega arith))
+      at false ih = lowest-first (fault k) rest ∙ rw (lt-ltb k (k + suc n) (omega arith))
 
 -- ---- it is the lowest: it is one of them, and none has a key before its own
 pub all_among : {P : Fault → Type 0} {f : Fault} {fs : List Fault} → All P fs → Among f fs → P f
@@ -205,15 +153,12 @@ all_among none x = elim x [ ]
 all_among (also p ps) here = p
 all_among (also p ps) (later there) = all_among ps there
 
-pub lowest-among : (fs : List Fault) → is_sound (lowest fs) ≡ false → Among (lowest fs) fs
-unfolding lowest
-lowest-among [] e = absurd (true≢false e)
-lowest-among (f ∷ fs) e = at (key_before (key_of (lowest fs)) (key_of f)) e (lowest-among fs)
-  where
-    at : (t : Bool) → is_sound (cond t (lowest fs) f) ≡ false → (is_sound (lowest fs) ≡ false → Among (lowest fs) fs)
-        → Among (cond t (lowest fs) f) (f ∷ fs)
-    at true d rest = later (rest d)
-    at false d rest = here
+all-listed : (fs : List Fault) → All (λ f. Among f fs) fs
+all-listed [] = none
+all-listed (f ∷ fs) = also here (all_map (λ g there. later there) (all-listed fs))
+
+pub lowest-among : (fs : List Fault) (f : Fault) → lowest fs ≡ Err f → Among f fs
+lowest-among fs f e = IfErr-at_err (λ g. Among g fs) e (lowest-keeps (all-listed fs))
 
 -- keys are in order, so what is not before the second and that not before the first is not before the first
 from-lower : (f g h : Fault) → From (key_of f) g → From (key_of g) h → From (key_of f) h
@@ -226,12 +171,19 @@ from-lower f g h a b = at (key_before (key_of h) (key_of f)) refl (before-total 
     at true e (inr (inl l)) = absurd (true≢false (sym (before-trans (key_of h) (key_of f) (key_of g) e l) ∙ b))
     at true e (inr (inr l)) = absurd (true≢false (sym l ∙ a))
 
-pub lowest-least : (fs : List Fault) → All (From (key_of (lowest fs))) fs
+-- of a fault that is listed: one is found, and its key is not after
+abbrev pub NotAfter : Inspection → Fault → Type 0
+NotAfter r f = IsErrAnd r (λ g. From (key_of g) f)
+
+pub lowest-least : (fs : List Fault) → All (NotAfter (lowest fs)) fs
 unfolding lowest
 lowest-least [] = none
-lowest-least (f ∷ fs) = at (key_before (key_of (lowest fs)) (key_of f)) refl (lowest-least fs)
+lowest-least (f ∷ fs) = at (lowest fs) (lowest-least fs)
   where
-    at : (t : Bool) → key_before (key_of (lowest fs)) (key_of f) ≡ t → All (From (key_of (lowest fs))) fs
-        → All (From (key_of (cond t (lowest fs) f))) (f ∷ fs)
-    at true e rest = also (not-before (key_of (lowest fs)) (key_of f) e) rest
-    at false e rest = also (not_itself (key_of f)) (all_map (λ h q. from-lower f (lowest fs) h e q) rest)
+    chosen : (g : Fault) (t : Bool) → key_before (key_of g) (key_of f) ≡ t → All (From (key_of g)) fs → All (NotAfter (fault_where t g (Err f))) (f ∷ fs)
+    chosen g true e rest = also (not-before (key_of g) (key_of f) e) rest
+    chosen g false e rest = also (not_itself (key_of f)) (all_map (λ h q. from-lower f g h e q) rest)
+
+    at : (r : Inspection) → All (NotAfter r) fs → All (NotAfter (lower f r)) (f ∷ fs)
+    at (Ok sound) rest = also (not_itself (key_of f)) (all_map (λ h q. absurd q) rest)
+    at (Err g) rest = chosen g (key_before (key_of g) (key_of f)) refl rest

@@ -1,4 +1,5 @@
 -- The place that a refused check tells fits 32 bits: there are at most 127 blocks, and at most 255 records in one. Assumes nothing.
+use Rattle.std.proofs.Common.{Ok, Err}
 use Prim.Native.Nat.{ℕ, ◌+◌, ◌-◌, ◌/◌, ◌^◌, ◌≤◌, ◌<◌}
 use mathlib.Core.Path.{◌≡◌, refl, subst}
 use mathlib.Core.Bool.{Bool, true, false, cond, ◌&&◌}
@@ -24,12 +25,10 @@ use Rattle.records.proofs.MeaningHeader.{counted}
 use Rattle.refusals.specs.declared.Refusal.{Refusal}
 use Rattle.refusals.specs.declared.Refusal.TheVariants.{NoComponent}
 use Rattle.refusals.specs.Refusals.{place_of}
-use Rattle.refusals.specs.Answers.{on_checked, or_refuse}
+use Rattle.refusals.specs.Answers.{on_checked, or_refuse, Checked}
 use Rattle.hierarchy.specs.Below.{first_ring, first_bad_below}
-use Rattle.image.specs.declared.faults.Fault.TheVariants.{Sound, Length, Block, Layout, Ring}
-use Rattle.refusals.specs.declared.answers.Checked.{Checked}
-use Rattle.refusals.specs.declared.answers.Checked.TheVariants.{Accepted, Refused}
-use Rattle.image.specs.Faults.{shown_as, record_fault, below_fault}
+use Rattle.image.specs.declared.faults.Fault.TheVariants.{Length, Block, Layout, Ring}
+use Rattle.image.specs.Faults.{no_fault, fault_where, shown_as, record_fault, below_fault}
 use Rattle.image.specs.Check.{fault_of, check_of}
 use Rattle.image.specs.Walk.{first_bad_content, content_fault, counted_fault, found_fault}
 use Rattle.image.specs.Lookup.{has_component, name_answer}
@@ -60,19 +59,20 @@ slot-few im b =
 
 -- ---- the place that an answer tells; 0 for an accepted image
 abbrev place_told : Checked → ℕ
-place_told Accepted = 0
-place_told (Refused r) = place_of r
+place_told (Ok tt) = 0
+place_told (Err r) = place_of r
 
-record-place : (k : Kind) (b r : ℕ) → b < 128 → r < 256 → place_told (shown_as (record_fault k b r)) < 2 ^ 32
+record-place : (k : Kind) (b r : ℕ) → b < 128 → r < 256 → place_told (shown_as (Err (record_fault k b r))) < 2 ^ 32
 record-place kind.Component b r p q = omega arith
 record-place kind.Label b r p q = omega arith
 record-place kind.User b r p q = omega arith
 
-content-place : (im : List ℕ) (b : ℕ) → b < 128 → place_told (shown_as (content_fault im b)) < 2 ^ 32
+content-place : (im : List ℕ) (b : ℕ) → b < 128 → place_told (shown_as (Err (content_fault im b))) < 2 ^ 32
 unfolding content_fault
 content-place im b h = at (layout_rule im b)
   where
-    at : (t : Bool) → place_told (shown_as (cond t (record_fault (contents_of im b).kind b (first_bad_record im b - (contents_of im b).from)) (Layout b))) < 2 ^ 32
+    at : (t : Bool)
+        → place_told (shown_as (Err (cond t (record_fault (contents_of im b).kind b (first_bad_record im b - (contents_of im b).from)) (Layout b)))) < 2 ^ 32
     at true = record-place (contents_of im b).kind b _ h (slot-few im b)
     at false = omega arith
 
@@ -89,8 +89,8 @@ counted-place im k =
   where
     at : (c : Bool) → ltb (first_bad_content im) (blocks_needed im) ≡ c → (r : Bool) → ltb (first_ring im) (groups im) ≡ r
         → (u : Bool) → ltb (first_bad_below im) (users im) ≡ u
-        → place_told (shown_as (cond c (content_fault im (first_bad_content im))
-        (cond r (Ring (first_ring im)) (cond u (below_fault im (first_bad_below im)) Sound)))) < 2 ^ 32
+        → place_told (shown_as (fault_where c (content_fault im (first_bad_content im))
+        (fault_where r (Ring (first_ring im)) (fault_where u (below_fault im (first_bad_below im)) no_fault)))) < 2 ^ 32
     at true e r d u f = content-place im (first_bad_content im) (omega (arith, ltb-true (first_bad_content im) (blocks_needed im) e, blocks-few im k))
     at false e true d u f = omega (arith, ltb-true (first_ring im) (groups im) d, counted-groups im k)
     at false e false d true f =
@@ -110,21 +110,21 @@ fault-place im = at (length_rule im) refl (ltb (first_bad_block im) (block_count
     block-few e h = unfold block_count in let k = length-means im e in omega arith
 
     at : (s : Bool) → length_rule im ≡ s → (t : Bool) → ltb (first_bad_block im) (block_count im) ≡ t → (h : Bool) → (header_rule im && fit_rule im) ≡ h
-        → place_told (shown_as (cond s (cond t (Block (first_bad_block im)) (cond h (counted_fault im) (Layout 0))) Length)) < 2 ^ 32
+        → place_told (shown_as (cond s (fault_where t (Block (first_bad_block im)) (cond h (counted_fault im) (Err (Layout 0)))) (Err Length))) < 2 ^ 32
     at true e true d h f = omega (arith, block-few e (ltb-true (first_bad_block im) (block_count im) d))
     at true e false d true f = let p = parts _ _ f in counted-place im (counted im p.0 p.1)
     at true e false d false f = omega arith
     at false e t d h f = omega arith
 
-pub check-place : (im : List ℕ) (r : Refusal) → check_of im ≡ Refused r → place_of r < 2 ^ 32
+pub check-place : (im : List ℕ) (r : Refusal) → check_of im ≡ Err r → place_of r < 2 ^ 32
 unfolding check_of fault_of
 check-place im r e = subst (λ (c : Checked). place_told c < 2 ^ 32) e (rw (found-lowest im) (fault-place im))
 
-pub name-place : (im : List ℕ) (class place : ℕ) (r : Refusal) → name_answer im class place ≡ Refused r → place_of r < 2 ^ 32
+pub name-place : (im : List ℕ) (class place : ℕ) (r : Refusal) → name_answer im class place ≡ Err r → place_of r < 2 ^ 32
 unfolding name_answer
 name-place im class place r e = subst (λ (c : Checked). place_told c < 2 ^ 32) e (at (check_of im) refl (has_component im class place))
   where
-    at : (c : Checked) → check_of im ≡ c → (t : Bool) → place_told (on_checked c Refused (or_refuse t NoComponent Accepted)) < 2 ^ 32
-    at Accepted d true = omega arith
-    at Accepted d false = omega arith
-    at (Refused q) d t = check-place im q d
+    at : (c : Checked) → check_of im ≡ c → (t : Bool) → place_told (on_checked c Err (or_refuse t NoComponent (Ok tt))) < 2 ^ 32
+    at (Ok tt) d true = omega arith
+    at (Ok tt) d false = omega arith
+    at (Err q) d t = check-place im q d

@@ -1,4 +1,5 @@
 -- A component that the policy has lies among its class, and its name inside its record. Assumes nothing.
+use Rattle.std.proofs.Common.{Ok, Err}
 use Prim.Native.Nat.{ℕ, ◌+◌, ◌≤◌, ◌<◌}
 use mathlib.Core.Path.{◌≡◌, refl}
 use mathlib.Core.Bool.{Bool, true, false, cond, or-false}
@@ -14,12 +15,10 @@ use Rattle.fields.proofs.Meaning.{NameKept}
 use Rattle.header.specs.declared.layout.Kind.TheVariants.{Component}
 use Rattle.header.proofs.Inside.{record-inside}
 use Rattle.records.specs.Fields.{component_name_field}
-use Rattle.refusals.specs.declared.answers.Checked.{Checked}
-use Rattle.refusals.specs.declared.answers.Checked.TheVariants.{Accepted, Refused}
 use Rattle.image.specs.Check.{check_of, IsAccepted}
 use Rattle.image.specs.Lookup.{has_component, component_index, name_offset, name_length, name_answer}
 use Rattle.refusals.specs.declared.Refusal.TheVariants.{NoComponent}
-use Rattle.refusals.specs.Answers.{on_checked, or_refuse}
+use Rattle.refusals.specs.Answers.{on_checked, or_refuse, Checked}
 use Rattle.image.proofs.Accepted.{accepted-counted, refused-not}
 use Rattle.image.proofs.Policy.{component-kept}
 
@@ -72,12 +71,12 @@ module _ (im : List ℕ) (acc : IsAccepted im) (class place : ℕ) (has : has_co
       )
 
 -- a name look-up that is accepted has an accepted image and a component
-pub answered : (im : List ℕ) (class place : ℕ) → name_answer im class place ≡ Accepted
+pub answered : (im : List ℕ) (class place : ℕ) → name_answer im class place ≡ Ok tt
     → IsAccepted im × (has_component im class place ≡ true)
 unfolding name_answer
 answered im class place = at (check_of im) (has_component im class place)
   where
-    at : (c : Checked) (t : Bool) → on_checked c Refused (or_refuse t NoComponent Accepted) ≡ Accepted → (c ≡ Accepted) × (t ≡ true)
-    at Accepted true e = (refl, refl)
-    at Accepted false e = absurd (refused-not _ e)
-    at (Refused r) t e = absurd (refused-not r e)
+    at : (c : Checked) (t : Bool) → on_checked c Err (or_refuse t NoComponent (Ok tt)) ≡ (Ok tt) → (c ≡ Ok tt) × (t ≡ true)
+    at (Ok tt) true e = (refl, refl)
+    at (Ok tt) false e = absurd (refused-not _ e)
+    at (Err r) t e = absurd (refused-not r e)

@@ -40,7 +40,8 @@ pub record BelowKept (im rec : List ℕ) : Type 0 where
 -- the rule of the sets that the record holds, by the profile
 abbrev sets_in : Profile → List ℕ → List ℕ → Bool
 sets_in p im rec =
-    sets_rule p (forest_of im) (read_groups (edition_of im) rec) (write_groups (edition_of im) rec) (default_groups (edition_of im) rec) (row_groups (edition_of im) rec)
+    sets_rule p (forest_of im) (read_groups (edition_of im) rec) (write_groups (edition_of im) rec)
+    (default_groups (edition_of im) rec) (row_groups (edition_of im) rec)
 
 below-means : (im rec : List ℕ) → sets_in Tree im rec ≡ true → BelowKept im rec
 unfolding below_sets
@@ -110,7 +111,8 @@ module _ (im : List ℕ) (acc : IsAccepted im) where
   user-among u h = user-means (counts_of im) (records_of im User) u (record-kept User u h)
 
   -- so each is what a record of its kind must be
-  pub component-kept : (i : ℕ) → i < components im → ComponentKept (edition_of im) (class_at (counts_of im) i) (parent_count (counts_of im)) (component_record im i)
+  pub component-kept : (i : ℕ) → i < components im
+      → ComponentKept (edition_of im) (class_at (counts_of im) i) (parent_count (counts_of im)) (component_record im i)
   component-kept i h =
       subst (ComponentKept (edition_of im) (class_at (counts_of im) i) (parent_count (counts_of im))) (record_of im Component i h) (component-among i h).kept
 

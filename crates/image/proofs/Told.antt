@@ -1,4 +1,5 @@
 -- What the code finds is the fault with the lowest key. Assumes nothing.
+use Rattle.std.specs.Prelude.{Err}
 use Prim.Native.Nat.{ℕ, ◌+◌, ◌-◌, ◌*◌, ◌/◌, ◌%◌, ◌≤◌, ◌<◌}
 use mathlib.Core.Path.{◌≡◌, refl, ◌∙◌}
 use mathlib.Core.Bool.{Bool, true, false, cond, ◌&&◌}
@@ -20,11 +21,11 @@ use Rattle.hierarchy.specs.Forest.{first_ring_in}
 use Rattle.hierarchy.specs.Below.{ends_rule, group_sets_rule, first_ring, first_bad_below}
 use Rattle.hierarchy.proofs.OfImage.{first-bad-users}
 use Rattle.image.specs.declared.faults.Fault.{Fault}
-use Rattle.image.specs.declared.faults.Fault.TheVariants.{Sound, Length, Block, Layout, Ring}
-use Rattle.image.specs.Faults.{key_of, key_before, lowest, fault_unless, faults_at, content_faults, below_fault, faults_of}
+use Rattle.image.specs.declared.faults.Fault.TheVariants.{Length, Block, Layout, Ring}
+use Rattle.image.specs.Faults.{no_fault, fault_where, key_of, key_before, lowest, fault_unless, faults_at, content_faults, below_fault, faults_of}
 use Rattle.image.specs.Walk.{first_bad_content, content_fault, counted_fault, found_fault}
 use Rattle.image.proofs.InBlocks.{two-numbers, three-numbers, blocks_from, blocks-upto, blocks-lowest}
-use Rattle.image.proofs.Lowest.{or_else, All, none, all_append, all-unless, all-at, all_map, From, from-earlier, content-faulty, lowest-then, lowest-unless, lowest-at}
+use Rattle.image.proofs.Lowest.{or_else, All, none, all_append, all-unless, all-at, all_map, From, from-earlier, lowest-then, lowest-unless, lowest-at}
 
 -- ---- the user whose groups break the rule of group sets: later users have later keys
 later-record : (c i j : ℕ) → 0 < c → i < j → (i / c < j / c) ⊎ ((i / c ≡ j / c) × (i % c < j % c))
@@ -63,11 +64,11 @@ module _ (im : List ℕ) where
   abbrev belows : List Fault
   belows = faults_at (group_sets_rule im) (below_fault im) (users im) 0
 
-  checks-lowest : lowest checks ≡ cond (ltb (first_bad_block im) (block_count im)) (Block (first_bad_block im)) Sound
-  unfolding first_bad_block name_before
-  checks-lowest = lowest-at (block_rule im) Block (λ i j h. two-numbers 2 i j [] [] h) (λ i. refl) (block_count im) 0 ∙ rw zero-add
+  checks-lowest : lowest checks ≡ fault_where (ltb (first_bad_block im) (block_count im)) (Block (first_bad_block im)) no_fault
+  unfolding first_bad_block
+  checks-lowest = lowest-at (block_rule im) Block (λ i j h. two-numbers 2 i j [] [] h) (block_count im) 0 ∙ rw zero-add
 
-  contents-lowest : lowest contents ≡ cond (ltb (first_bad_content im) (blocks_needed im)) (content_fault im (first_bad_content im)) Sound
+  contents-lowest : lowest contents ≡ fault_where (ltb (first_bad_content im) (blocks_needed im)) (content_fault im (first_bad_content im)) no_fault
   unfolding first_bad_content
   contents-lowest = blocks-lowest im (blocks_needed im - 1) 1 (omega arith) (omega (arith, some)) ∙ rw all
     where
@@ -77,13 +78,12 @@ module _ (im : List ℕ) where
       all : 1 + (blocks_needed im - 1) ≡ blocks_needed im
       all = omega (arith, some)
 
-  rings-lowest : lowest rings ≡ cond (ltb (first_ring im) (groups im)) (Ring (first_ring im)) Sound
-  unfolding first_ring_in name_before
-  rings-lowest = lowest-at (ends_rule im) Ring (λ i j h. two-numbers 4 i j [] [] h) (λ i. refl) (groups im) 0 ∙ rw zero-add
+  rings-lowest : lowest rings ≡ fault_where (ltb (first_ring im) (groups im)) (Ring (first_ring im)) no_fault
+  unfolding first_ring_in
+  rings-lowest = lowest-at (ends_rule im) Ring (λ i j h. two-numbers 4 i j [] [] h) (groups im) 0 ∙ rw zero-add
 
-  belows-lowest : lowest belows ≡ cond (ltb (first_bad_below im) (users im)) (below_fault im (first_bad_below im)) Sound
-  unfolding name_before
-  belows-lowest = lowest-at (group_sets_rule im) (below_fault im) (below-rise im) (λ i. refl) (users im) 0 ∙ rw (zero-add, first-bad-users im)
+  belows-lowest : lowest belows ≡ fault_where (ltb (first_bad_below im) (users im)) (below_fault im (first_bad_below im)) no_fault
+  belows-lowest = lowest-at (group_sets_rule im) (below_fault im) (below-rise im) (users im) 0 ∙ rw (zero-add, first-bad-users im)
 
   -- what comes after each run has later keys
   from-belows : All (From (5 ∷ [])) (flatten (belows ∷ []))
@@ -111,21 +111,21 @@ module _ (im : List ℕ) where
 
   -- so the lowest of all is that of the first run that has a fault
   lowest-parts : lowest (faults_of im)
-      ≡ or_else (cond (length_rule im) Sound Length)
-      (or_else (cond (ltb (first_bad_block im) (block_count im)) (Block (first_bad_block im)) Sound)
-      (or_else (cond (header_rule im && fit_rule im) Sound (Layout 0))
-      (or_else (cond (ltb (first_bad_content im) (blocks_needed im)) (content_fault im (first_bad_content im)) Sound)
-      (or_else (cond (ltb (first_ring im) (groups im)) (Ring (first_ring im)) Sound)
-      (or_else (cond (ltb (first_bad_below im) (users im)) (below_fault im (first_bad_below im)) Sound) Sound)))))
+      ≡ or_else (cond (length_rule im) no_fault (Err Length))
+      (or_else (fault_where (ltb (first_bad_block im) (block_count im)) (Block (first_bad_block im)) no_fault)
+      (or_else (cond (header_rule im && fit_rule im) no_fault (Err (Layout 0)))
+      (or_else (fault_where (ltb (first_bad_content im) (blocks_needed im)) (content_fault im (first_bad_content im)) no_fault)
+      (or_else (fault_where (ltb (first_ring im) (groups im)) (Ring (first_ring im)) no_fault)
+      (or_else (fault_where (ltb (first_bad_below im) (users im)) (below_fault im (first_bad_below im)) no_fault) no_fault)))))
   unfolding faults_of flatten lowest name_before
   lowest-parts =
-      lowest-then (2 ∷ []) refl (all-unless (length_rule im) Length refl) from-checks (lowest-unless (length_rule im) Length refl)
-      (lowest-then (3 ∷ []) refl (all-at (block_rule im) Block (block_count im) 0 (λ b h. refl)) from-header checks-lowest
-      (lowest-then (3 ∷ 1 ∷ []) refl (all-unless (header_rule im && fit_rule im) (Layout 0) refl) from-contents
-      (lowest-unless (header_rule im && fit_rule im) (Layout 0) refl)
-      (lowest-then (4 ∷ []) refl (blocks-upto im (blocks_needed im - 1) 1) from-rings contents-lowest
-      (lowest-then (5 ∷ []) refl (all-at (ends_rule im) Ring (groups im) 0 (λ g h. refl)) from-belows rings-lowest
-      (lowest-then (6 ∷ []) refl (all-at (group_sets_rule im) (below_fault im) (users im) 0 (λ u h. refl)) none belows-lowest refl)))))
+      lowest-then (2 ∷ []) (all-unless (length_rule im) Length refl) from-checks (lowest-unless (length_rule im) Length)
+      (lowest-then (3 ∷ []) (all-at (block_rule im) Block (block_count im) 0 (λ b h. refl)) from-header checks-lowest
+      (lowest-then (3 ∷ 1 ∷ []) (all-unless (header_rule im && fit_rule im) (Layout 0) refl) from-contents
+      (lowest-unless (header_rule im && fit_rule im) (Layout 0))
+      (lowest-then (4 ∷ []) (blocks-upto im (blocks_needed im - 1) 1) from-rings contents-lowest
+      (lowest-then (5 ∷ []) (all-at (ends_rule im) Ring (groups im) 0 (λ g h. refl)) from-belows rings-lowest
+      (lowest-then (6 ∷ []) (all-at (group_sets_rule im) (below_fault im) (users im) 0 (λ u h. refl)) none belows-lowest refl)))))
 
   -- which is what the code finds
   pub found-lowest : lowest (faults_of im) ≡ found_fault im
@@ -136,18 +136,19 @@ module _ (im : List ℕ) where
       (ltb (first_bad_content im) (blocks_needed im)) (ltb (first_ring im) (groups im)) (ltb (first_bad_below im) (users im))
     where
       at : (l b h c r u : Bool)
-          → or_else (cond l Sound Length)
-          (or_else (cond b (Block (first_bad_block im)) Sound)
-          (or_else (cond h Sound (Layout 0))
-          (or_else (cond c (content_fault im (first_bad_content im)) Sound)
-          (or_else (cond r (Ring (first_ring im)) Sound) (or_else (cond u (below_fault im (first_bad_below im)) Sound) Sound)))))
-          ≡ cond l (cond b (Block (first_bad_block im))
-          (cond h (cond c (content_fault im (first_bad_content im))
-          (cond r (Ring (first_ring im)) (cond u (below_fault im (first_bad_below im)) Sound))) (Layout 0))) Length
+          → or_else (cond l no_fault (Err Length))
+          (or_else (fault_where b (Block (first_bad_block im)) no_fault)
+          (or_else (cond h no_fault (Err (Layout 0)))
+          (or_else (fault_where c (content_fault im (first_bad_content im)) no_fault)
+          (or_else (fault_where r (Ring (first_ring im)) no_fault)
+          (or_else (fault_where u (below_fault im (first_bad_below im)) no_fault) no_fault)))))
+          ≡ cond l (fault_where b (Block (first_bad_block im))
+          (cond h (fault_where c (content_fault im (first_bad_content im))
+          (fault_where r (Ring (first_ring im)) (fault_where u (below_fault im (first_bad_below im)) no_fault))) (Err (Layout 0)))) (Err Length)
       at false b h c r u = refl
       at true true h c r u = refl
       at true false false c r u = refl
-      at true false true true r u = rw (content-faulty im (first_bad_content im))
+      at true false true true r u = refl
       at true false true false true u = refl
       at true false true false false true = refl
       at true false true false false false = refl

@@ -1,6 +1,7 @@
 -- The faults of an image and the order in which they are told. Every fault has a key, and the one with the lowest key is told: this is
 -- document 01's order of 1, 2 and the other image rules, and request R-2's order among the latter.
-use Rattle.std.specs.Prelude.{ℕ, zero, suc, ◌+◌, ◌-◌, Bool, true, false, cond, ◌&&◌}
+use Rattle.refusals.specs.Answers.{Checked}
+use Rattle.std.specs.Prelude.{ℕ, zero, suc, ◌+◌, ◌-◌, Bool, cond, ◌&&◌, Result, Ok, Err, ⊤}
 use mathlib.Core.List.{List, [], ◌∷◌, ◌++◌, flatten}
 use Rattle.fields.specs.Names.{name_before}
 use Rattle.fields.specs.Scan.{list_from}
@@ -11,37 +12,39 @@ use Rattle.header.specs.declared.layout.Kind.{Kind}
 use Rattle.header.specs.declared.layout.Kind.TheVariants as kind
 use Rattle.records.specs.Rules.{layout_rule, record_rule}
 use Rattle.hierarchy.specs.Below.{ends_rule, group_sets_rule}
+use Rattle.refusals.specs.declared.Refusal.{Refusal}
 use Rattle.refusals.specs.declared.Refusal.TheVariants.{ImageLength, BlockCheck, ImageLayout, ComponentRecord, LabelRecord, UserRecord, ParentRing}
-use Rattle.refusals.specs.declared.answers.Checked.{Checked}
-use Rattle.refusals.specs.declared.answers.Checked.TheVariants.{Accepted, Refused}
 use Rattle.image.specs.declared.faults.Fault.{Fault}
-use Rattle.image.specs.declared.faults.Fault.TheVariants.{Sound, Length, Block, Layout, Component, Label, User, Ring, Below}
+use Rattle.image.specs.declared.faults.Fault.TheVariants.{Length, Block, Layout, Component, Label, User, Ring, Below}
+
+-- no rule is broken, or the fault that is found
+abbrev pub Inspection : Type 0
+Inspection = Result ⊤ Fault
+
+abbrev pub no_fault : Inspection
+no_fault = Ok tt
+
+-- that fault where there is one, else what is found after it
+abbrev pub fault_where : Bool → Fault → Inspection → Inspection
+fault_where found fault rest = cond found (Err fault) rest
 
 -- ---- how a fault is told
 -- 1; 2 with the block; 31 for the header, a length unfit for its counts, and a block's kind, record count or bytes outside records; 32 for a
 -- component, 33 for a label and 34 for a user, with the record's block and its place there; 35 with the group; a user's rule of group sets as 34
-abbrev pub shown_as : Fault → Checked
-shown_as Sound = Accepted
-shown_as Length = Refused ImageLength
-shown_as (Block b) = Refused (BlockCheck b)
-shown_as (Layout b) = Refused ImageLayout
-shown_as (Component b r) = Refused (ComponentRecord b r)
-shown_as (Label b r) = Refused (LabelRecord b r)
-shown_as (User b r) = Refused (UserRecord b r)
-shown_as (Ring g) = Refused (ParentRing g)
-shown_as (Below b r) = Refused (UserRecord b r)
+abbrev pub refusal_of : Fault → Refusal
+refusal_of Length = ImageLength
+refusal_of (Block b) = BlockCheck b
+refusal_of (Layout b) = ImageLayout
+refusal_of (Component b r) = ComponentRecord b r
+refusal_of (Label b r) = LabelRecord b r
+refusal_of (User b r) = UserRecord b r
+refusal_of (Ring g) = ParentRing g
+refusal_of (Below b r) = UserRecord b r
 
--- no rule is broken
-abbrev pub is_sound : Fault → Bool
-is_sound Sound = true
-is_sound Length = false
-is_sound (Block b) = false
-is_sound (Layout b) = false
-is_sound (Component b r) = false
-is_sound (Label b r) = false
-is_sound (User b r) = false
-is_sound (Ring g) = false
-is_sound (Below b r) = false
+-- accepted where no rule is broken
+abbrev pub shown_as : Inspection → Checked
+shown_as (Ok sound) = Ok tt
+shown_as (Err fault) = Err (refusal_of fault)
 
 -- ---- the order
 -- 1 first, then 2 by block. Then 31 to 34 by block: in a block its layout, which is 31, and then its records in order. Then 35 by group.
@@ -55,20 +58,19 @@ key_of (Label b r) = 3 ∷ b ∷ r ∷ []
 key_of (User b r) = 3 ∷ b ∷ r ∷ []
 key_of (Ring g) = 4 ∷ g ∷ []
 key_of (Below b r) = 5 ∷ b ∷ r ∷ []
--- after all others
-key_of Sound = 6 ∷ []
 
 -- keys are compared as names are: number by number; of two of which one begins the other, the shorter is lower
 abbrev pub key_before : List ℕ → List ℕ → Bool
 key_before = name_before
 
--- the one of two faults that has the lower key; of equal keys the first
-abbrev pub lower : Fault → Fault → Fault
-lower f g = cond (key_before (key_of g) (key_of f)) g f
+-- a fault and what is found after it: the one of two faults that has the lower key; of equal keys the first
+abbrev pub lower : Fault → Inspection → Inspection
+lower f (Ok sound) = Err f
+lower f (Err g) = fault_where (key_before (key_of g) (key_of f)) g (Err f)
 
 -- the one of all that has the lowest key; no fault where there is none
-unfoldable pub lowest : List Fault → Fault
-lowest [] = Sound
+unfoldable pub lowest : List Fault → Inspection
+lowest [] = no_fault
 lowest (f ∷ fs) = lower f (lowest fs)
 
 -- the fault is one of those listed

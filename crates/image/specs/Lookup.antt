@@ -1,5 +1,5 @@
 -- What may be asked of an image: a component's name by class and place, a label's place by tag, a user's place by name.
-use Rattle.std.specs.Prelude.{ℕ, ◌+◌, Bool, ◌&&◌, ◌||◌, List, eqb, ltb}
+use Rattle.std.specs.Prelude.{ℕ, ◌+◌, Bool, ◌&&◌, ◌||◌, List, eqb, ltb, Ok, Err}
 use Rattle.std.specs.Borrow.{Bor}
 use Rattle.fields.specs.Bytes.{part}
 use Rattle.fields.specs.Names.{same_bytes}
@@ -7,9 +7,7 @@ use Rattle.fields.specs.Scan.{first_where}
 use Rattle.header.specs.Layout.{levels, compartments, groups, users, labels, counts_of, class_first, component_name_offset, component_record, label_record, user_record}
 use Rattle.records.specs.Fields.{component_name_length, tag_of, user_name}
 use Rattle.refusals.specs.declared.Refusal.TheVariants.{NoComponent}
-use Rattle.refusals.specs.declared.answers.Checked.{Checked}
-use Rattle.refusals.specs.declared.answers.Checked.TheVariants.{Accepted, Refused}
-use Rattle.refusals.specs.Answers.{on_checked, or_refuse}
+use Rattle.refusals.specs.Answers.{on_checked, or_refuse, Checked}
 use Rattle.image.specs.Check.{check_of}
 
 -- ---- a component's name, by class (1 level, 2 compartment, 3 group) and place in its class
@@ -31,7 +29,7 @@ name_length im class place = component_name_length (component_record im (compone
 
 -- how the look-up ends: 1, 2, 31 to 35, or 18 where the policy lacks the component
 unfoldable pub name_answer : List ℕ → ℕ → ℕ → Checked
-name_answer im class place = on_checked (check_of im) Refused (or_refuse (has_component im class place) NoComponent Accepted)
+name_answer im class place = on_checked (check_of im) Err (or_refuse (has_component im class place) NoComponent (Ok tt))
 
 -- a part of what was lent: where it begins in memory, and its bytes
 abbrev pub Part : Type 0

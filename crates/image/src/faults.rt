@@ -1,16 +1,13 @@
 // What is wrong with an image, and how it is told.
 ghost use Rattle.std.specs.Prelude.{◌≡◌};
-ghost use Rattle.image.specs.Faults.{shown_as, is_sound, record_fault};
+ghost use Rattle.image.specs.Faults.{refusal_of, record_fault};
 
 use header::layout::Kind;
 use refusals::Refusal;
-use refusals::answers::Checked;
 
 // A fault of an image: the rule that is broken, and where.
 #[derive(Clone, Copy)]
 pub enum Fault {
-    // No rule is broken.
-    Sound,
     // The length is 0, no multiple of 512 or over 65,536.
     Length,
     // The check or the place of this block is wrong.
@@ -27,36 +24,20 @@ pub enum Fault {
     Below(u16, u16),
 }
 
-pub fn shown(fault: Fault) -> Checked
-    ensures { result ≡ shown_as fault }
-{
-    match fault {
-        Fault::Sound => Checked::Accepted,
-        Fault::Length => Checked::Refused(Refusal::ImageLength),
-        Fault::Block(b) => Checked::Refused(Refusal::BlockCheck(b)),
-        Fault::Layout(_) => Checked::Refused(Refusal::ImageLayout),
-        Fault::Component(b, r) => Checked::Refused(Refusal::ComponentRecord(b, r)),
-        Fault::Label(b, r) => Checked::Refused(Refusal::LabelRecord(b, r)),
-        Fault::User(b, r) => Checked::Refused(Refusal::UserRecord(b, r)),
-        Fault::Ring(g) => Checked::Refused(Refusal::ParentRing(g)),
-        Fault::Below(b, r) => Checked::Refused(Refusal::UserRecord(b, r)),
-    }
-}
+impl From<Fault> for Refusal {
+    ghost from_gives = { λ fault refusal. refusal ≡ refusal_of fault };
 
-// Is no rule broken?
-pub fn is_sound(fault: Fault) -> bool
-    ensures { result ≡ is_sound fault }
-{
-    match fault {
-        Fault::Sound => true,
-        Fault::Length => false,
-        Fault::Block(_) => false,
-        Fault::Layout(_) => false,
-        Fault::Component(_, _) => false,
-        Fault::Label(_, _) => false,
-        Fault::User(_, _) => false,
-        Fault::Ring(_) => false,
-        Fault::Below(_, _) => false,
+    fn from(fault: Fault) -> Refusal {
+        match fault {
+            Fault::Length => Refusal::ImageLength,
+            Fault::Block(b) => Refusal::BlockCheck(b),
+            Fault::Layout(_) => Refusal::ImageLayout,
+            Fault::Component(b, r) => Refusal::ComponentRecord(b, r),
+            Fault::Label(b, r) => Refusal::LabelRecord(b, r),
+            Fault::User(b, r) => Refusal::UserRecord(b, r),
+            Fault::Ring(g) => Refusal::ParentRing(g),
+            Fault::Below(b, r) => Refusal::UserRecord(b, r),
+        }
     }
 }
 

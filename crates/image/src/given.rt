@@ -1,5 +1,6 @@
 // Look-ups for the crates above, once the image is known to be accepted. Counts and the fields of records are asked of
-// `records`, ancestors and below of `hierarchy`.
+// `records`, ancestors and below of `hierarchy`. A number and no Option is the answer, since `label_of_tag` and `user_of_name` of specs/Lookup,
+// which theorems name, give the number of records where none is found.
 ghost use Rattle.std.specs.Prelude.{◌≤◌, ◌≡◌, length};
 ghost use Rattle.fields.specs.Names.{same_bytes};
 ghost use Rattle.records.specs.Fields.{user_name};
@@ -15,7 +16,7 @@ use records::labels::tag_at;
 
 // The label record that carries the tag; the number of labels where none is found. There are at most 11 turns. Each looks
 // at the middle of the places that are left, reads at most that one record, and leaves the half after it or the half
-// before it.
+// before it. Labels are records in bytes, so no slice has a search for them, and the theorem of the 11 steps names these.
 fn search_tag(image: &[u8], tag: u32) -> usize
     requires { Counted image.now }
     ensures { result ≡ search_tag image.now tag }
@@ -23,9 +24,7 @@ fn search_tag(image: &[u8], tag: u32) -> usize
     let shape = layout::shape_of(image, Kind::Label);
     let count = shape.count;
     let mut low = 0;
-    let mut left: usize = 11;
-    while left > 0 {
-        left -= 1;
+    for left in (0..11usize).rev() {
         let middle = low + (1usize << left) - 1;
         if middle < count {
             let found = tag_at(image, shape, middle);
@@ -63,14 +62,12 @@ pub fn user_of_name(image: &[u8], name: &[u8]) -> usize
 {
     let shape = layout::shape_of(image, Kind::User);
     let mut here = walk::record_at(shape, 0);
-    let mut u = 0;
-    while u < shape.count {
+    for u in 0..shape.count {
         let rec = layout::placed_part(image, shape, Kind::User, u, here.at);
         if is_user(rec, name) {
             return u;
         }
         here = walk::next_record(shape, here, u);
-        u += 1;
     }
-    u
+    shape.count
 }

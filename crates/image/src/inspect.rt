@@ -1,4 +1,4 @@
-// The fault of an image that is told: the walk meets faults in the order of their keys, so the first is the lowest.
+// The fault of an image that is told: the walk meets faults in the order of their keys, so the first is the lowest. Ok: no rule is broken.
 ghost use Rattle.std.specs.Prelude.{◌<◌, ◌≡◌};
 ghost use Rattle.header.specs.Layout.{counts_of, users};
 ghost use Rattle.header.specs.Limits.{Counted};
@@ -7,7 +7,7 @@ ghost use Rattle.image.specs.Faults.{below_fault};
 ghost use Rattle.image.specs.Walk.{kind_fault, contents_fault, group_fault, counted_fault, Tells};
 ghost use Rattle.records.specs.Existing.{Exist};
 
-use crate::faults::{Fault, is_sound, record_fault};
+use crate::faults::{Fault, record_fault};
 use blocks::frame::{first_bad_block, length_ok};
 use header::layout;
 use header::layout::Kind;
@@ -20,18 +20,17 @@ use records::fresh::Filter;
 use records::kinds::{Found, first_bad_of_kind};
 
 // The first fault of the blocks of a kind.
-fn kind_fault(image: &[u8], existing: Existing, kind: Kind, seen: &mut Filter) -> Fault
+fn kind_fault(image: &[u8], existing: Existing, kind: Kind, seen: &mut Filter) -> Result<(), Fault>
     requires { Counted image.now × (Exist existing × (existing.counts ≡ counts_of image.now)) }
     ensures { result ≡ kind_fault image.now kind }
 {
-    let found = first_bad_of_kind(image, existing, kind, seen);
-    match found {
-        Found::Nothing => Fault::Sound,
-        Found::Layout(b) => Fault::Layout(b),
-        Found::Record(b, r) => {
+    match first_bad_of_kind(image, existing, kind, seen) {
+        None => Ok(()),
+        Some(Found::Layout(b)) => Err(Fault::Layout(b)),
+        Some(Found::Record(b, r)) => {
             let block = b as u16;
             let slot = r as u16;
-            record_fault(kind, block, slot)
+            Err(record_fault(kind, block, slot))
         }
     }
 }
@@ -50,64 +49,55 @@ fn below_fault(image: &[u8], u: usize) -> Fault
 }
 
 // The first fault of the groups, once all records are sound. The table is lent: where there is no fault it is filled.
-fn group_fault(image: &[u8], table: &mut Table) -> Fault
+fn group_fault(image: &[u8], table: &mut Table) -> Result<(), Fault>
     requires { Counted image.now }
     ensures { Tells image.now table.new (group_fault image.now) result }
 {
     let g = table::first_ring(image, table);
     if g < layout::groups(image) {
-        return Fault::Ring(g);
+        return Err(Fault::Ring(g));
     }
     let mut rows = set_rows::EMPTY;
     let u = group_rules::first_bad_below(image, table, &mut rows);
     if u < layout::users(image) {
-        return below_fault(image, u);
+        return Err(below_fault(image, u));
     }
-    Fault::Sound
+    Ok(())
 }
 
 // The first fault of the blocks after the header: components stand first, then labels, then users.
-fn contents_fault(image: &[u8]) -> Fault
+fn contents_fault(image: &[u8]) -> Result<(), Fault>
     requires { Counted image.now }
     ensures { result ≡ contents_fault image.now }
 {
     let existing = existing_in(image);
     let mut seen = fresh::EMPTY;
-    let components = kind_fault(image, existing, Kind::Component, &mut seen);
-    if !is_sound(components) {
-        return components;
-    }
-    let labels = kind_fault(image, existing, Kind::Label, &mut seen);
-    if !is_sound(labels) {
-        return labels;
-    }
+    kind_fault(image, existing, Kind::Component, &mut seen)?;
+    kind_fault(image, existing, Kind::Label, &mut seen)?;
     kind_fault(image, existing, Kind::User, &mut seen)
 }
 
 // The first fault once the header and the length are sound.
-fn counted_fault(image: &[u8], table: &mut Table) -> Fault
+fn counted_fault(image: &[u8], table: &mut Table) -> Result<(), Fault>
     requires { Counted image.now }
     ensures { Tells image.now table.new (counted_fault image.now) result }
 {
-    let fault = contents_fault(image);
-    if !is_sound(fault) {
-        return fault;
-    }
+    contents_fault(image)?;
     group_fault(image, table)
 }
 
-pub fn first_fault(image: &[u8], table: &mut Table) -> Fault
+pub fn first_fault(image: &[u8], table: &mut Table) -> Result<(), Fault>
     ensures { Tells image.now table.new (fault_of image.now) result }
 {
     if !length_ok(image) {
-        return Fault::Length;
+        return Err(Fault::Length);
     }
     let bad = first_bad_block(image);
     if bad < image.len() / 512 {
-        return Fault::Block(bad);
+        return Err(Fault::Block(bad));
     }
     if !(header_ok(image) & fit_ok(image)) {
-        return Fault::Layout(0);
+        return Err(Fault::Layout(0));
     }
     counted_fault(image, table)
 }

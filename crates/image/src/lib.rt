@@ -14,10 +14,9 @@ ghost use Rattle.image.specs.Lookup.{name_answer, name_part};
 use hierarchy::table;
 use hierarchy::table::Table;
 use refusals::Refusal;
-use refusals::answers::Checked;
 
 // Is the image accepted? Refusals: 1, 2 with the lowest block, 31, 32 to 34 with block and record, 35 with the lowest group.
-pub fn check(image: &[u8]) -> Checked
+pub fn check(image: &[u8]) -> Result<(), Refusal>
     ensures { result ≡ check_of image.now }
 {
     let mut groups = table::EMPTY;
@@ -25,24 +24,22 @@ pub fn check(image: &[u8]) -> Checked
 }
 
 // The same for a call that goes on to ask what lies below groups: it lends the table, which is filled where the image is accepted.
-pub fn check_table(image: &[u8], table: &mut Table) -> Checked
+pub fn check_table(image: &[u8], table: &mut Table) -> Result<(), Refusal>
     ensures { ChecksTable image.now table.new result }
 {
-    faults::shown(inspect::first_fault(image, table))
+    inspect::first_fault(image, table)?;
+    Ok(())
 }
 
 // How the look-up of a component's name by class and place ends. Refusals: 1, 2, 31 to 35, 18.
-pub fn name_answer(image: &[u8], class: u8, place: u8) -> Checked
+pub fn name_answer(image: &[u8], class: u8, place: u8) -> Result<(), Refusal>
     ensures { result ≡ name_answer image.now class place }
 {
-    let answer = check(image);
-    let Checked::Accepted = answer else {
-        return answer;
-    };
+    check(image)?;
     if lookup::has_component(image, class, place as usize) {
-        Checked::Accepted
+        Ok(())
     } else {
-        Checked::Refused(Refusal::NoComponent)
+        Err(Refusal::NoComponent)
     }
 }
 
@@ -50,8 +47,7 @@ pub fn name_answer(image: &[u8], class: u8, place: u8) -> Checked
 pub fn name<'a>(image: &'a [u8], class: u8, place: u8) -> &'a [u8]
     ensures { (result.ref_ptr, result.now) ≡ name_part image.entry class place }
 {
-    let answer = name_answer(image, class, place);
-    let Checked::Accepted = answer else {
+    let Ok(()) = name_answer(image, class, place) else {
         return &image[0..0];
     };
     let at = lookup::name_offset(image, class, place as usize);

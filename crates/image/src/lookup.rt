@@ -11,9 +11,12 @@ pub fn has_component(image: &[u8], class: u8, place: usize) -> bool
     requires { Counted image.now }
     ensures { result ≡ has_component image.now class place }
 {
-    (class == 1) & (place < layout::levels(image))
-        | (class == 2) & (place < layout::compartments(image))
-        | (class == 3) & (place < layout::groups(image))
+    match class {
+        1 => place < layout::levels(image),
+        2 => place < layout::compartments(image),
+        3 => place < layout::groups(image),
+        _ => false,
+    }
 }
 
 // The component's place among all components.

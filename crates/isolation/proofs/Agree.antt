@@ -1,4 +1,5 @@
 -- A row call of a user answers the same on two tables that are alike for that user. Assumes nothing.
+use Rattle.std.proofs.Common.{Ok, Err}
 use Prim.Native.Nat.{ℕ}
 use mathlib.Core.Path.{◌≡◌, refl, sym, ap, ◌∙◌}
 use mathlib.Core.Bool.{Bool, true, false, not, true≢false}
@@ -8,16 +9,13 @@ use borrow.Author.Tests.{eqb-true, not-true}
 use lib.Dec.{eqb}
 use Rattle.refusals.specs.declared.Refusal.{Refusal}
 use Rattle.fields.proofs.Both.{either}
-use Rattle.refusals.specs.declared.answers.Checked.{Checked}
-use Rattle.refusals.specs.declared.answers.Checked.TheVariants.{Accepted, Refused}
-use Rattle.refusals.specs.Answers.{on_checked}
+use Rattle.refusals.specs.Answers.{on_checked, Checked}
 use Rattle.sessions.specs.Session.{SessionMarks, session_rights}
 use Rattle.rows.specs.Table.{readable_rows, width_rule, table_rule, table_answer}
 use Rattle.rows.specs.Reading.{handed_out, read_rows_of}
 use Rattle.maps.specs.Calls.{map_answer}
 use Rattle.rows.specs.Mapped.{read_mapped_of}
 use Rattle.rows.specs.Updating.{nth_row_answer, update_with, update_row_of}
-use Rattle.rows.specs.declared.answers.RowsRead.TheVariants as rowsRead
 use Rattle.isolation.specs.Claim.{list_at_maximum, own_width}
 use Rattle.rows.proofs.Giving.{table-accepted, seen_of, answers_agree}
 use Rattle.rows.proofs.ByMap.{mapped-plain}
@@ -59,7 +57,7 @@ module _ (im : List ℕ) (u : ℕ) (table1 table2 : List ℕ) (width : ℕ) (pai
   table-answers-agree = rw rules-agree
 
   -- where the first table is accepted, the session reads the same rows of both
-  pub rows_agree : table_answer im s table1 w ≡ Accepted
+  pub rows_agree : table_answer im s table1 w ≡ Ok tt
       → readable_rows im (session_rights im s) table1 w ≡ readable_rows im (session_rights im s) table2 w
   rows_agree e =
       let a = table-accepted im s table1 w e in
@@ -74,18 +72,18 @@ module _ (im : List ℕ) (u : ℕ) (table1 table2 : List ℕ) (width : ℕ) (pai
 
   pub read-agrees : (buffer : List ℕ) → read_rows_of im s table1 w buffer ≡ read_rows_of im s table2 w buffer
   unfolding read_rows_of
-  read-agrees buffer = calls-agree (λ r. (rowsRead.Refused r, buffer)) (λ rows. handed_out rows buffer)
+  read-agrees buffer = calls-agree (λ r. (Err r, buffer)) (λ rows. handed_out rows buffer)
 
   pub read-mapped-agrees : (bits buffer : List ℕ) → read_mapped_of im s table1 w bits buffer ≡ read_mapped_of im s table2 w bits buffer
   read-mapped-agrees bits buffer =
       mapped-plain im s table1 w bits buffer
-      ∙ calls-agree (λ r. (rowsRead.Refused r, buffer))
-      (λ rows. on_checked (map_answer im (session_rights im s) bits) (λ r. (rowsRead.Refused r, buffer)) (handed_out rows buffer))
+      ∙ calls-agree (λ r. (Err r, buffer))
+      (λ rows. on_checked (map_answer im (session_rights im s) bits) (λ r. (Err r, buffer)) (handed_out rows buffer))
       ∙ sym (mapped-plain im s table2 w bits buffer)
 
   pub update_agrees : (n : ℕ) (payload : List ℕ) → (update_row_of im s table1 w n payload).0 ≡ (update_row_of im s table2 w n payload).0
   unfolding update_row_of update_with
   update_agrees n payload =
-      seen_of (λ (x : Checked × List ℕ). x.0) (table_answer im s table1 w) (λ r. (Refused r, table1)) _
-      ∙ calls-agree Refused (λ rows. nth_row_answer im (session_rights im s) rows w n payload)
-      ∙ sym (seen_of (λ (x : Checked × List ℕ). x.0) (table_answer im s table2 w) (λ r. (Refused r, table2)) _)
+      seen_of (λ (x : Checked × List ℕ). x.0) (table_answer im s table1 w) (λ r. (Err r, table1)) _
+      ∙ calls-agree Err (λ rows. nth_row_answer im (session_rights im s) rows w n payload)
+      ∙ sym (seen_of (λ (x : Checked × List ℕ). x.0) (table_answer im s table2 w) (λ r. (Err r, table2)) _)

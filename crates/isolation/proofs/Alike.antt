@@ -1,5 +1,6 @@
 -- A user's call that changes a row leaves two tables alike for that user, and leaves the rows that are hidden from that user. Assumes
 -- nothing.
+use Rattle.std.proofs.Common.{Ok, Err}
 use Prim.Native.Nat.{ℕ, ◌+◌, ◌≤◌}
 use mathlib.Core.Path.{◌≡◌, refl, sym, ap, ◌∙◌, subst}
 use mathlib.Core.Bool.{Bool, true, false}
@@ -9,9 +10,7 @@ use borrow.Author.Tests.{eqb-true}
 use lib.Dec.{eqb}
 use lib.ListN.{length}
 use Rattle.refusals.specs.declared.Refusal.TheVariants.{PayloadLength}
-use Rattle.refusals.specs.declared.answers.Checked.{Checked}
-use Rattle.refusals.specs.declared.answers.Checked.TheVariants.{Accepted, Refused}
-use Rattle.refusals.specs.Answers.{on_checked, or_refuse}
+use Rattle.refusals.specs.Answers.{on_checked, or_refuse, Checked}
 use Rattle.image.proofs.Accepted.{refused-not}
 use Rattle.sessions.specs.Session.{SessionMarks, lent_answer, session_rights}
 use Rattle.rows.specs.Run.{kept, changed_nth}
@@ -43,7 +42,7 @@ module _ (im : List ℕ) (u width : ℕ) where
 -- it answers by the rows that the session reads; where it accepts, the change keeps a row's length
 module _ (im : List ℕ) (u width : ℕ) (s : SessionMarks) (own : s.user ≡ u) (w : ℕ) (named : own_width width w ≡ true)
     (answer : List (List ℕ) → Checked) (change : List ℕ → List ℕ)
-    (keeps : 5 ≤ w → (rows : List (List ℕ)) → answer rows ≡ Accepted → KeepsWidth w change) (n : ℕ) where
+    (keeps : 5 ≤ w → (rows : List (List ℕ)) → answer rows ≡ (Ok tt) → KeepsWidth w change) (n : ℕ) where
   -- the table after it
   abbrev changed : List ℕ → List ℕ
   changed table = table_changed (row_readable im (session_rights im s)) change table w n
@@ -61,11 +60,11 @@ module _ (im : List ℕ) (u width : ℕ) (s : SessionMarks) (own : s.user ≡ u)
 
   -- what an accepted call tells: image and session are accepted, 12 accepts the table at the named width, the change keeps the width
   record Taken (table : List ℕ) : Type 0 where
-    lent : lent_answer im s ≡ Accepted
+    lent : lent_answer im s ≡ Ok tt
     rule : table_rule table w ≡ true
     wide : KeepsWidth w change
 
-  taken : (table : List ℕ) → table_answer im s table w ≡ Accepted → row_answer table ≡ Accepted → Taken table
+  taken : (table : List ℕ) → table_answer im s table w ≡ (Ok tt) → row_answer table ≡ (Ok tt) → Taken table
   taken table e f =
       let a = table-accepted im s table w e in
       record { lent = a.0; rule = a.1; wide = keeps (table-means table w a.1).wide (readable_rows im (session_rights im s) table w) f }
@@ -73,16 +72,16 @@ module _ (im : List ℕ) (u width : ℕ) (s : SessionMarks) (own : s.user ≡ u)
   change-hidden : (table : List ℕ) → HiddenKept im u table (after_call table (table_answer im s table w)) width
   change-hidden table = at (table_answer im s table w) refl
     where
-      at_row : table_answer im s table w ≡ Accepted → (c : Checked) → row_answer table ≡ c → HiddenKept im u table (after_row table c) width
-      at_row e Accepted f =
+      at_row : table_answer im s table w ≡ (Ok tt) → (c : Checked) → row_answer table ≡ c → HiddenKept im u table (after_row table c) width
+      at_row e (Ok tt) f =
           let t = taken table e f in
           subst (λ (x : ℕ). HiddenKept im u table (changed table) x) (accepted-width width w named table t.rule)
           (after-hidden im u table w t.rule s own t.lent change t.wide n)
-      at_row e (Refused r) f = kept_refl im u width table
+      at_row e (Err r) f = kept_refl im u width table
 
       at : (c : Checked) → table_answer im s table w ≡ c → HiddenKept im u table (after_call table c) width
-      at Accepted e = at_row e (row_answer table) refl
-      at (Refused r) e = kept_refl im u width table
+      at (Ok tt) e = at_row e (row_answer table) refl
+      at (Err r) e = kept_refl im u width table
 
   change-paired : (table1 table2 : List ℕ) → Paired im u table1 table2 width
       → Paired im u (after_call table1 (table_answer im s table1 w)) (after_call table2 (table_answer im s table2 w)) width
@@ -105,27 +104,27 @@ module _ (im : List ℕ) (u width : ℕ) (s : SessionMarks) (own : s.user ≡ u)
                 ∙ sym (after_list im u table2 w t2.rule s own t2.lent change t2.wide n);
           })
 
-      at_row : table_answer im s table1 w ≡ Accepted → table_answer im s table2 w ≡ Accepted
+      at_row : table_answer im s table1 w ≡ (Ok tt) → table_answer im s table2 w ≡ Ok tt
           → (c : Checked) → row_answer table1 ≡ c → (d : Checked) → c ≡ d → row_answer table2 ≡ d
           → Paired im u (after_row table1 c) (after_row table2 d) width
-      at_row e1 e2 Accepted f1 d same f2 = rw (← same) (both-changed (taken table1 e1 f1) (taken table2 e2 (f2 ∙ sym same)))
-      at_row e1 e2 (Refused r) f1 d same f2 = rw (← same) pair
+      at_row e1 e2 (Ok tt) f1 d same f2 = rw (← same) (both-changed (taken table1 e1 f1) (taken table2 e2 (f2 ∙ sym same)))
+      at_row e1 e2 (Err r) f1 d same f2 = rw (← same) pair
 
       at : (c : Checked) → table_answer im s table1 w ≡ c → (d : Checked) → c ≡ d → table_answer im s table2 w ≡ d
           → Paired im u (after_call table1 c) (after_call table2 d) width
-      at Accepted e1 d same e2 =
+      at (Ok tt) e1 d same e2 =
           rw (← same)
           (at_row e1 (e2 ∙ sym same) (row_answer table1) refl (row_answer table2)
           (ap answer (rows_agree im u table1 table2 width pair s own w named e1)) refl)
-      at (Refused r) e1 d same e2 = rw (← same) pair
+      at (Err r) e1 d same e2 = rw (← same) pair
 
 -- ---- an update
 payload-fits : (im : List ℕ) (s : SessionMarks) (w n : ℕ) (payload : List ℕ) (rows : List (List ℕ))
-    → nth_row_answer im (session_rights im s) rows w n payload ≡ Accepted → length payload ≡ payload_length w
+    → nth_row_answer im (session_rights im s) rows w n payload ≡ (Ok tt) → length payload ≡ payload_length w
 unfolding nth_row_answer
 payload-fits im s w n payload rows = at (eqb (length payload) (payload_length w)) refl _
   where
-    at : (t : Bool) → eqb (length payload) (payload_length w) ≡ t → (rest : Checked) → or_refuse t PayloadLength rest ≡ Accepted
+    at : (t : Bool) → eqb (length payload) (payload_length w) ≡ t → (rest : Checked) → or_refuse t PayloadLength rest ≡ Ok tt
         → length payload ≡ payload_length w
     at true h rest e = eqb-true _ _ h
     at false h rest e = absurd (refused-not PayloadLength e)
@@ -135,7 +134,7 @@ module _ (im : List ℕ) (u width : ℕ) (s : SessionMarks) (own : s.user ≡ u)
   abbrev answer : List (List ℕ) → Checked
   answer rows = nth_row_answer im (session_rights im s) rows w n payload
 
-  keeps : 5 ≤ w → (rows : List (List ℕ)) → answer rows ≡ Accepted → KeepsWidth w (with_payload payload)
+  keeps : 5 ≤ w → (rows : List (List ℕ)) → answer rows ≡ (Ok tt) → KeepsWidth w (with_payload payload)
   keeps low rows e =
       let fits = payload-fits im s w n payload rows e in
       let whole : 4 + length payload ≡ w = omega arith in
@@ -145,7 +144,7 @@ module _ (im : List ℕ) (u width : ℕ) (s : SessionMarks) (own : s.user ≡ u)
       → (update_row_of im s table w n payload).1
       ≡ after_call im u width s own w named answer (with_payload payload) keeps n table (table_answer im s table w)
   unfolding update_row_of update_with table_updated
-  after-update table = seen_of (λ (x : Checked × List ℕ). x.1) (table_answer im s table w) (λ r. (Refused r, table)) _
+  after-update table = seen_of (λ (x : Checked × List ℕ). x.1) (table_answer im s table w) (λ r. (Err r, table)) _
 
   pub update-hidden : (table : List ℕ) → HiddenKept im u table (update_row_of im s table w n payload).1 width
   update-hidden table = rw (after-update table) (change-hidden im u width s own w named answer (with_payload payload) keeps n table)

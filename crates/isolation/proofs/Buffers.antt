@@ -1,4 +1,5 @@
 -- What a buffer held before a read shows in no answer. Assumes nothing.
+use Rattle.std.proofs.Common.{Ok, Err}
 use Prim.Native.Nat.{ℕ, ◌*◌}
 use mathlib.Core.Path.{◌≡◌, refl, sym, ap, ◌∙◌}
 use mathlib.Core.Bool.{Bool, true, false, cond}
@@ -7,16 +8,12 @@ use lib.Dec.{leb}
 use lib.ListN.{length, drop, replicate, length-replicate}
 use lib.Seq.{take_at}
 use Rattle.refusals.specs.declared.Refusal.TheVariants.{Room}
-use Rattle.refusals.specs.declared.answers.Checked.{Checked}
-use Rattle.refusals.specs.declared.answers.Checked.TheVariants.{Accepted}
-use Rattle.refusals.specs.Answers.{on_checked}
+use Rattle.refusals.specs.Answers.{on_checked, Amount, Checked}
 use Rattle.sessions.specs.Session.{SessionMarks, session_rights}
 use Rattle.rows.specs.Table.{readable_rows, table_answer}
 use Rattle.rows.specs.Reading.{handed_out, read_rows_of}
 use Rattle.maps.specs.Calls.{map_answer}
 use Rattle.rows.specs.Mapped.{read_mapped_of}
-use Rattle.rows.specs.declared.answers.RowsRead.{RowsRead}
-use Rattle.rows.specs.declared.answers.RowsRead.TheVariants.{Done, Refused}
 use Rattle.rows.proofs.Standing.{AllWide}
 use Rattle.isolation.specs.Calls.{Call, opening, setting_label, setting_row_label, on_rows, reading, reading_mapped, updating}
 use Rattle.isolation.specs.Calls.{Answer, rows_handed, State, lent_session, bytes_read, row_step, step, run}
@@ -28,21 +25,21 @@ use Rattle.rows.proofs.ByMap.{mapped-plain}
 
 -- ---- one read
 -- what a caller sees of a read
-abbrev shown : ℕ → RowsRead × List ℕ → Answer
+abbrev shown : ℕ → Amount × List ℕ → Answer
 shown w result = rows_handed result.0 (bytes_read result.0 w result.1)
 
 -- rows of one width: all bytes that are shown were written
 rows-shown : (w : ℕ) (rows : List (List ℕ)) → AllWide w rows → (buffer : List ℕ)
     → shown w (handed_out rows buffer)
-    ≡ cond (leb (length (flatten rows)) (length buffer)) (rows_handed (Done (length rows)) (flatten rows)) (rows_handed (Refused Room) [])
+    ≡ cond (leb (length (flatten rows)) (length buffer)) (rows_handed (Ok (length rows)) (flatten rows)) (rows_handed (Err Room) [])
 unfolding handed_out
 rows-shown w rows a buffer = at (leb (length (flatten rows)) (length buffer))
   where
     at : (t : Bool)
-        → shown w (cond t (Done (length rows), flatten rows ++ drop (length (flatten rows)) buffer) (Refused Room, buffer))
-        ≡ cond t (rows_handed (Done (length rows)) (flatten rows)) (rows_handed (Refused Room) [])
+        → shown w (cond t (Ok (length rows), flatten rows ++ drop (length (flatten rows)) buffer) (Err Room, buffer))
+        ≡ cond t (rows_handed (Ok (length rows)) (flatten rows)) (rows_handed (Err Room) [])
     at true =
-        ap (rows_handed (Done (length rows)))
+        ap (rows_handed (Ok (length rows)))
         (take_at (flatten rows) (drop (length (flatten rows)) buffer) (length rows * w) (flatten-length w rows a))
     at false = refl
 
@@ -51,13 +48,13 @@ rows_alike : (w : ℕ) (rows : List (List ℕ)) → AllWide w rows → (buffer1 
     → shown w (handed_out rows buffer1) ≡ shown w (handed_out rows buffer2)
 rows_alike w rows wide buffer1 buffer2 same = rows-shown w rows wide buffer1 ∙ (rw same) ∙ sym (rows-shown w rows wide buffer2)
 
-checked-alike : (w : ℕ) (c : Checked) (read : List ℕ → RowsRead × List ℕ) (buffer1 buffer2 : List ℕ)
-    → (c ≡ Accepted → shown w (read buffer1) ≡ shown w (read buffer2))
-    → shown w (on_checked c (λ r. (Refused r, buffer1)) (read buffer1)) ≡ shown w (on_checked c (λ r. (Refused r, buffer2)) (read buffer2))
+checked-alike : (w : ℕ) (c : Checked) (read : List ℕ → Amount × List ℕ) (buffer1 buffer2 : List ℕ)
+    → (c ≡ (Ok tt) → shown w (read buffer1) ≡ shown w (read buffer2))
+    → shown w (on_checked c (λ r. (Err r, buffer1)) (read buffer1)) ≡ shown w (on_checked c (λ r. (Err r, buffer2)) (read buffer2))
 checked-alike w c read buffer1 buffer2 alike =
-    seen_of (shown w) c (λ r. (Refused r, buffer1)) (read buffer1)
-    ∙ answers_agree (λ r. rows_handed (Refused r) []) _ _ c _ refl alike
-    ∙ sym (seen_of (shown w) c (λ r. (Refused r, buffer2)) (read buffer2))
+    seen_of (shown w) c (λ r. (Err r, buffer1)) (read buffer1)
+    ∙ answers_agree (λ r. rows_handed (Err r) []) _ _ c _ refl alike
+    ∙ sym (seen_of (shown w) c (λ r. (Err r, buffer2)) (read buffer2))
 
 pub buffers-alike : (im : List ℕ) (s : SessionMarks) (table : List ℕ) (w : ℕ) (buffer1 buffer2 : List ℕ) → length buffer1 ≡ length buffer2
     → shown w (read_rows_of im s table w buffer1) ≡ shown w (read_rows_of im s table w buffer2)
@@ -78,8 +75,8 @@ mapped-alike im s table w bits buffer1 buffer2 same =
     rows : List (List ℕ)
     rows = readable_rows im (session_rights im s) table w
 
-    judged : List ℕ → RowsRead × List ℕ
-    judged b = on_checked (map_answer im (session_rights im s) bits) (λ r. (Refused r, b)) (handed_out rows b)
+    judged : List ℕ → Amount × List ℕ
+    judged b = on_checked (map_answer im (session_rights im s) bits) (λ r. (Err r, b)) (handed_out rows b)
 
 -- ---- a sequence
 step-alike : (im : List ℕ) (state : State) (call : Call) → step im state call ≡ step im state (buffer_zeroed call)

@@ -1,10 +1,10 @@
 -- What an accepted session of a user reads is what that user could ever read, so it sees of a table only the list at the maximum.
 -- Assumes nothing.
+use Rattle.std.proofs.Common.{Ok}
 use Prim.Native.Nat.{ℕ}
 use mathlib.Core.Path.{◌≡◌, sym, ap, ◌∙◌, subst}
 use mathlib.Core.Bool.{true}
 use mathlib.Core.List.{List}
-use Rattle.refusals.specs.declared.answers.Checked.TheVariants.{Accepted}
 use Rattle.access.specs.Verdicts.{readable_at_maximum}
 use Rattle.access.proofs.Maximum.{maximum-reads}
 use Rattle.sessions.specs.Session.{SessionMarks, lent_answer, session_rights}
@@ -14,7 +14,7 @@ use Rattle.rows.specs.Table.{rows_of, row_tag, row_readable, readable_rows}
 use Rattle.isolation.specs.Claim.{ever_readable, list_at_maximum}
 use Rattle.isolation.proofs.Keeping.{kept-inside}
 
-module _ (im : List ℕ) (u : ℕ) (s : SessionMarks) (own : s.user ≡ u) (lent : lent_answer im s ≡ Accepted) where
+module _ (im : List ℕ) (u : ℕ) (s : SessionMarks) (own : s.user ≡ u) (lent : lent_answer im s ≡ Ok tt) where
   pub reads-ever : (row : List ℕ) → row_readable im (session_rights im s) row ≡ true → ever_readable im u row ≡ true
   reads-ever row e =
       subst (λ (x : ℕ). readable_at_maximum im x (row_tag row) ≡ true) own

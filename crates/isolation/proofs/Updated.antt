@@ -1,10 +1,10 @@
 -- The table after a session of a user changed the n-th row that it reads, in any way that keeps the row's length. Assumes nothing.
+use Rattle.std.proofs.Common.{Ok}
 use Prim.Native.Nat.{ℕ}
 use mathlib.Core.Path.{◌≡◌, refl, sym, ◌∙◌}
 use mathlib.Core.Bool.{Bool, true, false, true≢false}
 use mathlib.Core.List.{List, []}
 use lib.ListN.{length, get_or}
-use Rattle.refusals.specs.declared.answers.Checked.TheVariants.{Accepted}
 use Rattle.sessions.specs.Session.{SessionMarks, lent_answer, session_rights}
 use Rattle.rows.specs.Run.{kept, changed_nth}
 use Rattle.rows.specs.Table.{rows_of, table_changed, row_readable, table_rule}
@@ -20,7 +20,7 @@ abbrev pub KeepsWidth : ℕ → (List ℕ → List ℕ) → Type 0
 KeepsWidth w change = (row : List ℕ) → length row ≡ w → length (change row) ≡ w
 
 module _ (im : List ℕ) (u : ℕ) (table : List ℕ) (w : ℕ) (accepted : table_rule table w ≡ true) (s : SessionMarks) (own : s.user ≡ u)
-    (lent : lent_answer im s ≡ Accepted) (change : List ℕ → List ℕ) (keeps : KeepsWidth w change) (n : ℕ) where
+    (lent : lent_answer im s ≡ Ok tt) (change : List ℕ → List ℕ) (keeps : KeepsWidth w change) (n : ℕ) where
   abbrev readable : List ℕ → Bool
   readable = row_readable im (session_rights im s)
 

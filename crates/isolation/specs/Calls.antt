@@ -1,15 +1,13 @@
 -- A sequence of calls on one table: openings, label changes, reads, mapped reads and updates, all lent the one image. Each step is what the public
 -- call of that kind answers.
-use Rattle.std.specs.Prelude.{ℕ, ◌*◌, List, [], ◌∷◌, take}
-use Rattle.refusals.specs.declared.answers.Checked.{Checked}
+use Rattle.refusals.specs.Answers.{Amount, Checked}
+use Rattle.std.specs.Prelude.{ℕ, ◌*◌, List, [], ◌∷◌, take, Ok, Err}
 use Rattle.sessions.specs.Session.{SessionMarks}
 use Rattle.sessions.specs.Opening.{Opening, session, refused, open_of}
 use Rattle.sessions.specs.Changes.{set_label_of, set_row_label_of}
 use Rattle.rows.specs.Reading.{read_rows_of}
 use Rattle.rows.specs.Mapped.{read_mapped_of}
 use Rattle.rows.specs.Updating.{update_row_of}
-use Rattle.rows.specs.declared.answers.RowsRead.{RowsRead}
-use Rattle.rows.specs.declared.answers.RowsRead.TheVariants.{Done, Refused}
 
 -- ---- what is called
 -- the session that a call works on: the one returned last, or any other
@@ -36,7 +34,7 @@ pub data Call : Type 0 where
 pub data Answer : Type 0 where
   opened : Opening → Answer
   label_set : SessionMarks → Checked → Answer
-  rows_handed : RowsRead → List ℕ → Answer
+  rows_handed : Amount → List ℕ → Answer
   row_done : Checked → Answer
 
 -- what stands between two calls: the table, and the session returned last. Before any is returned it is one that is given
@@ -56,9 +54,9 @@ session_after (session s) before = s
 session_after (refused r) before = before
 
 -- the first count times width bytes of the buffer after a read
-abbrev pub bytes_read : RowsRead → ℕ → List ℕ → List ℕ
-bytes_read (Done count) width buffer = take (count * width) buffer
-bytes_read (Refused r) width buffer = []
+abbrev pub bytes_read : Amount → ℕ → List ℕ → List ℕ
+bytes_read (Ok count) width buffer = take (count * width) buffer
+bytes_read (Err r) width buffer = []
 
 -- a row call: the table after it, and its answer
 unfoldable pub row_step : List ℕ → SessionMarks → List ℕ → ℕ → RowCall → List ℕ × Answer

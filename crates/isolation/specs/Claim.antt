@@ -1,7 +1,6 @@
 -- Demand 3, whole: hidden rows stay hidden. Two tables that agree on what a user could ever read give that user equal answers over any
 -- sequence of openings, label changes, reads, mapped reads and updates, and agree on it again at the end; every other row keeps its bytes and place.
-use Rattle.std.specs.Prelude.{ℕ, ◌<◌, ◌≡◌, Bool, true, false, not, ◌&&◌, ◌||◌, List, [], ◌∷◌, map, eqb, length, replicate, get_or}
-use Rattle.refusals.specs.declared.answers.Checked.TheVariants.{Accepted}
+use Rattle.std.specs.Prelude.{ℕ, ◌<◌, ◌≡◌, Bool, true, false, not, ◌&&◌, ◌||◌, List, [], ◌∷◌, map, eqb, length, replicate, get_or, Ok}
 use Rattle.access.specs.Verdicts.{readable_at_maximum}
 use Rattle.sessions.specs.Session.{SessionMarks}
 use Rattle.rows.specs.Run.{kept}
@@ -63,8 +62,8 @@ started table s = record { table = table; session = s }
 -- 1, and in edition 2 every row of a known tag. A session of a place without user is 19
 pub record Premises (im : List ℕ) (u : ℕ) (table1 table2 : List ℕ) (width : ℕ) (start : SessionMarks) (calls1 calls2 : List Call) : Type 0 where
   -- 12 refuses neither table with the row width
-  pub table1-accepted : table_shape table1 width ≡ Accepted
-  pub table2-accepted : table_shape table2 width ≡ Accepted
+  pub table1-accepted : table_shape table1 width ≡ Ok tt
+  pub table2-accepted : table_shape table2 width ≡ Ok tt
   pub lists-equal : list_at_maximum im u table1 width ≡ list_at_maximum im u table2 width
   pub calls-own : own_calls im u (started table1 start) width calls1 ≡ true
   pub calls-alike : Alike calls1 calls2

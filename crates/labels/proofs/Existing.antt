@@ -1,4 +1,5 @@
 -- What the test that a label exists means; the labels of an accepted image exist, and those that are read from a text. Assumes nothing.
+use Rattle.std.proofs.Common.{Ok}
 use Prim.Native.Nat.{ℕ, ◌+◌, ◌^◌, ◌<◌}
 use mathlib.Core.Path.{◌≡◌, refl, subst}
 use mathlib.Core.Bool.{Bool, true, false, cond}
@@ -16,7 +17,7 @@ use Rattle.image.specs.Check.{IsAccepted}
 use Rattle.image.proofs.Policy.{label_kept}
 use Rattle.labels.specs.Label.{Marks, label_at, label_exists}
 use Rattle.labels.specs.Text.{comma, colon, split}
-use Rattle.labels.specs.Parse.{class_count, place_of_name, Reading, read, unknown, repeated, read_names, read_list, groups_after, read_sets, read_parts, of_text, parse_of}
+use Rattle.labels.specs.Parse.{class_count, place_of_name, Reading, read, unknown, repeated, read_names, read_list, groups_after, read_sets, read_parts, parse_of}
 use Rattle.labels.proofs.Tells.{refused-not-read, read-tells, then-read, text-parts, parsed-read}
 
 -- every component that the label names is one of the policy
@@ -113,5 +114,5 @@ module _ (im : List ℕ) where
       at true d f = sets-exist rest (place_of_name im 1 name) (length name + 1) m (ltb-true _ _ d) f
       at false d f = absurd (refused-not-read _ m f)
 
-  pub parsed-exists : (text : List ℕ) (m : Marks) → parse_of im text ≡ of_text (read m) → Exists im m
-  parsed-exists text m e = parts-exist (split colon text) m (text-parts im text m (parsed-read im text (read m) e).1)
+  pub parsed-exists : (text : List ℕ) (m : Marks) → parse_of im text ≡ Ok m → Exists im m
+  parsed-exists text m e = parts-exist (split colon text) m (text-parts im text m (parsed-read im text m e).1)

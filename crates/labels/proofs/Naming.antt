@@ -1,4 +1,5 @@
 -- One step of reading a list, by what the look-up of its first name gives. Assumes nothing.
+use Rattle.std.proofs.Common.{Option, Some, None}
 use Prim.Native.Nat.{ℕ, ◌+◌, ◌-◌, ◌≤◌, ◌<◌}
 use mathlib.Core.Path.{◌≡◌, refl, sym, ap, ◌∙◌}
 use mathlib.Core.Bool.{Bool, true, false, cond}
@@ -9,36 +10,35 @@ use lib.Dec.{ltb}
 use lib.ListN.{length, take, drop, length-take, length-drop, drop_of_length-le}
 use lib.Seq.{drop-cons}
 use Rattle.sets.specs.Sets.{has, none, one, union}
-use Rattle.labels.specs.declared.names.Found.TheVariants.{At, Nothing}
 use Rattle.labels.specs.Text.{comma, split}
 use Rattle.labels.specs.Parse.{class_count, place_of_name, read, unknown, repeated, read_names, read_list}
 use Rattle.labels.specs.Lists.{found_of, until_mark, after_mark}
 use Rattle.labels.proofs.Splitting.{split_from}
 
 -- ---- what a look-up tells
-took-place : (t : Bool) (p q : ℕ) → cond t (At p) Nothing ≡ At q → (t ≡ true) × (p ≡ q)
+took-place : (t : Bool) (p q : ℕ) → cond {A = Option ℕ} t (Some p) None ≡ Some q → (t ≡ true) × (p ≡ q)
 took-place true p q e = (refl, cc)
 took-place false p q e = let z : ◌≡◌ {A = ℕ} 0 1 = cc in absurd (omega arith)
 
-took-nothing : (t : Bool) (p : ℕ) → cond t (At p) Nothing ≡ Nothing → t ≡ false
+took-nothing : (t : Bool) (p : ℕ) → cond {A = Option ℕ} t (Some p) None ≡ None → t ≡ false
 took-nothing true p e = let z : ◌≡◌ {A = ℕ} 0 1 = cc in absurd (omega arith)
 took-nothing false p e = refl
 
 module _ (im : List ℕ) (class : ℕ) (name : List ℕ) where
-  pub found_at : (p : ℕ) → found_of im class name ≡ At p → (ltb (place_of_name im class name) (class_count im class) ≡ true) × (place_of_name im class name ≡ p)
+  pub found_at : (p : ℕ) → found_of im class name ≡ Some p → (ltb (place_of_name im class name) (class_count im class) ≡ true) × (place_of_name im class name ≡ p)
   unfolding found_of
   found_at p e = took-place (ltb (place_of_name im class name) (class_count im class)) (place_of_name im class name) p e
 
-  pub found_below : (p : ℕ) → found_of im class name ≡ At p → p < class_count im class
+  pub found_below : (p : ℕ) → found_of im class name ≡ Some p → p < class_count im class
   found_below p e =
       let h = found_at p e in
       omega (arith, h.1, ltb-true (place_of_name im class name) (class_count im class) h.0)
 
-  pub found_nothing : found_of im class name ≡ Nothing → ltb (place_of_name im class name) (class_count im class) ≡ false
+  pub found_nothing : found_of im class name ≡ None → ltb (place_of_name im class name) (class_count im class) ≡ false
   unfolding found_of
   found_nothing e = took-nothing (ltb (place_of_name im class name) (class_count im class)) (place_of_name im class name) e
 
-names-next : (im : List ℕ) (class at set : ℕ) (name : List ℕ) (rest : List (List ℕ)) (p : ℕ) → found_of im class name ≡ At p → has set p ≡ false
+names-next : (im : List ℕ) (class at set : ℕ) (name : List ℕ) (rest : List (List ℕ)) (p : ℕ) → found_of im class name ≡ Some p → has set p ≡ false
     → read_names im class at set (name ∷ rest) ≡ read_names im class (at + length name + 1) (union set (one p)) rest
 unfolding read_names
 names-next im class at set name rest p found h = let f = found_at im class name p found in rw (f.0, f.1, h)
@@ -46,12 +46,12 @@ names-next im class at set name rest p found h = let f = found_at im class name 
 -- ---- the list from `at` on, whose first name ends at `end`
 module _ (im : List ℕ) (class : ℕ) (text : List ℕ) (at end set : ℕ) (inside : at ≤ length text)
     (ends : end ≡ at + until_mark comma (drop at text)) (below : end ≤ length text) where
-  pub list-unknown : found_of im class (take (end - at) (drop at text)) ≡ Nothing
+  pub list-unknown : found_of im class (take (end - at) (drop at text)) ≡ None
       → unknown at ≡ read_names im class at set (split comma (drop at text))
   unfolding read_names
   list-unknown e = rw (split_from comma text at end inside ends, found_nothing im class (take (end - at) (drop at text)) e)
 
-  module _ (p : ℕ) (found : found_of im class (take (end - at) (drop at text)) ≡ At p) where
+  module _ (p : ℕ) (found : found_of im class (take (end - at) (drop at text)) ≡ Some p) where
     pub list-repeated : has set p ≡ true → repeated at ≡ read_names im class at set (split comma (drop at text))
     unfolding read_names
     list-repeated h =

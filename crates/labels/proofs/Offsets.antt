@@ -1,4 +1,5 @@
 -- The place that a refused text tells is at most two past the text's length. Assumes nothing.
+use Rattle.std.proofs.Common.{Ok, Err}
 use Prim.Native.Nat.{ℕ, ◌+◌, ◌≤◌, ◌<◌, ◌^◌}
 use mathlib.Core.Path.{◌≡◌, refl, sym, subst}
 use mathlib.Core.Bool.{Bool, true, false, cond, true≢false}
@@ -14,18 +15,15 @@ use Rattle.refusals.specs.Refusals.{place_of}
 use Rattle.header.specs.Layout.{edition_of, levels}
 use Rattle.header.proofs.Editions.{most-text}
 use Rattle.header.specs.Limits.{limits_of}
-use Rattle.refusals.specs.declared.answers.Checked.{Checked}
-use Rattle.refusals.specs.declared.answers.Checked.TheVariants.{Accepted, Refused}
-use Rattle.refusals.specs.Answers.{on_checked}
+use Rattle.refusals.specs.Answers.{on_checked, Checked}
 use Rattle.image.specs.Check.{check_of}
 use Rattle.image.proofs.Place.{check-place}
 use Rattle.labels.specs.declared.answers.Reason.{Reason}
 use Rattle.labels.specs.declared.answers.Reason.TheVariants.{Shape}
 use Rattle.labels.specs.Label.{Marks}
 use Rattle.labels.specs.Text.{comma, colon, split, onto, shape_of_parts, shape_rule}
-use Rattle.labels.specs.Parse.{class_count, place_of_name, Reading, read, refused, unknown, repeated, then_read, read_names, read_list, groups_after, read_sets, read_parts, read_text, Parsing, of_text, bad_image, parse_of, refusal_of}
+use Rattle.labels.specs.Parse.{class_count, place_of_name, Reading, read, refused, unknown, repeated, then_read, read_names, read_list, groups_after, read_sets, read_parts, read_text, Parsing, of_text, parse_of, refusal_of}
 use Rattle.labels.proofs.Reading.{has_parts, split_parts}
-use Rattle.labels.proofs.Tells.{parsed-read}
 
 -- the bytes of the parts and one more for each
 abbrev spans : List (List ℕ) → ℕ
@@ -114,17 +112,21 @@ text-told im text = at (shape_rule (limits_of im).text text) refl
 pub read_told : (im text : List ℕ) (reason : Reason) → read_text im text ≡ refused reason → place_of (refusal_of reason) < 2 ^ 32
 read_told im text reason e = subst (λ (x : Reading Marks). told x < 2 ^ 32) e (text-told im text)
 
-pub parse-told : (im text : List ℕ) (reason : Reason) → parse_of im text ≡ of_text (refused reason) → place_of (refusal_of reason) < 2 ^ 32
-parse-told im text reason e = read_told im text reason (parsed-read im text (refused reason) e).1
-
-pub image-told : (im text : List ℕ) (r : Refusal) → parse_of im text ≡ bad_image r → place_of r < 2 ^ 32
+pub image-told : (im text : List ℕ) (r : Refusal) → parse_of im text ≡ Err r → place_of r < 2 ^ 32
 unfolding parse_of
 image-told im text r e = subst (λ (p : Parsing). place_in p < 2 ^ 32) e (at (check_of im) refl)
   where
     place_in : Parsing → ℕ
-    place_in (of_text x) = 0
-    place_in (bad_image q) = place_of q
+    place_in (Ok m) = 0
+    place_in (Err q) = place_of q
 
-    at : (c : Checked) → check_of im ≡ c → place_in (on_checked c bad_image (of_text (read_text im text))) < 2 ^ 32
-    at Accepted d = omega arith
-    at (Refused q) d = omega (arith, check-place im q d)
+    text-place : (x : Reading Marks) → told x < 2 ^ 32 → place_in (of_text x) < 2 ^ 32
+    text-place (read m) h = h
+    text-place (refused reason) h = h
+
+    at : (c : Checked) → check_of im ≡ c → place_in (on_checked c Err (of_text (read_text im text))) < 2 ^ 32
+    at (Ok tt) d = text-place (read_text im text) (text-told im text)
+    at (Err q) d = check-place im q d
+
+pub parse-told : (im text : List ℕ) (reason : Reason) → parse_of im text ≡ of_text (refused reason) → place_of (refusal_of reason) < 2 ^ 32
+parse-told im text reason e = image-told im text (refusal_of reason) e

@@ -1,18 +1,18 @@
 -- What a reading, or an answer of `parse`, that gives something tells. Assumes nothing.
+use Rattle.std.proofs.Common.{Result, Ok, Err, arith}
 use Prim.Native.Nat.{ℕ}
 use mathlib.Core.Path.{◌≡◌, refl, sym, ap}
 use mathlib.Core.Bool.{Bool, true, false, cond, true≢false}
 use mathlib.Core.List.{List}
-use Rattle.refusals.specs.declared.answers.Checked.{Checked}
-use Rattle.refusals.specs.declared.answers.Checked.TheVariants.{Accepted, Refused}
-use Rattle.refusals.specs.Answers.{on_checked}
+use Rattle.refusals.specs.declared.Refusal.{Refusal}
+use Rattle.refusals.specs.Answers.{on_checked, Checked}
 use Rattle.header.specs.Limits.{limits_of}
 use Rattle.image.specs.Check.{check_of, IsAccepted}
 use Rattle.labels.specs.declared.answers.Reason.{Reason}
 use Rattle.labels.specs.declared.answers.Reason.TheVariants.{Shape}
 use Rattle.labels.specs.Label.{Marks}
 use Rattle.labels.specs.Text.{colon, split, shape_rule}
-use Rattle.labels.specs.Parse.{Reading, read, refused, then_read, read_parts, read_text, Parsing, of_text, bad_image, parse_of}
+use Rattle.labels.specs.Parse.{Reading, read, refused, then_read, read_parts, read_text, of_text, parse_of, refusal_of}
 
 -- ---- a reading
 abbrev is_read : {A : Type 0} → Reading A → Bool
@@ -35,6 +35,9 @@ pub then-read : {A B : Type 0} (first : Reading A) (next : A → Reading B) (y :
 then-read (read x) next y e = (x, (refl, e))
 then-read (refused reason) next y e = absurd (refused-not-read reason y e)
 
+not-ok : {A : Type 0} {m : A} (r : Refusal) → ◌≡◌ {A = Result A Refusal} (Err r) (Ok m) → ⊥
+not-ok {A} {m} r e = let z : ◌≡◌ {A = ℕ} 0 1 = cc in absurd (omega arith)
+
 -- ---- a text
 -- one that is read has the shape, and its parts are read
 pub text-parts : (im text : List ℕ) (m : Marks) → read_text im text ≡ read m → read_parts im (split colon text) ≡ read m
@@ -45,19 +48,12 @@ text-parts im text m = at (shape_rule (limits_of im).text text)
     at false e = absurd (refused-not-read Shape m e)
 
 -- ---- an answer of `parse`
-abbrev is_of_text : Parsing → Bool
-is_of_text (of_text x) = true
-is_of_text (bad_image r) = false
-
-abbrev text_in : Parsing → Reading Marks
-text_in (of_text x) = x
-text_in (bad_image r) = refused Shape
-
--- what is told of the text: the image is accepted, and the text is read so
-pub parsed-read : (im text : List ℕ) (x : Reading Marks) → parse_of im text ≡ of_text x → IsAccepted im × (read_text im text ≡ x)
+-- what is told of a text that is read: the image is accepted, and the text is read so
+pub parsed-read : (im text : List ℕ) (m : Marks) → parse_of im text ≡ Ok m → IsAccepted im × (read_text im text ≡ read m)
 unfolding parse_of
-parsed-read im text x = at (check_of im)
+parsed-read im text m = at (check_of im) (read_text im text)
   where
-    at : (c : Checked) → on_checked c bad_image (of_text (read_text im text)) ≡ of_text x → (c ≡ Accepted) × (read_text im text ≡ x)
-    at Accepted e = (refl, ap text_in e)
-    at (Refused r) e = absurd (true≢false (sym (ap is_of_text e)))
+    at : (c : Checked) (x : Reading Marks) → on_checked c Err (of_text x) ≡ Ok m → (c ≡ Ok tt) × (x ≡ read m)
+    at (Ok tt) (read n) e = (refl, cc)
+    at (Ok tt) (refused reason) e = absurd (not-ok (refusal_of reason) e)
+    at (Err r) x e = absurd (not-ok r e)

@@ -1,4 +1,5 @@
 -- In an accepted image the names of a class differ, so that a component that has a name is the one that is found. Assumes nothing.
+use Rattle.std.proofs.Common.{Option, Some}
 use Prim.Native.Nat.{ℕ, zero-le, ◌+◌, ◌≤◌, ◌<◌}
 use mathlib.Core.Path.{◌≡◌, refl, sym, ◌∙◌, subst}
 use mathlib.Core.Bool.{Bool, true, false, cond}
@@ -14,8 +15,6 @@ use Rattle.image.specs.Check.{IsAccepted}
 use Rattle.image.specs.Lookup.{component_index}
 use Rattle.image.proofs.Placed.{placed-index}
 use Rattle.image.proofs.Policy.{components-apart}
-use Rattle.labels.specs.declared.names.Found.{Found}
-use Rattle.labels.specs.declared.names.Found.TheVariants.{At}
 use Rattle.labels.specs.Parse.{matches, class_count, place_of_name}
 use Rattle.labels.specs.Lists.{found_of}
 use Rattle.labels.specs.Hints.{HasName, ToldOf}
@@ -58,13 +57,13 @@ module _ (im : List ℕ) (acc : IsAccepted im) (class : ℕ) (low : 1 ≤ class)
       found-unique _ (class_count im class) 0 p zero-le (omega arith) (has h)
       (λ j from upto e. names_apart j (omega arith) (same-means _ _ e ∙ sym (same-means _ _ (has h))))
 
-  found-unique-at : (name : List ℕ) → HasName im class name p → At p ≡ found_of im class name
+  found-unique-at : (name : List ℕ) → HasName im class name p → Some p ≡ found_of im class name
   unfolding found_of
   found-unique-at name has = rw (place-unique name has, lt-ltb p (class_count im class) h)
 
 -- a place that hints tell is the one that is found
-pub told_at : (im : List ℕ) → IsAccepted im → (class : ℕ) → 1 ≤ class → class ≤ 3 → (name : List ℕ) (told : Found) (p : ℕ) → told ≡ At p
-    → ToldOf im class name told → At p ≡ found_of im class name
+pub told_at : (im : List ℕ) → IsAccepted im → (class : ℕ) → 1 ≤ class → class ≤ 3 → (name : List ℕ) (told : Option ℕ) (p : ℕ) → told ≡ Some p
+    → ToldOf im class name told → Some p ≡ found_of im class name
 told_at im acc class low high name told p e holds =
-    let at = subst (λ (x : Found). ToldOf im class name x) e holds in
+    let at = subst (λ (x : Option ℕ). ToldOf im class name x) e holds in
     found-unique-at im acc class low high p at.0 name at.1

@@ -1,19 +1,15 @@
 -- What the readers of names and lists give, in terms of the definitions of Parse.antt.
-use Rattle.std.specs.Prelude.{ℕ, suc, ◌+◌, Bool, cond, not, List, [], ◌∷◌, eqb, ltb, length, drop}
+use Rattle.std.specs.Prelude.{ℕ, suc, ◌+◌, Bool, cond, not, List, [], ◌∷◌, eqb, ltb, length, drop, Option, Some, None, Result, Ok, Err, ⊤}
 use Rattle.fields.specs.Bytes.{byte_at}
+use Rattle.sets.specs.declared.groups.Groups.{Groups}
 use Rattle.sets.specs.Groups.{places_of}
-use Rattle.labels.specs.declared.names.Found.{Found}
-use Rattle.labels.specs.declared.names.Found.TheVariants.{At, Nothing}
-use Rattle.labels.specs.declared.lists.ListRead.{ListRead}
-use Rattle.labels.specs.declared.lists.ListRead.TheVariants as list
-use Rattle.labels.specs.declared.lists.Names.{Names}
-use Rattle.labels.specs.declared.lists.Names.TheVariants as names
 use Rattle.labels.specs.Text.{split}
-use Rattle.labels.specs.Parse.{class_count, place_of_name, Reading, read, refused, unknown, repeated}
+use Rattle.labels.specs.declared.answers.Reason.{Reason}
+use Rattle.labels.specs.Parse.{class_count, place_of_name, Reading, read, refused}
 
 -- the place of a name, if its class has it
-unfoldable pub found_of : List ℕ → ℕ → List ℕ → Found
-found_of im class name = let p = place_of_name im class name in cond (ltb p (class_count im class)) (At p) Nothing
+unfoldable pub found_of : List ℕ → ℕ → List ℕ → Option ℕ
+found_of im class name = let p = place_of_name im class name in cond (ltb p (class_count im class)) (Some p) None
 
 -- how many bytes stand before the first mark, or before the end
 unfoldable pub until_mark : ℕ → List ℕ → ℕ
@@ -29,11 +25,10 @@ abbrev pub after_mark : ℕ → List ℕ → ℕ → List (List ℕ)
 after_mark mark text at = cond (ltb at (length text)) (split mark (drop (at + 1) text)) []
 
 -- what the answers of the code stand for; while names are read, the set of their places is kept beside the answer
-abbrev pub names_of : Names → ℕ → Reading ℕ
-names_of names.Read set = read set
-names_of (names.Unknown offset) set = unknown offset
-names_of (names.Repeated offset) set = repeated offset
+abbrev pub names_of : Result ⊤ Reason → ℕ → Reading ℕ
+names_of (Ok done) set = read set
+names_of (Err reason) set = refused reason
 
-abbrev pub list_of : ListRead → Reading ℕ
-list_of (list.Read g) = read (places_of g)
-list_of (list.Refused reason) = refused reason
+abbrev pub list_of : Result Groups Reason → Reading ℕ
+list_of (Ok g) = read (places_of g)
+list_of (Err reason) = refused reason

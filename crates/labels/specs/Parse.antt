@@ -1,5 +1,5 @@
 -- Reading label text: the shape of the whole text first, then its names from the left.
-use Rattle.std.specs.Prelude.{ℕ, ◌+◌, Bool, cond, List, [], ◌∷◌, eqb, ltb, length}
+use Rattle.std.specs.Prelude.{ℕ, ◌+◌, Bool, cond, List, [], ◌∷◌, ltb, length, Result, Ok, Err}
 use Rattle.fields.specs.Names.{same_bytes, folded_name}
 use Rattle.fields.specs.Scan.{first_where}
 use Rattle.sets.specs.Sets.{has, none, one, union}
@@ -14,10 +14,7 @@ use Rattle.image.specs.Check.{check_of}
 use Rattle.image.specs.Lookup.{component_index}
 use Rattle.labels.specs.declared.answers.Reason.{Reason}
 use Rattle.labels.specs.declared.answers.Reason.TheVariants.{Shape, Unknown, Repeated}
-use Rattle.labels.specs.declared.answers.TextRead.{TextRead}
-use Rattle.labels.specs.declared.answers.TextRead.TheVariants as textRead
-use Rattle.labels.specs.declared.answers.Parsed.{Parsed}
-use Rattle.labels.specs.declared.answers.Parsed.TheVariants as parsed
+use Rattle.labels.specs.declared.label.Label.{Label}
 use Rattle.labels.specs.Label.{Marks, marks, marks_of}
 use Rattle.labels.specs.Text.{comma, colon, split, shape_rule}
 
@@ -90,27 +87,29 @@ read_parts im (level ∷ rest) =
 abbrev pub read_text : List ℕ → List ℕ → Reading Marks
 read_text im text = cond (shape_rule (limits_of im).text text) (read_parts im (split colon text)) (refused Shape)
 
--- ---- the answer of `parse`: what the text gives, or the refusal of the image
-pub data Parsing : Type 0 where
-  of_text : Reading Marks → Parsing
-  bad_image : Refusal → Parsing
-
--- 1, 2, 31 to 35 before all others
-unfoldable pub parse_of : List ℕ → List ℕ → Parsing
-parse_of im text = on_checked (check_of im) bad_image (of_text (read_text im text))
-
 -- the refusal that tells a reason; two of the three carry an offset
 abbrev pub refusal_of : Reason → Refusal
 refusal_of Shape = TextShape
 refusal_of (Unknown offset) = UnknownName offset
 refusal_of (Repeated offset) = RepeatedName offset
 
--- what the answers of the code stand for
-abbrev pub read_of : TextRead → Reading Marks
-read_of (textRead.Done l) = read (marks_of l)
-read_of (textRead.Refused reason) = refused reason
+-- ---- the answer of `parse`: what the text gives, or the refusal of the image
+abbrev pub Parsing : Type 0
+Parsing = Result Marks Refusal
 
-abbrev pub parsing_of : Parsed → Parsing
-parsing_of (parsed.Done l) = of_text (read (marks_of l))
-parsing_of (parsed.Refused reason) = of_text (refused reason)
-parsing_of (parsed.BadImage r) = bad_image r
+abbrev pub of_text : Reading Marks → Parsing
+of_text (read m) = Ok m
+of_text (refused reason) = Err (refusal_of reason)
+
+-- 1, 2, 31 to 35 before all others
+unfoldable pub parse_of : List ℕ → List ℕ → Parsing
+parse_of im text = on_checked (check_of im) Err (of_text (read_text im text))
+
+-- what the answers of the code stand for
+abbrev pub read_of : Result Label Reason → Reading Marks
+read_of (Ok l) = read (marks_of l)
+read_of (Err reason) = refused reason
+
+abbrev pub parsing_of : Result Label Refusal → Parsing
+parsing_of (Ok l) = Ok (marks_of l)
+parsing_of (Err r) = Err r

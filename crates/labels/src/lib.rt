@@ -16,17 +16,14 @@ mod shape;
 ghost use Rattle.std.specs.Prelude.{◌≡◌};
 ghost use Rattle.labels.specs.Parse.{parsing_of, parse_of};
 
-use answers::Parsed;
 use image::check;
-use refusals::answers::Checked;
+use label::Label;
+use refusals::Refusal;
 
 // The label that the text names. Refusals: 1, 2, 31 to 35 of the image; 5; then 6 or 7 with the offset of the leftmost such name.
-pub fn parse(image: &[u8], text: &[u8]) -> Parsed
+pub fn parse(image: &[u8], text: &[u8]) -> Result<Label, Refusal>
     ensures { parsing_of result ≡ parse_of image.now text.now }
 {
-    let answer = check(image);
-    match answer {
-        Checked::Accepted => answers::of_text(given::read_text(image, text)),
-        Checked::Refused(refusal) => Parsed::BadImage(refusal),
-    }
+    check(image)?;
+    Ok(given::read_text(image, text)?)
 }

@@ -8,40 +8,13 @@ ghost use Rattle.labels.specs.Lists.{until_mark, after_mark, names_of, list_of};
 
 use crate::answers::Reason;
 use crate::hints::{Hints, fill};
-use crate::names::{Found, find_by};
+use crate::names::find_by;
 use crate::scan::{mark_in_part, part_lacks};
 use sets::groups::Groups;
 use sets::word;
 
-// What a list gives: the places that it names, or why the text is refused.
-#[derive(Clone, Copy)]
-pub enum ListRead {
-    Read(Groups),
-    Refused(Reason),
-}
-
-// The words of the set of places, while names are read.
+// The words of the set of the places of names that are read.
 type Words = [u64; 4];
-
-// The same while its names are read: the offset is that of the leftmost name that is unknown or came before.
-#[derive(Clone, Copy)]
-pub enum Names {
-    Read,
-    Unknown(usize),
-    Repeated(usize),
-}
-
-// The set of the places that were read is kept as its words.
-fn list_read(names: Names, words: &[u64]) -> ListRead
-    requires { length words.now ≡ 4 }
-    ensures { list_of result ≡ names_of names (joined words.now) }
-{
-    match names {
-        Names::Read => ListRead::Read(Groups::of_words(words[0], words[1], words[2], words[3])),
-        Names::Unknown(offset) => ListRead::Refused(Reason::Unknown(offset)),
-        Names::Repeated(offset) => ListRead::Refused(Reason::Repeated(offset)),
-    }
-}
 
 // The same as `mark_from`, byte by byte, for the last bytes, which make no part.
 fn rest_mark(text: &[u8], at: usize, mark: u8) -> usize
@@ -73,7 +46,8 @@ pub fn mark_from(text: &[u8], at: usize, mark: u8) -> usize
     rest_mark(text, i, mark)
 }
 
-// A list is one name, or one name, a comma and a list. `words` have the names before this one.
+// A list is one name, or one name, a comma and a list. `words` have the names before this one. The leftmost name that is unknown or came before
+// is told.
 #[cycle(names)]
 fn read_names(
     image: &[u8],
@@ -82,19 +56,18 @@ fn read_names(
     at: usize,
     hints: &Hints,
     words: &mut Words,
-) -> Names
+) -> Result<(), Reason>
     requires { IsAccepted image.now × (((1 ≤ class) × (class ≤ 3)) × ((at ≤ length text.now) × (length words.old ≡ 4))) }
     ensures words_after { names_of result (joined words.new) ≡ read_names image.now class at (joined words.old) (split comma (drop at text.now)) }
     ensures words_len { length words.new ≡ 4 }
 {
     let end = mark_from(text, at, 44);
-    let found = find_by(image, class, hints, &text[at..end]);
-    let Found::At(place) = found else {
-        return Names::Unknown(at);
+    let Some(place) = find_by(image, class, hints, &text[at..end]) else {
+        return Err(Reason::Unknown(at));
     };
     let w = words[place / 64];
     if word::has(w, place % 64) {
-        return Names::Repeated(at);
+        return Err(Reason::Repeated(at));
     }
     words[place / 64] = word::with(w, place % 64);
     after_name(image, class, text, end, hints, words)
@@ -109,7 +82,7 @@ fn after_name(
     at: usize,
     hints: &Hints,
     words: &mut Words,
-) -> Names
+) -> Result<(), Reason>
     requires { IsAccepted image.now × (((1 ≤ class) × (class ≤ 3)) × ((at ≤ length text.now) × (length words.old ≡ 4))) }
     ensures words_after { names_of result (joined words.new) ≡ read_names image.now class (at + 1) (joined words.old) (after_mark comma text.now at) }
     ensures words_len { length words.new ≡ 4 }
@@ -117,11 +90,11 @@ fn after_name(
     if at < text.len() {
         return read_names(image, class, text, at + 1, hints, words);
     }
-    Names::Read
+    Ok(())
 }
 
 // The list from `at` on; one that is empty gives the empty set.
-pub fn read_list(image: &[u8], class: u8, text: &[u8], at: usize) -> ListRead
+pub fn read_list(image: &[u8], class: u8, text: &[u8], at: usize) -> Result<Groups, Reason>
     requires { IsAccepted image.now × (((1 ≤ class) × (class ≤ 3)) × (at ≤ length text.now)) }
     ensures { list_of result ≡ read_list image.now class at (drop at text.now) }
 {
@@ -129,8 +102,8 @@ pub fn read_list(image: &[u8], class: u8, text: &[u8], at: usize) -> ListRead
         let mut hints = [0u8; 1024];
         let mut words = [0u64; 4];
         fill(image, class, text.len() - at, &mut hints);
-        let names = read_names(image, class, text, at, &hints, &mut words);
-        return list_read(names, &words);
+        read_names(image, class, text, at, &hints, &mut words)?;
+        return Ok(Groups::of_words(words[0], words[1], words[2], words[3]));
     }
-    ListRead::Read(Groups::none())
+    Ok(Groups::none())
 }

@@ -14,13 +14,6 @@ use fields::names::Letters;
 use header::layout;
 use records::components;
 
-// The answer of a look-up: a place in the class, or that no component has the name.
-#[derive(Clone, Copy)]
-pub enum Found {
-    At(usize),
-    Nothing,
-}
-
 // The place in its class of the component that the name matches; the class's count where none does.
 pub fn place_of_name(image: &[u8], class: u8, name: &[u8]) -> usize
     requires { Counted image.now × ((1 ≤ class) × (class ≤ 3)) }
@@ -31,15 +24,16 @@ pub fn place_of_name(image: &[u8], class: u8, name: &[u8]) -> usize
     components::first_named(image, start, start + count, Letters::Folded, name) - start
 }
 
-pub fn find(image: &[u8], class: u8, name: &[u8]) -> Found
+// The place, if the class has one.
+pub fn find(image: &[u8], class: u8, name: &[u8]) -> Option<usize>
     requires { Counted image.now × ((1 ≤ class) × (class ≤ 3)) }
     ensures { result ≡ found_of image.now class name.now }
 {
     let p = place_of_name(image, class, name);
     if p < layout::class_count(image, class) {
-        Found::At(p)
+        Some(p)
     } else {
-        Found::Nothing
+        None
     }
 }
 
@@ -52,7 +46,7 @@ fn is_named(image: &[u8], i: usize, name: &[u8]) -> bool
 }
 
 // A place of the class at which the hints tell the name and the component has it. Where they tell none, nothing is known: the class may have the name.
-fn hinted(image: &[u8], class: u8, hints: &Hints, name: &[u8]) -> Found
+fn hinted(image: &[u8], class: u8, hints: &Hints, name: &[u8]) -> Option<usize>
     requires { Counted image.now }
     ensures { ToldOf image.now class name.now result }
 {
@@ -64,22 +58,21 @@ fn hinted(image: &[u8], class: u8, hints: &Hints, name: &[u8]) -> Found
         let p = wide(hints[k]);
         if p < count {
             if is_named(image, start + p, name) {
-                return Found::At(p);
+                return Some(p);
             }
         }
         k += 1;
     }
-    Found::Nothing
+    None
 }
 
 // The same as `find`. The names of a class differ, so that a component that has the name is the only one.
-pub fn find_by(image: &[u8], class: u8, hints: &Hints, name: &[u8]) -> Found
+pub fn find_by(image: &[u8], class: u8, hints: &Hints, name: &[u8]) -> Option<usize>
     requires { IsAccepted image.now × ((1 ≤ class) × (class ≤ 3)) }
     ensures { result ≡ found_of image.now class name.now }
 {
-    let told = hinted(image, class, hints, name);
-    let Found::At(p) = told else {
+    let Some(p) = hinted(image, class, hints, name) else {
         return find(image, class, name);
     };
-    Found::At(p)
+    Some(p)
 }

@@ -1,4 +1,5 @@
 -- What is left of the report at a cursor, the parts that are written from it on, and the parts of a run joined. Assumes nothing.
+use Rattle.std.proofs.Common.{Err}
 use Prim.Native.Nat.{ℕ, zero, suc, zero-le, ◌+◌, ◌-◌, ◌*◌, ◌≤◌, ◌<◌}
 use mathlib.Core.Path.{◌≡◌, refl, sym, ap, ◌∙◌}
 use mathlib.Core.Bool.{Bool, true, false, cond, true≢false}
@@ -16,7 +17,6 @@ use Rattle.hierarchy.specs.Below.{Tabled}
 use Rattle.image.specs.Check.{check_of, IsAccepted}
 use Rattle.refusals.specs.declared.Refusal.{Refusal}
 use Rattle.refusals.specs.declared.Refusal.TheVariants.{ImageLength}
-use Rattle.refusals.specs.declared.answers.Checked.TheVariants.{Refused}
 use Rattle.lines.specs.declared.parts.Cursor.{Cursor}
 use Rattle.lines.specs.Lines.{users_from, report_of, refused_line, output_of}
 use Rattle.lines.specs.Parts.{user_rest, rest_from, rest_of, start, steps_at, NextPart, FirstPart, LongOutput, PartsOf, last, and_then, FilledFrom}
@@ -130,7 +130,7 @@ module _ (im table : List ℕ) where
   first-accepted acc tabled after =
       record { part = record { inside = zero-le; joined = rw acc (rest-start im) }; going = λ more. (acc, tabled) }
 
-  pub first-refused : (r : Refusal) → check_of im ≡ Refused r → (b : List ℕ) → 64 ≤ length b → {after : List ℕ} {n : ℕ}
+  pub first-refused : (r : Refusal) → check_of im ≡ Err r → (b : List ℕ) → 64 ≤ length b → {after : List ℕ} {n : ℕ}
       → Written b 0 (refused_line r) after n → n ≤ 64 → FirstPart im table after (record { next = start; length = n; more = false })
   unfolding output_of
   first-refused r refused b room {after} {n} w short =

@@ -1,4 +1,5 @@
 -- The report says what the calls say, and input past the buffer is refused 1. Assumes nothing.
+use Rattle.std.proofs.Common.{Ok}
 use Prim.Native.Nat.{ℕ, ◌%◌, ◌<◌}
 use mathlib.Core.Path.{◌≡◌}
 use mathlib.Core.Bool.{◌&&◌, and-false}
@@ -19,7 +20,6 @@ use Rattle.labels.specs.Label.{label_at}
 use Rattle.sessions.specs.Session.{session_rights}
 use Rattle.sessions.specs.Opening.{session, default_session, open_accepted, open_of}
 use Rattle.sessions.specs.Asking.{may_read_of, may_write_of}
-use Rattle.refusals.specs.Answers.{verdict_of}
 use Rattle.sessions.proofs.Passing.{default-lent}
 use Rattle.lines.specs.Lines.{refused_line, output_of}
 
@@ -32,12 +32,12 @@ module _ (im : List ℕ) (acc : IsAccepted im) (u : ℕ) (here : u < users im) w
   -- the letters of a line are what `may_read` and `may_write` answer that session for the line's tag
   module _ (k : ℕ) (there : k < labels im) where
     pub reads-said : may_read_of im (default_session im u) (tag_of (label_record im k))
-        ≡ verdict_of (reads_label (session_rights im (default_session im u)) (label_at im k))
+        ≡ Ok (reads_label (session_rights im (default_session im u)) (label_at im k))
     unfolding may_read_of may_read known_tag
     reads-said = rw (default-lent im acc u here, label-found im acc k there, lt-ltb k (labels im) there)
 
     pub writes-said : may_write_of im (default_session im u) (tag_of (label_record im k))
-        ≡ verdict_of (writes_label (session_rights im (default_session im u)) (label_at im k))
+        ≡ Ok (writes_label (session_rights im (default_session im u)) (label_at im k))
     unfolding may_write_of may_write known_tag
     writes-said = rw (default-lent im acc u here, label-found im acc k there, lt-ltb k (labels im) there)
 

@@ -11,7 +11,6 @@ use access::rights::View;
 use header::layout;
 use hierarchy::table::Table;
 use image::check_table;
-use refusals::answers::Checked;
 use sessions::given::opened_rights;
 
 // The line to go on with: the places of its user and its label record.
@@ -102,14 +101,13 @@ pub fn first_part(image: &[u8], table: &mut Table, buffer: &mut [u8]) -> Part
     ensures { FirstPart image.now table.new buffer.new result }
 {
     let next = Cursor { user: 0, label: 0 };
-    let answer = check_table(image, table);
-    match answer {
-        Checked::Accepted => Part {
+    match check_table(image, table) {
+        Ok(()) => Part {
             next,
             length: 0,
             more: true,
         },
-        Checked::Refused(refusal) => {
+        Err(refusal) => {
             let length = refusal_line(refusal, buffer);
             Part {
                 next,

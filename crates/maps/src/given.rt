@@ -11,7 +11,6 @@ use crate::making::put_asked;
 use crate::whole::{is_whole, put_whole};
 use access::rights::View;
 use access::verdicts::reads_all;
-use buffers::answers::Filled;
 use header::layout;
 use refusals::Refusal;
 use sets::word;
@@ -45,15 +44,15 @@ pub fn put_map(image: &[u8], view: View, buffer: &mut [u8]) -> usize
 }
 
 // Refusal: 13.
-pub(crate) fn write_map(image: &[u8], view: View, buffer: &mut [u8]) -> Filled
+pub(crate) fn write_map(image: &[u8], view: View, buffer: &mut [u8]) -> Result<usize, Refusal>
     requires { Counted image.now }
     ensures { (result, buffer.new) ≡ written_to buffer.old (map_of image.now (rights_of view)) }
 {
     if buffer.len() < map_length(image) {
-        return Filled::Refused(Refusal::Room);
+        return Err(Refusal::Room);
     }
     let length = put_map(image, view, buffer);
-    Filled::Done(length)
+    Ok(length)
 }
 
 // Are those bytes the map? They are compared where they stand, with no map made.

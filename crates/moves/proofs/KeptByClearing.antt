@@ -1,5 +1,7 @@
 -- What the clearing move keeps: the image is accepted, nobody holds COMPACCESS any more, the same sessions open and are accepted, users without the bit
 -- keep every verdict, and holders lose none but what COMPACCESS gave. Assumes nothing.
+use Rattle.std.proofs.Common.{Ok, Err}
+use Rattle.refusals.specs.Answers.{Amount, Verdict}
 use Prim.Native.Nat.{ℕ, ◌≤◌, ◌<◌}
 use mathlib.Core.Path.{◌≡◌, refl, sym, ap, ◌∙◌}
 use mathlib.Core.Bool.{Bool, true, false, cond, ◌||◌}
@@ -11,9 +13,7 @@ use lib.ListN.{length, take, drop}
 use Rattle.fields.specs.Bytes.{AreBytes}
 use Rattle.fields.proofs.PlacesWhere.{nowhere}
 use Rattle.refusals.specs.declared.Refusal.TheVariants.{Room, CompaccessHolders, MoveLimits}
-use Rattle.refusals.specs.declared.answers.Verdict.TheVariants as verdict
 use Rattle.refusals.specs.Refusals.{number_of}
-use Rattle.refusals.specs.Answers.{verdict_of}
 use Rattle.buffers.specs.Pasting.{at_front}
 use Rattle.header.specs.declared.edition.Edition.TheVariants.{One}
 use Rattle.header.specs.Layout.{edition_of, users, user_record}
@@ -25,8 +25,6 @@ use Rattle.access.specs.Verdicts.{known_tag, may_read, may_write}
 use Rattle.sessions.specs.Session.{SessionMarks, lent_answer, session_rights}
 use Rattle.sessions.specs.Opening.{open_of}
 use Rattle.sessions.specs.Asking.{may_read_of, may_write_of}
-use Rattle.buffers.specs.declared.answers.Filled.{Filled}
-use Rattle.buffers.specs.declared.answers.Filled.TheVariants as filled
 use Rattle.moves.specs.declared.target.Move.TheVariants.{Up, Clear}
 use Rattle.moves.specs.Moved.{new_image}
 use Rattle.moves.specs.Holders.{is_holder, holders}
@@ -50,7 +48,7 @@ pub record KeptByClearing (im new : List ℕ) : Type 0 where
   pub edition : edition_of new ≡ One
   -- nobody holds COMPACCESS, so that a move up is not refused 36
   pub list : holders new ≡ []
-  pub movable : (buffer after : List ℕ) (count : ℕ) → move_up_of new buffer ≡ (filled.Refused (CompaccessHolders count), after) → ⊥
+  pub movable : (buffer after : List ℕ) (count : ℕ) → move_up_of new buffer ≡ (Err (CompaccessHolders count), after) → ⊥
   -- the same components, labels and users, but for that privilege
   pub holds : HoldsTheSame (held_after Clear) im new
   -- the same session opens for each name, the same sessions are accepted, and the others refused in the same way; the same tags are known
@@ -104,19 +102,19 @@ module _ (im : List ℕ) (acc : IsAccepted im) (one : edition_of im ≡ One) whe
       ap (λ (held : ℕ). with_privileges held (session_rights im s)) (none-gone (privileges (user_record im s.user)) e)
 
   verdict-kept : (s : SessionMarks) (f g : Rights → Bool) → ((rights : Rights) → f rights ≡ g rights) → is_holder im s.user ≡ false
-      → verdict_of (f (cleared (session_rights im s))) ≡ verdict_of (g (session_rights im s))
-  verdict-kept s f g alike e = ap (λ (rights : Rights). verdict_of (f rights)) (rights-kept s e) ∙ ap verdict_of (alike (session_rights im s))
+      → ◌≡◌ {A = Verdict} (Ok (f (cleared (session_rights im s)))) (Ok (g (session_rights im s)))
+  verdict-kept s f g alike e = ap (λ (rights : Rights). Ok (f rights)) (rights-kept s e) ∙ ap Ok (alike (session_rights im s))
 
   kept-reads : (s : SessionMarks) (tag : ℕ) → is_holder im s.user ≡ false → may_read_of new s tag ≡ may_read_of im s tag
   unfolding may_read_of
   kept-reads s tag e =
-      ask-alike im new same acc acc-new s verdict.Refused (λ r. verdict_of (may_read new r tag)) (λ r. verdict_of (may_read im r tag))
+      ask-alike im new same acc acc-new s Err (λ r. Ok (may_read new r tag)) (λ r. Ok (may_read im r tag))
       (verdict-kept s (λ r. may_read new r tag) (λ r. may_read im r tag) (λ r. read_same r tag) e)
 
   kept-writes : (s : SessionMarks) (tag : ℕ) → is_holder im s.user ≡ false → may_write_of new s tag ≡ may_write_of im s tag
   unfolding may_write_of
   kept-writes s tag e =
-      ask-alike im new same acc acc-new s verdict.Refused (λ r. verdict_of (may_write new r tag)) (λ r. verdict_of (may_write im r tag))
+      ask-alike im new same acc acc-new s Err (λ r. Ok (may_write new r tag)) (λ r. Ok (may_write im r tag))
       (verdict-kept s (λ r. may_write new r tag) (λ r. may_write im r tag) (λ r. write_same r tag) e)
 
   lost-reads : (s : SessionMarks) (tag : ℕ) → s.user < users im
@@ -128,18 +126,18 @@ module _ (im : List ℕ) (acc : IsAccepted im) (one : edition_of im ≡ One) whe
   lost-writes s tag h = rw (rights-cleared s h, write_same (cleared (session_rights im s)) tag) (less-writes (session_rights im s) im tag)
 
   -- ---- a move up afterwards
-  number_after : Filled × List ℕ → ℕ
-  number_after (filled.Done n, after) = 0
-  number_after (filled.Refused r, after) = number_of r
+  number_after : Amount × List ℕ → ℕ
+  number_after (Ok n, after) = 0
+  number_after (Err r, after) = number_of r
 
-  not-refused : (buffer after : List ℕ) (count : ℕ) → move_up_of new buffer ≡ (filled.Refused (CompaccessHolders count), after) → ⊥
+  not-refused : (buffer after : List ℕ) (count : ℕ) → move_up_of new buffer ≡ (Err (CompaccessHolders count), after) → ⊥
   unfolding move_up_of number_after
   not-refused buffer after count q =
       at (move_limits_rule new) (leb (length (new_image Up new)) (length buffer))
       (sym (rw (accepted-old new acc-new new-one, eq-eqb (length (holders new)) 0 (ap length no-holders)) at q))
     where
-      at : (s t : Bool) → (filled.Refused (CompaccessHolders count), after)
-          ≡ cond {A = Filled × List ℕ} s (cond t (filled.Done (length (new_image Up new)), at_front (new_image Up new) buffer) (unfilled buffer Room))
+      at : (s t : Bool) → (Err (CompaccessHolders count), after)
+          ≡ cond {A = Amount × List ℕ} s (cond t (Ok (length (new_image Up new)), at_front (new_image Up new) buffer) (unfilled buffer Room))
           (unfilled buffer MoveLimits) → ⊥
       at true true e = let z : ◌≡◌ {A = ℕ} 36 0 = ap number_after e in omega arith
       at true false e = let z : ◌≡◌ {A = ℕ} 36 13 = ap number_after e in omega arith
@@ -170,7 +168,7 @@ pub record ClearedBy (im buffer after : List ℕ) (n : ℕ) : Type 0 where
   pub only : AreBytes im → ClearedOnly im (take n after)
   pub later : drop n after ≡ drop n buffer
 
-pub cleared-by-call : (im buffer after : List ℕ) (n : ℕ) → clear_compaccess_of im buffer ≡ (filled.Done n, after) → ClearedBy im buffer after n
+pub cleared-by-call : (im buffer after : List ℕ) (n : ℕ) → clear_compaccess_of im buffer ≡ (Ok n, after) → ClearedBy im buffer after n
 unfolding clear_compaccess_of
 cleared-by-call im buffer after n q =
     let told = checked-done buffer (new_image Clear im) after n (old_check_of im) q in

@@ -1,5 +1,6 @@
 -- What a move up keeps, all of it: the new image is accepted, holds the same, opens and accepts the same sessions and gives them the same
 -- verdicts on every tag that the old one knows; a tag that it does not know is denied. Assumes nothing.
+use Rattle.std.proofs.Common.{Ok, Err}
 use Prim.Native.Nat.{ℕ, ◌≤◌}
 use mathlib.Core.Path.{◌≡◌, refl, ap, ◌∙◌}
 use mathlib.Core.Bool.{Bool, true, false, cond}
@@ -10,9 +11,7 @@ use Rattle.fields.proofs.Both.{both}
 use Rattle.header.specs.declared.edition.Edition.TheVariants.{Two}
 use Rattle.header.specs.Layout.{edition_of}
 use Rattle.refusals.specs.declared.Refusal.TheVariants.{ImageLayout, CompaccessHolders, MoveLimits}
-use Rattle.refusals.specs.declared.answers.Checked.{Checked}
-use Rattle.refusals.specs.Answers.{on_checked}
-use Rattle.refusals.specs.declared.answers.Checked.TheVariants.{Accepted, Refused}
+use Rattle.refusals.specs.Answers.{on_checked, Amount, Checked}
 use Rattle.image.specs.Check.{IsAccepted}
 use Rattle.image.proofs.Accepted.{accepted-counted}
 use Rattle.access.specs.Rights.{Rights}
@@ -25,8 +24,6 @@ use Rattle.moves.specs.Moved.{new_image}
 use Rattle.moves.specs.Holders.{holders}
 use Rattle.buffers.specs.Filling.{unfilled, written_to}
 use Rattle.moves.specs.Moving.{move_limits_rule, old_check_of, move_up_of}
-use Rattle.buffers.specs.declared.answers.Filled.{Filled}
-use Rattle.buffers.specs.declared.answers.Filled.TheVariants as filled
 use Rattle.moves.proofs.HoldsSame.{HoldsTheSame}
 use Rattle.moves.proofs.RecordsAlike.{held_after}
 use Rattle.moves.proofs.NewImage.{taken_rule, moved-edition}
@@ -50,7 +47,7 @@ pub record KeptByMove (im new : List ℕ) : Type 0 where
   -- the new image is accepted, and of edition 2: to move it again is 31
   pub accepted : IsAccepted new
   pub edition : edition_of new ≡ Two
-  pub once : old_check_of new ≡ Refused ImageLayout
+  pub once : old_check_of new ≡ Err ImageLayout
   -- the same components, labels and users
   pub holds : HoldsTheSame (held_after Up) im new
   -- the same session opens for each name
@@ -66,7 +63,7 @@ pub record KeptByMove (im new : List ℕ) : Type 0 where
   pub unwritten : (rights : Rights) (tag : ℕ) → known_tag im tag ≡ false → may_write new rights tag ≡ false
 
 -- of every image that a move up takes
-pub kept-by-move : (im : List ℕ) → old_check_of im ≡ Accepted → taken_rule Up im ≡ true → KeptByMove im (new_image Up im)
+pub kept-by-move : (im : List ℕ) → old_check_of im ≡ (Ok tt) → taken_rule Up im ≡ true → KeptByMove im (new_image Up im)
 kept-by-move im e taken =
     let acc = (old-accepted im e).0 in
     let old = (old-accepted im e).1 in
@@ -97,15 +94,15 @@ module _ (im buffer after : List ℕ) (n : ℕ) where
   laid : KeptByMove im (new_image Up im) → FrontDone buffer (new_image Up im) after n → MovedBy im buffer after n
   laid kept done = record { room = done.room; kept = rw done.front kept; later = done.later }
 
-  pub moved-by-call : move_up_of im buffer ≡ (filled.Done n, after) → MovedBy im buffer after n
+  pub moved-by-call : move_up_of im buffer ≡ (Ok n, after) → MovedBy im buffer after n
   unfolding move_up_of
   moved-by-call = at (old_check_of im) refl (move_limits_rule im) refl (eqb (length (holders im)) 0) refl
     where
       at : (c : Checked) → old_check_of im ≡ c → (s : Bool) → move_limits_rule im ≡ s → (h : Bool) → eqb (length (holders im)) 0 ≡ h
-          → on_checked {A = Filled × List ℕ} c (unfilled buffer)
+          → on_checked {A = Amount × List ℕ} c (unfilled buffer)
           (cond s (cond h (written_to buffer (new_image Up im)) (unfilled buffer (CompaccessHolders (length (holders im))))) (unfilled buffer MoveLimits))
-          ≡ (filled.Done n, after) → MovedBy im buffer after n
-      at Accepted e true s true h q = laid (kept-by-move im e (both _ _ s h)) (front-done buffer (new_image Up im) after n q)
-      at Accepted e true s false h q = absurd (refused-done (ap (λ (p : Filled × List ℕ). p.0) q))
-      at Accepted e false s h g q = absurd (refused-done (ap (λ (p : Filled × List ℕ). p.0) q))
-      at (Refused r) e s f h g q = absurd (refused-done (ap (λ (p : Filled × List ℕ). p.0) q))
+          ≡ (Ok n, after) → MovedBy im buffer after n
+      at (Ok tt) e true s true h q = laid (kept-by-move im e (both _ _ s h)) (front-done buffer (new_image Up im) after n q)
+      at (Ok tt) e true s false h q = absurd (refused-done (ap (λ (p : Amount × List ℕ). p.0) q))
+      at (Ok tt) e false s h g q = absurd (refused-done (ap (λ (p : Amount × List ℕ). p.0) q))
+      at (Err r) e s f h g q = absurd (refused-done (ap (λ (p : Amount × List ℕ). p.0) q))

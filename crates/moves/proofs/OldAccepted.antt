@@ -1,4 +1,5 @@
 -- What the check of an image of edition 1 tells: it accepts exactly the accepted images of edition 1. Assumes nothing.
+use Rattle.std.proofs.Common.{Ok, Err}
 use Prim.Native.Nat.{ℕ, ◌<◌, zero-le}
 use mathlib.Core.Path.{◌≡◌, refl, sym, ◌∙◌, subst}
 use mathlib.Core.Bool.{Bool, true, false, cond, ◌&&◌, true≢false, and-false}
@@ -13,7 +14,6 @@ use Rattle.header.specs.declared.edition.Edition.{Edition}
 use Rattle.header.specs.declared.edition.Edition.TheVariants.{One, Two}
 use Rattle.header.specs.Layout.{edition_of}
 use Rattle.refusals.specs.declared.Refusal.TheVariants.{ImageLayout}
-use Rattle.refusals.specs.declared.answers.Checked.TheVariants.{Accepted, Refused}
 use Rattle.image.specs.Check.{IsAccepted, check_of}
 use Rattle.image.specs.Exactly.{Framed}
 use Rattle.image.proofs.Accepted.{keeps, refused-not}
@@ -27,7 +27,7 @@ module _ (im : List ℕ) where
       let sound = all-good (block_rule im) (block_count im) 0 (λ b low high. f.blocks b (rw zero-add at high)) ∙ zero-add (block_count im) in
       rw (f.length, e, eq-eqb _ _ sound)
 
-  pub framed-refused : Framed im → edition_of im ≡ Two → old_check_of im ≡ Refused ImageLayout
+  pub framed-refused : Framed im → edition_of im ≡ Two → old_check_of im ≡ Err ImageLayout
   unfolding old_check_of
   framed-refused f e = rw (two-framed f e)
 
@@ -35,7 +35,7 @@ module _ (im : List ℕ) where
   framed : IsAccepted im → Framed im
   framed acc = let k = keeps im acc in record { length = k.length; blocks = k.blocks }
 
-  pub new-refused : IsAccepted im → edition_of im ≡ Two → old_check_of im ≡ Refused ImageLayout
+  pub new-refused : IsAccepted im → edition_of im ≡ Two → old_check_of im ≡ Err ImageLayout
   new-refused acc = framed-refused (framed acc)
 
   -- an image of edition 1 is answered as by the check
@@ -52,7 +52,7 @@ module _ (im : List ℕ) where
       unbroken e b h = unfold first_bad_block in good-before (block_rule im) (block_count im) 0 b zero-le (subst (λ (n : ℕ). b < n) (sym e) h)
 
       at : (t : Bool) → (length_rule im && is_two (edition_of im) && eqb (first_bad_block im) (block_count im)) ≡ t
-          → cond t (Refused ImageLayout) (check_of im) ≡ check_of im
+          → cond t (Err ImageLayout) (check_of im) ≡ check_of im
       at true e =
           let q2 = parts _ _ e in
           let q1 = parts _ _ q2.0 in
@@ -66,13 +66,13 @@ module _ (im : List ℕ) where
       at One q = refl
       at Two q = absurd (true≢false (sym (two-framed (framed acc) q) ∙ f))
 
-  pub old-accepted : old_check_of im ≡ Accepted → IsAccepted im × (edition_of im ≡ One)
+  pub old-accepted : old_check_of im ≡ (Ok tt) → IsAccepted im × (edition_of im ≡ One)
   unfolding old_check_of
   old-accepted = at (framed_two im) refl
     where
-      at : (t : Bool) → framed_two im ≡ t → cond t (Refused ImageLayout) (check_of im) ≡ Accepted → IsAccepted im × (edition_of im ≡ One)
+      at : (t : Bool) → framed_two im ≡ t → cond t (Err ImageLayout) (check_of im) ≡ (Ok tt) → IsAccepted im × (edition_of im ≡ One)
       at true f e = absurd (refused-not ImageLayout e)
       at false f e = (e, edition-one e f)
 
-  pub accepted-old : IsAccepted im → edition_of im ≡ One → old_check_of im ≡ Accepted
+  pub accepted-old : IsAccepted im → edition_of im ≡ One → old_check_of im ≡ Ok tt
   accepted-old acc e = one-checked e ∙ acc

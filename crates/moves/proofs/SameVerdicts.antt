@@ -1,5 +1,6 @@
 -- Two accepted images that hold the same accept the same sessions, and give the same rights the same verdict on every tag that they know. A session's
 -- rights are the same but for privileges. Assumes nothing.
+use Rattle.std.proofs.Common.{Ok, Err}
 use Prim.Native.Nat.{ℕ, ◌<◌}
 use mathlib.Core.Path.{◌≡◌, refl, sym, ap, ap₂, ◌∙◌}
 use mathlib.Core.Bool.{Bool, true, false, not, ◌&&◌}
@@ -15,10 +16,7 @@ use Rattle.image.specs.Check.{IsAccepted}
 use Rattle.image.specs.Lookup.{label_of_tag}
 use Rattle.refusals.specs.declared.Refusal.{Refusal}
 use Rattle.refusals.specs.declared.Refusal.TheVariants.{SessionRules}
-use Rattle.refusals.specs.declared.answers.Checked.{Checked}
-use Rattle.refusals.specs.declared.answers.Checked.TheVariants.{Accepted, Refused}
-use Rattle.refusals.specs.declared.answers.Verdict.TheVariants as verdict
-use Rattle.refusals.specs.Answers.{or_refuse, allowed, on_checked, verdict_of}
+use Rattle.refusals.specs.Answers.{or_refuse, allowed, on_checked, Checked}
 use Rattle.labels.specs.Label.{Marks, label_at}
 use Rattle.access.specs.Rights.{Rights, rights_at, write_compartments_of, write_groups_of, with_privileges}
 use Rattle.access.specs.NewLabels.{row_inside, session_groups_rule, session_label_answer, row_label_answer, session_rule}
@@ -140,7 +138,7 @@ module _ {change : ℕ → ℕ} (im new : List ℕ) (same : HoldsTheSame change 
 -- ---- a lent session
 -- of an accepted image: 19 unless the session meets its rules
 lent_is : (im : List ℕ) → IsAccepted im → (s : SessionMarks)
-    → lent_answer im s ≡ or_refuse (session_rule im s.user s.label s.row) SessionRules Accepted
+    → lent_answer im s ≡ or_refuse (session_rule im s.user s.label s.row) SessionRules (Ok tt)
 unfolding lent_answer
 lent_is im acc s = rw acc
 
@@ -149,7 +147,7 @@ module _ {change : ℕ → ℕ} (im new : List ℕ) (same : HoldsTheSame change 
   pub lent_alike : (s : SessionMarks) → lent_answer new s ≡ lent_answer im s
   lent_alike s =
       lent_is new acc-new s
-      ∙ ap (λ (rule : Bool). or_refuse rule SessionRules Accepted) (session-alike im new same s.user s.label s.row)
+      ∙ ap (λ (rule : Bool). or_refuse rule SessionRules (Ok tt)) (session-alike im new same s.user s.label s.row)
       ∙ sym (lent_is im acc s)
 
   -- what is asked of a session's rights is the same where it is so for the rights before and after
@@ -165,8 +163,8 @@ module _ {change : ℕ → ℕ} (im new : List ℕ) (same : HoldsTheSame change 
           (rights-after im new same s.user (ltb-true s.user (users im) e) s.label)
           ∙ ap (on_checked (lent_answer im s) refuse) same_at
       at false e =
-          let no : lent_answer im s ≡ Refused SessionRules =
-          lent_is im acc s ∙ ap (λ (rule : Bool). or_refuse rule SessionRules Accepted) (no-user im new same s.user s.label s.row e) in
+          let no : lent_answer im s ≡ Err SessionRules =
+          lent_is im acc s ∙ ap (λ (rule : Bool). or_refuse rule SessionRules (Ok tt)) (no-user im new same s.user s.label s.row e) in
           rw (lent_alike s, no)
 
 -- and so are the verdicts on a tag that a label carries, where privileges stay
@@ -175,11 +173,11 @@ module _ (im new : List ℕ) (same : HoldsTheSame (λ held. held) im new) (acc :
   pub may-read-alike : may_read_of new s tag ≡ may_read_of im s tag
   unfolding may_read_of
   may-read-alike =
-      ask-alike im new same acc acc-new s verdict.Refused (λ r. verdict_of (may_read new r tag)) (λ r. verdict_of (may_read im r tag))
-      (ap verdict_of (reads-alike im new same tag known (session_rights im s)))
+      ask-alike im new same acc acc-new s Err (λ r. Ok (may_read new r tag)) (λ r. Ok (may_read im r tag))
+      (ap Ok (reads-alike im new same tag known (session_rights im s)))
 
   pub may-write-alike : may_write_of new s tag ≡ may_write_of im s tag
   unfolding may_write_of
   may-write-alike =
-      ask-alike im new same acc acc-new s verdict.Refused (λ r. verdict_of (may_write new r tag)) (λ r. verdict_of (may_write im r tag))
-      (ap verdict_of (writes-alike im new same tag known (session_rights im s)))
+      ask-alike im new same acc acc-new s Err (λ r. Ok (may_write new r tag)) (λ r. Ok (may_write im r tag))
+      (ap Ok (writes-alike im new same tag known (session_rights im s)))

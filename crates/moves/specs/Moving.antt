@@ -1,11 +1,8 @@
 -- The answers of `move_up`, `compaccess_users` and `clear_compaccess`, and the lent buffer after each.
-use Rattle.std.specs.Prelude.{ℕ, Bool, true, false, cond, ◌&&◌, List, eqb, leb, length}
+use Rattle.std.specs.Prelude.{ℕ, Bool, true, false, cond, ◌&&◌, List, eqb, leb, length, Err}
 use Rattle.refusals.specs.declared.Refusal.TheVariants.{ImageLayout, CompaccessHolders, MoveLimits}
-use Rattle.refusals.specs.declared.answers.Checked.{Checked}
-use Rattle.refusals.specs.declared.answers.Checked.TheVariants.{Refused}
-use Rattle.refusals.specs.Answers.{on_checked}
+use Rattle.refusals.specs.Answers.{on_checked, Amount, Checked}
 use Rattle.buffers.specs.Filling.{unfilled, written_to}
-use Rattle.buffers.specs.declared.answers.Filled.{Filled}
 use Rattle.blocks.specs.Blocks.{length_rule, block_count, first_bad_block}
 use Rattle.header.specs.declared.edition.Edition.{Edition}
 use Rattle.header.specs.declared.edition.Edition.TheVariants.{One, Two}
@@ -27,7 +24,7 @@ framed_two im = length_rule im && is_two (edition_of im) && eqb (first_bad_block
 
 -- 1 and 2; 31 for edition 2, as for a header fault; then 31 to 35
 unfoldable pub old_check_of : List ℕ → Checked
-old_check_of im = cond (framed_two im) (Refused ImageLayout) (check_of im)
+old_check_of im = cond (framed_two im) (Err ImageLayout) (check_of im)
 
 -- ---- `move_up`
 -- edition 2 has room for the labels and the users
@@ -35,20 +32,20 @@ unfoldable pub move_limits_rule : List ℕ → Bool
 move_limits_rule im = leb (labels im) (limits_in Two).labels && leb (users im) (limits_in Two).users
 
 -- 37, then 36 with the number of those who hold COMPACCESS, then 13
-abbrev pub move_accepted : List ℕ → List ℕ → Filled × List ℕ
+abbrev pub move_accepted : List ℕ → List ℕ → Amount × List ℕ
 move_accepted im buffer =
     let count = length (holders im) in
     cond (move_limits_rule im)
     (cond (eqb count 0) (written_to buffer (new_image Up im)) (unfilled buffer (CompaccessHolders count)))
     (unfilled buffer MoveLimits)
 
-unfoldable pub move_up_of : List ℕ → List ℕ → Filled × List ℕ
+unfoldable pub move_up_of : List ℕ → List ℕ → Amount × List ℕ
 move_up_of im buffer = on_checked (old_check_of im) (unfilled buffer) (move_accepted im buffer)
 
 -- ---- `compaccess_users`: their places, one byte each
-unfoldable pub compaccess_users_of : List ℕ → List ℕ → Filled × List ℕ
+unfoldable pub compaccess_users_of : List ℕ → List ℕ → Amount × List ℕ
 compaccess_users_of im buffer = on_checked (old_check_of im) (unfilled buffer) (written_to buffer (holders im))
 
 -- ---- `clear_compaccess`
-unfoldable pub clear_compaccess_of : List ℕ → List ℕ → Filled × List ℕ
+unfoldable pub clear_compaccess_of : List ℕ → List ℕ → Amount × List ℕ
 clear_compaccess_of im buffer = on_checked (old_check_of im) (unfilled buffer) (written_to buffer (new_image Clear im))

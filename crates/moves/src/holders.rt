@@ -6,7 +6,6 @@ ghost use Rattle.header.specs.Limits.{Counted};
 ghost use Rattle.moves.specs.Holders.{is_holder, holder_at, holders};
 ghost use Rattle.buffers.specs.Filling.{written_to};
 
-use buffers::answers::Filled;
 use buffers::given::put;
 use header::layout;
 use records::users::privileges;
@@ -67,13 +66,13 @@ fn put_holders(image: &[u8], buffer: &mut [u8]) -> usize
 }
 
 // Refusal: 13.
-pub(crate) fn list_accepted(image: &[u8], buffer: &mut [u8]) -> Filled
+pub(crate) fn list_accepted(image: &[u8], buffer: &mut [u8]) -> Result<usize, Refusal>
     requires { Counted image.now }
     ensures { (result, buffer.new) ≡ written_to buffer.old (holders image.now) }
 {
     if buffer.len() < holder_count(image) {
-        return Filled::Refused(Refusal::Room);
+        return Err(Refusal::Room);
     }
     let count = put_holders(image, buffer);
-    Filled::Done(count)
+    Ok(count)
 }

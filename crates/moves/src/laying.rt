@@ -10,7 +10,6 @@ ghost use Rattle.buffers.specs.Filling.{written_to};
 
 use crate::packing::{blocks_for, move_kind};
 use crate::target::{Move, edition_after};
-use buffers::answers::Filled;
 use header::layout;
 use header::layout::Kind;
 use header::profile::profile_of;
@@ -67,13 +66,13 @@ pub(crate) fn put_image(which: Move, image: &[u8], buffer: &mut [u8]) -> usize
 }
 
 // Refusal: 13.
-pub(crate) fn write_image(which: Move, image: &[u8], buffer: &mut [u8]) -> Filled
+pub(crate) fn write_image(which: Move, image: &[u8], buffer: &mut [u8]) -> Result<usize, Refusal>
     requires { Counted image.now × (edition_of image.now ≡ One) }
     ensures { (result, buffer.new) ≡ written_to buffer.old (new_image which image.now) }
 {
     if buffer.len() < new_length(which, image) {
-        return Filled::Refused(Refusal::Room);
+        return Err(Refusal::Room);
     }
     let length = put_image(which, image, buffer);
-    Filled::Done(length)
+    Ok(length)
 }

@@ -6,7 +6,6 @@ use blocks::frame::{first_bad_block, length_ok};
 use header::edition::{Edition, edition_of};
 use image::check;
 use refusals::Refusal;
-use refusals::answers::Checked;
 
 // Is it an image of edition 2 that neither 1 nor 2 refuses? The blocks of an image of edition 1 are not read for this.
 fn framed_two(image: &[u8]) -> bool
@@ -22,11 +21,11 @@ fn framed_two(image: &[u8]) -> bool
 }
 
 // Is it an accepted image of edition 1? Refusals: 1, 2, 31 for edition 2, then 31 to 35.
-pub(crate) fn old_check(image: &[u8]) -> Checked
+pub(crate) fn old_check(image: &[u8]) -> Result<(), Refusal>
     ensures { result ≡ old_check_of image.now }
 {
     if framed_two(image) {
-        return Checked::Refused(Refusal::ImageLayout);
+        return Err(Refusal::ImageLayout);
     }
     check(image)
 }

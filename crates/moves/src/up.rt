@@ -8,7 +8,6 @@ ghost use Rattle.moves.specs.Moving.{move_limits_rule, move_accepted};
 use crate::holders::holder_count;
 use crate::laying::write_image;
 use crate::target::Move;
-use buffers::answers::Filled;
 use header::edition::Edition;
 use header::layout;
 use header::limits::limits_in;
@@ -24,16 +23,16 @@ fn limits_ok(image: &[u8]) -> bool
 }
 
 // Refusals: 37, 36, 13.
-pub(crate) fn move_accepted(image: &[u8], buffer: &mut [u8]) -> Filled
+pub(crate) fn move_accepted(image: &[u8], buffer: &mut [u8]) -> Result<usize, Refusal>
     requires { Counted image.now × (edition_of image.now ≡ One) }
     ensures { (result, buffer.new) ≡ move_accepted image.now buffer.old }
 {
     if !limits_ok(image) {
-        return Filled::Refused(Refusal::MoveLimits);
+        return Err(Refusal::MoveLimits);
     }
     let count = holder_count(image);
     if count != 0 {
-        return Filled::Refused(Refusal::CompaccessHolders(count));
+        return Err(Refusal::CompaccessHolders(count));
     }
     write_image(Move::Up, image, buffer)
 }

@@ -1,5 +1,5 @@
 -- Printing a label: its level's name, then its lists with places rising; empty tails are dropped.
-use Rattle.std.specs.Prelude.{ℕ, zero, suc, ◌+◌, ◌≤◌, ◌<◌, ◌≡◌, true, cond, List, [], ◌∷◌, ◌++◌, leb, length, drop}
+use Rattle.std.specs.Prelude.{ℕ, zero, suc, ◌≤◌, ◌<◌, ◌≡◌, true, cond, List, [], ◌∷◌, ◌++◌, leb, length, drop, Ok, Err}
 use Rattle.buffers.specs.Pasting.{at_front}
 use Rattle.sets.specs.Sets.{has, empty}
 use Rattle.sets.specs.Groups.{width}
@@ -7,15 +7,11 @@ use Rattle.refusals.specs.declared.Refusal.{Refusal}
 use Rattle.refusals.specs.declared.Refusal.TheVariants.{NoComponent, Room}
 use Rattle.header.specs.Layout.{compartments, groups, component_record}
 use Rattle.records.specs.Fields.{component_name}
-use Rattle.refusals.specs.declared.answers.Checked.{Checked}
-use Rattle.refusals.specs.declared.answers.Checked.TheVariants.{Accepted}
-use Rattle.refusals.specs.Answers.{on_checked, or_refuse}
+use Rattle.refusals.specs.Answers.{on_checked, or_refuse, Amount, Checked}
 use Rattle.image.specs.Check.{check_of, IsAccepted}
 use Rattle.image.specs.Lookup.{component_index, has_component}
 use Rattle.labels.specs.Label.{Marks, label_exists}
 use Rattle.labels.specs.Text.{comma, colon}
-use Rattle.printing.specs.declared.answers.Printed.{Printed}
-use Rattle.printing.specs.declared.answers.Printed.TheVariants as printed
 
 -- the name of the component of that class at that place
 abbrev pub name_at : List ℕ → ℕ → ℕ → List ℕ
@@ -47,21 +43,21 @@ text_of im m =
 
 -- ---- what print answers, with the buffer after it
 -- a refusal changes nothing
-abbrev pub unprinted : List ℕ → Refusal → Printed × List ℕ
-unprinted buffer r = (printed.Refused r, buffer)
+abbrev pub unprinted : List ℕ → Refusal → Amount × List ℕ
+unprinted buffer r = (Err r, buffer)
 
 -- where the image is accepted: 18; then 13 where the text is longer than the buffer
 abbrev pub printable : List ℕ → Marks → List ℕ → Checked
 printable im m buffer =
-    or_refuse (label_exists im m) NoComponent (or_refuse (leb (length (text_of im m)) (length buffer)) Room Accepted)
+    or_refuse (label_exists im m) NoComponent (or_refuse (leb (length (text_of im m)) (length buffer)) Room (Ok tt))
 
 -- a print that is done reports its length and changes only its own bytes
-unfoldable pub accepted_answer : List ℕ → Marks → List ℕ → Printed × List ℕ
+unfoldable pub accepted_answer : List ℕ → Marks → List ℕ → Amount × List ℕ
 accepted_answer im m buffer =
-    on_checked (printable im m buffer) (unprinted buffer) (printed.Done (length (text_of im m)), at_front (text_of im m) buffer)
+    on_checked (printable im m buffer) (unprinted buffer) (Ok (length (text_of im m)), at_front (text_of im m) buffer)
 
 -- 1, 2, 31 to 35 before all others
-unfoldable pub print_of : List ℕ → Marks → List ℕ → Printed × List ℕ
+unfoldable pub print_of : List ℕ → Marks → List ℕ → Amount × List ℕ
 print_of im m buffer = on_checked (check_of im) (unprinted buffer) (accepted_answer im m buffer)
 
 -- ---- what the parts of print do

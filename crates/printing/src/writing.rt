@@ -8,7 +8,6 @@ ghost use Rattle.labels.specs.Label.{marks_of, label_exists};
 ghost use Rattle.printing.specs.Print.{name_at, entry_at, listed, section, text_of, accepted_answer, Named};
 ghost use Rattle.buffers.specs.Pasting.{Written};
 
-use crate::answers::Printed;
 use buffers::given::put;
 use header::layout;
 use image::lookup;
@@ -26,142 +25,111 @@ fn name_of<'a>(image: &'a [u8], class: u8, place: usize) -> &'a [u8]
     components::component_name(image, lookup::component_index(image, class, place))
 }
 
-// How many bytes a place adds to a list: where the set has it, a comma and the component's name.
-fn entry_length(image: &[u8], class: u8, place: usize, set: Groups) -> usize
-    requires { IsAccepted image.now × (has_component image.now class place ≡ true) }
-    ensures { (result ≡ length (entry_at image.now class (places_of set) place)) × (result ≤ 31) }
-{
-    if !set.has(place) {
-        return 0;
-    }
-    1 + name_of(image, class, place).len()
-}
-
-// How many bytes the names of the set's places need, with a comma before each.
-fn list_length(image: &[u8], class: u8, count: usize, set: Groups) -> usize
-    requires { Named image.now class count }
-    ensures { (result ≡ length (listed image.now class (places_of set) count 0)) × (result ≤ 31 * count) }
-{
-    let mut n = 0;
-    let mut k = 0;
-    while k < count {
-        n += entry_length(image, class, k, set);
-        k += 1;
-    }
-    n
-}
-
-// Writes what a place adds to a list.
-fn write_entry(
-    image: &[u8],
-    class: u8,
-    place: usize,
-    set: Groups,
-    buffer: &mut [u8],
-    at: usize,
-) -> usize
-    requires accepted { IsAccepted image.now × (has_component image.now class place ≡ true) }
-    requires place_in_bounds { at + length (entry_at image.now class (places_of set) place) ≤ length buffer.old }
-    ensures { Written buffer.old at (entry_at image.now class (places_of set) place) buffer.new result }
-{
-    if !set.has(place) {
-        return at;
-    }
-    let name = name_of(image, class, place);
-    buffer[at] = 44;
-    put(name, buffer, at + 1)
-}
-
-// Writes the names of the set's places with a comma before each.
-fn write_list(
-    image: &[u8],
+// A colon and a list: the names of the places of a set, in a class of an accepted image that has so many components.
+#[derive(Drop)]
+struct Section<'a> {
+    image: &'a [u8],
     class: u8,
     count: usize,
     set: Groups,
-    buffer: &mut [u8],
-    at: usize,
-) -> usize
-    requires named { Named image.now class count }
-    requires count_in_bounds { at + length (listed image.now class (places_of set) count 0) ≤ length buffer.old }
-    ensures { Written buffer.old at (listed image.now class (places_of set) count 0) buffer.new result }
-{
-    let mut end = at;
-    let mut p = 0;
-    while p < count {
-        end = write_entry(image, class, p, set, buffer, end);
-        p += 1;
+    ghost named: { Named image.now class count },
+}
+
+impl<'a> Section<'a> {
+    fn compartments(image: &'a [u8], set: u64) -> Section<'a>
+        requires { IsAccepted image.now }
+        ensures { section result.image.now result.class result.count (places_of result.set) ≡ section image.now 2 (compartments image.now) set }
+    {
+        Section {
+            image,
+            class: 2,
+            count: layout::compartments(image),
+            set: Groups::of_word(set),
+        }
     }
-    end
-}
 
-// How many bytes a colon and a list need: the colon stands where the list has its first comma.
-fn section_length(image: &[u8], class: u8, count: usize, set: Groups) -> usize
-    requires { Named image.now class count }
-    ensures { (result ≡ length (section image.now class count (places_of set))) × (result ≤ 1 + 31 * count) }
-{
-    let n = list_length(image, class, count, set);
-    if n == 0 {
-        return 1;
+    fn groups(image: &'a [u8], set: Groups) -> Section<'a>
+        requires { IsAccepted image.now }
+        ensures { section result.image.now result.class result.count (places_of result.set) ≡ section image.now 3 (groups image.now) (places_of set) }
+    {
+        Section {
+            image,
+            class: 3,
+            count: layout::groups(image),
+            set,
+        }
     }
-    n
-}
 
-// Writes a colon and a list.
-fn write_section(
-    image: &[u8],
-    class: u8,
-    count: usize,
-    set: Groups,
-    buffer: &mut [u8],
-    at: usize,
-) -> usize
-    requires named { Named image.now class count }
-    requires set_in_bounds { at + length (section image.now class count (places_of set)) ≤ length buffer.old }
-    ensures { Written buffer.old at (section image.now class count (places_of set)) buffer.new result }
-{
-    let end = write_list(image, class, count, set, buffer, at);
-    buffer[at] = 58;
-    if end == at {
-        return at + 1;
+    // How many bytes a place adds to the list: where the set has it, a comma and the component's name.
+    fn entry_length(&self, place: usize) -> usize
+        requires { place < self.now.count }
+        ensures { (result ≡ length (entry_at self.now.image.now self.now.class (places_of self.now.set) place)) × (result ≤ 31) }
+    {
+        if !self.set.has(place) {
+            return 0;
+        }
+        1 + name_of(self.image, self.class, place).len()
     }
-    end
-}
 
-// How many bytes a colon and the compartments need.
-fn compartments_length(image: &[u8], set: u64) -> usize
-    requires { IsAccepted image.now }
-    ensures { (result ≡ length (section image.now 2 (compartments image.now) set)) × (result ≤ 1985) }
-{
-    section_length(image, 2, layout::compartments(image), Groups::of_word(set))
-}
+    // How many bytes the names of the set's places need, with a comma before each.
+    fn list_length(&self) -> usize
+        ensures { (result ≡ length (listed self.now.image.now self.now.class (places_of self.now.set) self.now.count 0)) × (result ≤ 31 * self.now.count) }
+    {
+        let mut n = 0;
+        for k in 0..self.count {
+            n += self.entry_length(k);
+        }
+        n
+    }
 
-// How many bytes a colon and the groups need.
-fn groups_length(image: &[u8], set: Groups) -> usize
-    requires { IsAccepted image.now }
-    ensures { (result ≡ length (section image.now 3 (groups image.now) (places_of set))) × (result ≤ 7937) }
-{
-    section_length(image, 3, layout::groups(image), set)
-}
+    // Writes what a place adds to the list.
+    fn write_entry(&self, place: usize, buffer: &mut [u8], at: usize) -> usize
+        requires placed { place < self.now.count }
+        requires place_in_bounds { at + length (entry_at self.now.image.now self.now.class (places_of self.now.set) place) ≤ length buffer.old }
+        ensures { Written buffer.old at (entry_at self.now.image.now self.now.class (places_of self.now.set) place) buffer.new result }
+    {
+        if !self.set.has(place) {
+            return at;
+        }
+        let name = name_of(self.image, self.class, place);
+        buffer[at] = b',';
+        put(name, buffer, at + 1)
+    }
 
-// Writes a colon and the compartments.
-fn write_compartments(image: &[u8], set: u64, buffer: &mut [u8], at: usize) -> usize
-    requires accepted { IsAccepted image.now }
-    requires set_in_bounds { at + length (section image.now 2 (compartments image.now) set) ≤ length buffer.old }
-    ensures { Written buffer.old at (section image.now 2 (compartments image.now) set) buffer.new result }
-{
-    let count = layout::compartments(image);
-    let places = Groups::of_word(set);
-    write_section(image, 2, count, places, buffer, at)
-}
+    // Writes the names of the set's places with a comma before each.
+    fn write_list(&self, buffer: &mut [u8], at: usize) -> usize
+        requires { at + length (listed self.now.image.now self.now.class (places_of self.now.set) self.now.count 0) ≤ length buffer.old }
+        ensures { Written buffer.old at (listed self.now.image.now self.now.class (places_of self.now.set) self.now.count 0) buffer.new result }
+    {
+        let mut end = at;
+        for p in 0..self.count {
+            end = self.write_entry(p, buffer, end);
+        }
+        end
+    }
 
-// Writes a colon and the groups.
-fn write_groups(image: &[u8], set: Groups, buffer: &mut [u8], at: usize) -> usize
-    requires accepted { IsAccepted image.now }
-    requires set_in_bounds { at + length (section image.now 3 (groups image.now) (places_of set)) ≤ length buffer.old }
-    ensures { Written buffer.old at (section image.now 3 (groups image.now) (places_of set)) buffer.new result }
-{
-    let count = layout::groups(image);
-    write_section(image, 3, count, set, buffer, at)
+    // How many bytes it needs: the colon stands where the list has its first comma.
+    fn length(&self) -> usize
+        ensures { (result ≡ length (section self.now.image.now self.now.class self.now.count (places_of self.now.set))) × (result ≤ 7937) }
+    {
+        let n = self.list_length();
+        if n == 0 {
+            return 1;
+        }
+        n
+    }
+
+    fn write(&self, buffer: &mut [u8], at: usize) -> usize
+        requires { at + length (section self.now.image.now self.now.class self.now.count (places_of self.now.set)) ≤ length buffer.old }
+        ensures { Written buffer.old at (section self.now.image.now self.now.class self.now.count (places_of self.now.set)) buffer.new result }
+    {
+        let end = self.write_list(buffer, at);
+        buffer[at] = b':';
+        if end == at {
+            return at + 1;
+        }
+        end
+    }
 }
 
 // How many bytes the label's text needs.
@@ -173,11 +141,11 @@ fn text_length(image: &[u8], label: Label) -> usize
     if label.groups.is_empty() & word::is_empty(label.compartments) {
         return level;
     }
-    let first = level + compartments_length(image, label.compartments);
+    let first = level + Section::compartments(image, label.compartments).length();
     if label.groups.is_empty() {
         return first;
     }
-    first + groups_length(image, label.groups)
+    first + Section::groups(image, label.groups).length()
 }
 
 // Writes the label's text to the front of the buffer, and tells its length.
@@ -191,24 +159,27 @@ fn write_text(image: &[u8], label: Label, buffer: &mut [u8]) -> usize
     if label.groups.is_empty() & word::is_empty(label.compartments) {
         return level;
     }
-    let first = write_compartments(image, label.compartments, buffer, level);
+    let first = Section::compartments(image, label.compartments).write(buffer, level);
     if label.groups.is_empty() {
         return first;
     }
-    write_groups(image, label.groups, buffer, first)
+    Section::groups(image, label.groups).write(buffer, first)
 }
 
 // Prints a label where the image is known to be accepted. Refusals: 18, 13.
-pub(crate) fn print_accepted(image: &[u8], label: Label, buffer: &mut [u8]) -> Printed
+pub(crate) fn print_accepted(
+    image: &[u8],
+    label: Label,
+    buffer: &mut [u8],
+) -> Result<usize, Refusal>
     requires { IsAccepted image.now }
     ensures { (result, buffer.new) ≡ accepted_answer image.now (marks_of label) buffer.old }
 {
     if !label_exists(image, label) {
-        return Printed::Refused(Refusal::NoComponent);
+        return Err(Refusal::NoComponent);
     }
     if buffer.len() < text_length(image, label) {
-        return Printed::Refused(Refusal::Room);
+        return Err(Refusal::Room);
     }
-    let length = write_text(image, label, buffer);
-    Printed::Done(length)
+    Ok(write_text(image, label, buffer))
 }

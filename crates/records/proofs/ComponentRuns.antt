@@ -56,9 +56,6 @@ module _ (im : List ℕ) (first from to : ℕ) (fit : Fitted im) (few : to ≤ c
   abbrev taken : List ℕ
   taken = take (first + 40 * (to - from) - first) (drop first im)
 
-  pub block-whole : length taken % 40 ≡ 0
-  block-whole = rw run-taken (run-whole im first (to - from) block_inside)
-
   pub block-found : (rule : List ℕ → Bool)
       → from + first_bad (λ q. rule (run_record 40 taken q)) (length taken / 40) 0 ≡ first_bad (λ j. rule (record_at im Component j)) (to - from) from
   block-found rule = rw run-taken (block-bad rule)

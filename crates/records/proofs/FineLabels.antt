@@ -1,13 +1,13 @@
 -- Runs and full blocks of labels that code passes over: gathering what the labels of a run name, that a run whose labels name only what
 -- exists breaks no rule, and what is asked of a block. Assumes nothing.
-use Rattle.std.proofs.Common.{◌≡◌, ℕ, ◌+◌, ◌-◌, ◌*◌, ◌/◌, ◌%◌, ◌<◌, ◌≤◌, Bool, true, false, cond, ◌||◌, eqb, List, length, sym, refl, ap, ◌∙◌, subst, ⊎_elim, true≢false, eq-or-lt_of_le, mul-zero, zero-add, mul-suc, add-one, arith, lt-ltb}
-use native.Mathlib.Nat.{mul-div_right, mul-mod_right}
+use Rattle.std.proofs.Common.{◌≡◌, ℕ, ◌+◌, ◌-◌, ◌*◌, ◌/◌, ◌<◌, ◌≤◌, Bool, true, false, cond, ◌||◌, eqb, List, length, sym, refl, ap, ◌∙◌, subst, ⊎_elim, true≢false, eq-or-lt_of_le, zero-add, arith, lt-ltb}
+use native.Mathlib.Nat.{mul-div_right}
 use Rattle.fields.specs.Bytes.{AreBytes, part, number2, number4, all_zero}
 use Rattle.fields.specs.Scan.{first_bad}
 use Rattle.fields.proofs.Both.{both}
 use Rattle.fields.proofs.Laws.{part_length}
 use Rattle.fields.proofs.Scan.{all-good}
-use Rattle.sets.specs.Sets.{none, union, within, all_below}
+use Rattle.sets.specs.Sets.{union, within, all_below}
 use Rattle.sets.proofs.Within.{within-trans, within-union-left, within-union-right}
 use Rattle.header.specs.declared.edition.Edition.{Edition}
 use Rattle.header.specs.declared.counts.Counts.{Counts}
@@ -20,7 +20,6 @@ use Rattle.records.specs.LabelRuns.{run_tag, tag_before, label_after, run_after,
 use Rattle.records.specs.Rules.{run_record, first_bad_of_run}
 use Rattle.records.proofs.BlockRuns.{size-some}
 use Rattle.records.proofs.LabelTests.{tag-next, searched, passed-rise, last-limited}
-use Rattle.records.proofs.Running.{Turn, room, place_is}
 
 -- ---- gathering
 -- neither of two joined tests
@@ -29,9 +28,6 @@ neither true b e = absurd (true≢false e)
 neither false b e = (refl, e)
 
 module _ {edition : Edition} {size : ℕ} {run : List ℕ} {before levels : ℕ} where
-  pub gather-start : GatheredOf edition size run before levels 0 before none none
-  gather-start = record { each = λ j h. absurd (omega arith); end = refl }
-
   -- one label more
   pub gather-turn : {j last c g : ℕ} → GatheredOf edition size run before levels j last c g
       → (rec : List ℕ) → rec ≡ run_record size run j → last < tag_of rec → number4 rec 4 < levels
@@ -62,38 +58,6 @@ module _ {edition : Edition} {size : ℕ} {run : List ℕ} {before levels : ℕ}
 
       ended : tag ≡ tag_before size before run (j + 1)
       ended = t ∙ ap tag_of is ∙ tag-next size before run j
-
--- a loop over the run stands at the record that begins at `at`
-pub record Gathering (edition : Edition) (size : ℕ) (run : List ℕ) (before levels at last c g : ℕ) : Type 0 where
-  pub stands : at ≡ size * (at / size)
-  pub inside : at ≤ length run
-  pub done : GatheredOf edition size run before levels (at / size) last c g
-
-module _ {edition : Edition} {size : ℕ} {run : List ℕ} {before levels : ℕ} (some : 1 ≤ size) where
-  pub gathering-start : Gathering edition size run before levels 0 before none none
-  gathering-start =
-      let place : 0 / size ≡ 0 = place_is size 0 0 some (sym (mul-zero size)) in
-      record { stands = rw (place, mul-zero); inside = omega arith; done = rw place gather-start }
-
-  module _ {at last c g : ℕ} (w : Gathering edition size run before levels at last c g) where
-    pub gathering-end : length run ≤ at → GatheredOf edition size run before levels (length run / size) last c g
-    gathering-end past = let e : at ≡ length run = omega (arith, w.inside) in rw e at w.done
-
-    pub gathering-at : length run % size ≡ 0 → at < length run → Turn size run at (at / size)
-    gathering-at whole more = record { some = some; whole = whole; stands = w.stands; more = more }
-
-    pub gathering-turn : (t : Turn size run at (at / size)) (rec : List ℕ) → rec ≡ run_record size run (at / size)
-        → last < tag_of rec → number4 rec 4 < levels
-        → (tag c' g' : ℕ) → tag ≡ tag_of rec → c' ≡ union c (label_compartments rec) → g' ≡ union g (label_groups edition rec)
-        → Gathering edition size run before levels (at + size) tag c' g'
-    gathering-turn t rec is above low tag c' g' e p q =
-        let next : at + size ≡ size * (at / size + 1) = rw (add-one, mul-suc) (ap (λ (n : ℕ). n + size) w.stands) in
-        let place : (at + size) / size ≡ at / size + 1 = place_is size (at + size) (at / size + 1) some next in
-        record {
-          stands = rw place next;
-          inside = room t;
-          done = rw place (gather-turn w.done rec is above low tag c' g' e p q);
-        }
 
 -- ---- a run whose labels name only what exists
 pub label-exists : (n : Counts) (before c g : ℕ) (rec : List ℕ) → LabelIn n.edition before n.levels c g rec
@@ -134,9 +98,6 @@ module _ (n : Counts) (shape : Shape) (roomy : Roomy shape) (is : shape.size ≡
 
   full-long : length (full_run shape block) ≡ shape.size * shape.capacity
   full-long = part_length block 4 (shape.size * shape.capacity) (omega (arith, roomy.room))
-
-  pub full-whole : length (full_run shape block) % shape.size ≡ 0
-  full-whole = rw full-long (mul-mod_right shape.size shape.capacity)
 
   pub full-count : length (full_run shape block) / shape.size ≡ shape.capacity
   full-count = ap (λ (l : ℕ). l / shape.size) full-long ∙ mul-div_right shape.capacity some_size

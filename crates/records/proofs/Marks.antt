@@ -60,10 +60,6 @@ pub marked-first : (n : Counts) (records : List (List ℕ)) (filter : List ℕ) 
 marked-first n records filter = record { each = λ j low high. absurd (omega arith) }
 
 module _ (records : List (List ℕ)) (start i : ℕ) (filter : List ℕ) where
-  -- nor where a class begins
-  pub marked-none : i ≡ start → MarkedFrom records start i filter
-  marked-none e = record { each = λ j low high. absurd (omega arith) }
-
   pub marked_next : (after : List ℕ) → MarkedFrom records start i filter → MarkedToo (name_key (record_in records i)) filter after
       → MarkedFrom records start (i + 1) after
   marked_next after m too = record { each = each }

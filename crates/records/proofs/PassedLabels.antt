@@ -1,6 +1,6 @@
 -- The walk over the first full blocks of labels: what holds where it stands, and that a block in which code found nothing wrong keeps its
 -- rule. Assumes nothing.
-use Rattle.std.proofs.Common.{◌≡◌, ℕ, suc, ◌+◌, ◌-◌, ◌*◌, ◌/◌, ◌<◌, ◌≤◌, min, true, cond, eqb, List, [], length, take, drop, sym, refl, ap, ◌∙◌, subst, add-zero, mul-le-mul_right, mul-le-mul_left, mul-zero, mul-suc, add-one, arith, eq-eqb, ne_eqb}
+use Rattle.std.proofs.Common.{◌≡◌, ℕ, suc, ◌+◌, ◌-◌, ◌*◌, ◌/◌, ◌<◌, ◌≤◌, min, true, cond, eqb, List, [], length, take, drop, sym, refl, ap, ◌∙◌, subst, add-zero, mul-le-mul_left, mul-zero, mul-suc, add-one, arith, eq-eqb, ne_eqb}
 use native.Mathlib.Nat.{div-add-mod, add-sub_cancel_left}
 use Rattle.fields.specs.Bytes.{byte_at, part, all_zero}
 use Rattle.fields.proofs.Both.{both}
@@ -27,18 +27,17 @@ use Rattle.records.proofs.KindWalk.{Walk, walk_from, of-kind, says_held, held-sa
 abbrev pub tag_upto : List ℕ → ℕ → ℕ
 tag_upto im i = cond (eqb i 0) 0 (tag_of (record_in (records_of im Label) (i - 1)))
 
--- the loop stands at block k of the labels, which begins at `at`; the last tag before it is `last`
-pub record Passing (im : List ℕ) (shape : Shape) (at k last : ℕ) : Type 0 where
+-- the loop stands at block k of the labels; the last tag before it is `last`
+pub record Passing (im : List ℕ) (shape : Shape) (k last : ℕ) : Type 0 where
   pub upto : shape.capacity * k ≤ shape.count
-  pub stands : at ≡ 512 * (shape.first + k)
   pub kept : KeptUpto im Label (first_block im Label + k)
   pub tag : last ≡ tag_upto im (shape.capacity * k)
 
 module _ {im : List ℕ} {shape : Shape} (s : Shaped im Label shape) where
-  pub passing-start : Passing im shape (512 * shape.first) 0 0
-  passing-start = record { upto = rw mul-zero (omega arith); stands = rw add-zero; kept = λ c low high. absurd (omega arith); tag = rw mul-zero }
+  pub passing-start : Passing im shape 0 0
+  passing-start = record { upto = rw mul-zero (omega arith); kept = λ c low high. absurd (omega arith); tag = rw mul-zero }
 
-  module _ {at k last : ℕ} (p : Passing im shape at k last) (less : k < shape.count / shape.capacity) where
+  module _ {k last : ℕ} (p : Passing im shape k last) (less : k < shape.count / shape.capacity) where
     -- the block that it stands at is full; `from` is the place of its first label
     abbrev b : ℕ
     b = shape.first + k
@@ -54,27 +53,21 @@ module _ {im : List ℕ} {shape : Shape} (s : Shaped im Label shape) where
     more : from < shape.count
     more = omega (arith, full-room, s.roomy.some)
 
-    pub places-few : k < 131072
-    places-few = let m : 1 * k ≤ from = mul-le-mul_right k s.roomy.some in omega (arith, more, s.few)
-
     walk : Walk im Label shape b from []
     walk = walk_from s [] k p.kept (λ e. absurd (omega (arith, ap kind_byte e)))
 
     among : OfKind im Label b
     among = of-kind s walk more
 
-    pub block_room : Fitted im → at + 512 ≤ length im
-    block_room fit = omega (arith, p.stands, block_inside im b fit (of-needed im Label b among).1)
+    pub block_room : Fitted im → 512 * b + 512 ≤ length im
+    block_room fit = omega (arith, block_inside im b fit (of-needed im Label b among).1)
 
     -- the block, as code takes it
     abbrev taken : List ℕ
-    taken = take (at + 512 - at) (drop at im)
+    taken = take (512 * b + 512 - 512 * b) (drop (512 * b) im)
 
     taken_is : taken ≡ part im (512 * b) 512
-    taken_is = rw (add-sub_cancel_left, p.stands)
-
-    pub taken-long : Fitted im → length taken ≡ 512
-    taken-long fit = rw add-sub_cancel_left (part_length im at 512 (block_room fit))
+    taken_is = rw add-sub_cancel_left
 
     to_is : from + shape.capacity ≡ min shape.count (from + shape.capacity)
     to_is = omega (arith, full-room)
@@ -156,14 +149,13 @@ module _ {im : List ℕ} {shape : Shape} (s : Shaped im Label shape) where
           let later : from + c ≡ 0 → ⊥ = λ e. omega (arith, s.roomy.some) in
           sym last ∙ there ∙ rw (ne_eqb (from + c) 0 later, place)
 
-      pub passing-next : Passing im shape (at + 512) (k + 1) next
+      pub passing-next : Passing im shape (k + 1) next
       passing-next =
           let place : shape.capacity * (k + 1) ≡ from + shape.capacity = rw add-one (mul-suc shape.capacity k) in
           let here : content_rule im b ≡ true = kept_here s walk more (from + shape.capacity) to_is laid (from + shape.capacity) no-bad (omega arith) in
           let after : b + 1 ≡ first_block im Label + (k + 1) = omega (arith, ap (λ (x : Shape). x.first) s.is) in
           record {
             upto = rw place full-room;
-            stands = omega (arith, p.stands);
             kept = subst (KeptUpto im Label) after (kept_next im Label b walk.before here);
             tag = rw place tag_is;
           }

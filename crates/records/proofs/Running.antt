@@ -1,21 +1,15 @@
--- A loop over a run of records, one right after the other: where the record at place j stands, the record before it, and what is left of a
--- search for the first that breaks a rule. The laws hold at any rule and any size of a record. Assumes nothing.
-use Rattle.std.proofs.Common.{◌≡◌, ℕ, zero, suc, ◌+◌, ◌-◌, ◌*◌, ◌/◌, ◌%◌, ◌<◌, ◌≤◌, Bool, true, false, cond, ltb, List, length, take, drop, sym, ap, ◌∙◌, subst, mul-le-mul_right, mul-le-mul_left, mul-zero, mul-suc, add-one, arith, le-ltb, lt-ltb}
-use native.Mathlib.Nat.{sub-zero, lt_of_mul-lt-mul_left, le_of_mul-le-mul_left, mul-div_right, div-add-mod, add-sub_cancel_left}
+-- A loop over a run of records, one right after the other: where the record at place j stands, the record before it, and how a search for the
+-- first that breaks a rule ends. The laws hold at any rule and any size of a record. Assumes nothing.
+use Rattle.std.proofs.Common.{◌≡◌, ℕ, zero, suc, ◌+◌, ◌-◌, ◌*◌, ◌/◌, ◌%◌, ◌<◌, ◌≤◌, Bool, cond, ltb, List, length, take, drop, sym, refl, ap, ◌∙◌, mul-le-mul_left, mul-zero, mul-suc, arith, le-ltb, lt-ltb}
+use native.Mathlib.Nat.{lt_of_mul-lt-mul_left, div-add-mod, add-sub_cancel_left}
 use Rattle.fields.specs.Bytes.{part}
 use Rattle.fields.specs.Scan.{first_bad}
 use Rattle.fields.proofs.Laws.{part_length}
-use Rattle.fields.proofs.Scan.{loop-bad, loop-good, loop-end}
+use Rattle.fields.proofs.Scan.{loop-end}
 use Rattle.header.specs.declared.layout.Kind.{Kind}
 use Rattle.header.specs.declared.counts.Counts.{Counts}
 use Rattle.header.specs.Layout.{record_size}
 use Rattle.records.specs.Rules.{run_record, after_rule, run_before, run_rule}
-
--- the loop stands at the record of place j, which begins at `at`, and what is left gives what the whole gives
-pub record Walked (rule : ℕ → Bool) (size : ℕ) (run : List ℕ) (at j : ℕ) : Type 0 where
-  pub stands : at ≡ size * j
-  pub inside : at ≤ length run
-  pub left : first_bad rule (length run / size - j) j ≡ first_bad rule (length run / size) 0
 
 whole_run : (size : ℕ) (run : List ℕ) → length run % size ≡ 0 → size * (length run / size) ≡ length run
 whole_run size run whole = let d = div-add-mod (length run) size in omega arith
@@ -27,20 +21,15 @@ pub record Turn (size : ℕ) (run : List ℕ) (at j : ℕ) : Type 0 where
   pub stands : at ≡ size * j
   pub more : at < length run
 
--- where the loop stands, and more is left, a turn begins
-pub turn_of : {rule : ℕ → Bool} {size : ℕ} {run : List ℕ} {at j : ℕ} → Walked rule size run at j → 1 ≤ size → length run % size ≡ 0 → at < length run
-    → Turn size run at j
-turn_of w some whole more = record { some = some; whole = whole; stands = w.stands; more = more }
+-- a loop over the places stands at place j, where that record begins
+pub turn-at : (size : ℕ) (run : List ℕ) (j : ℕ) → 1 ≤ size → length run % size ≡ 0 → j < length run / size → Turn size run (size * j) j
+turn-at size run j some whole less =
+    let m : size * suc j ≤ size * (length run / size) = mul-le-mul_left size less in
+    record { some = some; whole = whole; stands = refl; more = omega (arith, whole_run size run whole, mul-suc size j) }
 
 module _ {size : ℕ} {run : List ℕ} {at j : ℕ} (t : Turn size run at j) where
   pub among : j < length run / size
   among = lt_of_mul-lt-mul_left size (rw (whole_run size run t.whole, ← t.stands) t.more)
-
-  -- there are no more records than bytes
-  pub places-few : j < length run
-  places-few =
-      let m : 1 * j ≤ size * j = mul-le-mul_right j t.some in
-      omega (arith, t.stands, t.more)
 
   pub room : at + size ≤ length run
   room =
@@ -54,38 +43,13 @@ module _ {size : ℕ} {run : List ℕ} {at j : ℕ} (t : Turn size run at j) whe
   pub part-long : length (take (at + size - at) (drop at run)) ≡ size
   part-long = rw add-sub_cancel_left (part_length run at size room)
 
-  module _ (rule : ℕ → Bool) (left : first_bad rule (length run / size - j) j ≡ first_bad rule (length run / size) 0) where
-    pub walk-bad : rule j ≡ false → j ≡ first_bad rule (length run / size) 0
-    walk-bad e = loop-bad rule _ j _ among left e
-
-    pub walk-next : rule j ≡ true → Walked rule size run (at + size) (j + 1)
-    walk-next e =
-        record {
-          stands = rw (add-one, mul-suc) (ap (λ (n : ℕ). n + size) t.stands);
-          inside = room;
-          left = loop-good rule _ j _ among left e;
-        }
-
-pub walk_end : (rule : ℕ → Bool) (size : ℕ) (run : List ℕ) (at j : ℕ) → 1 ≤ size → length run % size ≡ 0 → Walked rule size run at j → length run ≤ at
-    → j ≡ first_bad rule (length run / size) 0
-walk_end rule size run at j some whole w h =
-    let past : length run / size ≤ j = le_of_mul-le-mul_left (rw (whole_run size run whole, ← w.stands) h) some in
-    loop-end rule _ j _ past w.left
+-- a search over n places is past the last of them
+pub ended : (rule : ℕ → Bool) (n j w : ℕ) → j ≡ n → first_bad rule (n - j) j ≡ w → n ≡ w
+ended rule n j w e left = sym e ∙ loop-end rule n j w (omega arith) left
 
 -- the size as code has it
 pub resized : (rule : ℕ → Bool) (l j size other : ℕ) → size ≡ other → j ≡ first_bad rule (l / size) 0 → j ≡ first_bad rule (l / other) 0
 resized rule l j size other is e = e ∙ ap (λ (s : ℕ). first_bad rule (l / s) 0) is
-
-pub walk_start : (rule : ℕ → Bool) (size : ℕ) (run : List ℕ) → Walked rule size run 0 0
-walk_start rule size run = record { stands = sym (mul-zero size); inside = omega arith; left = rw sub-zero }
-
--- a loop that carries `at` alone works the place out by it
-pub place_is : (size at j : ℕ) → 1 ≤ size → at ≡ size * j → at / size ≡ j
-place_is size at j some e = ap (λ (k : ℕ). k / size) e ∙ mul-div_right j some
-
-pub walk-placed : (rule : ℕ → Bool) (size : ℕ) (run : List ℕ) (at j : ℕ) → 1 ≤ size → Walked rule size run at j
-    → Walked rule size run at (at / size)
-walk-placed rule size run at j some w = subst (Walked rule size run at) (sym (place_is size at j some w.stands)) w
 
 -- ---- the record before the one that begins at `at`, as code finds it
 pub before-is : (size : ℕ) (previous run : List ℕ) (at j : ℕ) → 1 ≤ size → at ≡ size * j

@@ -1,5 +1,5 @@
 -- What a walk over the blocks of one kind finds, and what it knows on the way.
-use Rattle.std.specs.Prelude.{◌≡◌, ℕ, ◌+◌, ◌-◌, ◌*◌, ◌<◌, ◌≤◌, true, false, List, length}
+use Rattle.std.specs.Prelude.{◌≡◌, ℕ, ◌+◌, ◌-◌, ◌*◌, ◌<◌, ◌≤◌, true, false, List, length, Option, Some, None}
 use Rattle.header.specs.declared.layout.Kind.{Kind}
 use Rattle.header.specs.declared.layout.Kind.TheVariants.{Component}
 use Rattle.header.specs.Layout.{edition_of, counts_of, record_size, blocks_of, first_block, records_of, contents_of}
@@ -36,10 +36,10 @@ pub record RecordBad (im : List ℕ) (kind : Kind) (b r : ℕ) : Type 0 where
   pub bad : content_rule im b ≡ false
   pub place : first_bad_record im b ≡ (contents_of im b).from + r
 
-abbrev pub FoundIn : List ℕ → Kind → Found → Type 0
-FoundIn im kind found.Nothing = KeptUpto im kind (first_block im kind + blocks_of im kind)
-FoundIn im kind (found.Layout b) = LayoutBad im kind b
-FoundIn im kind (found.Record b r) = RecordBad im kind b r
+abbrev pub FoundIn : List ℕ → Kind → Option Found → Type 0
+FoundIn im kind None = KeptUpto im kind (first_block im kind + blocks_of im kind)
+FoundIn im kind (Some (found.Layout b)) = LayoutBad im kind b
+FoundIn im kind (Some (found.Record b r)) = RecordBad im kind b r
 
 -- what the walk knows at the record of place i. Of components, each name up to there keeps the rule of its field, and those of its class are
 -- marked in the filter

@@ -12,7 +12,6 @@ ghost use Rattle.records.specs.Rules.{parent_count, first_bad_of_run};
 use crate::components::{class_left, class_start, parent_count};
 use fields::name_field::name_ok;
 use fields::numbers::{number2, number8};
-use header::contents::lower;
 use header::counts::{Counts, class_at};
 use header::edition::by_edition;
 
@@ -32,18 +31,16 @@ fn parents_of(counts: Counts, class: u8) -> usize
     if class != 3 {
         return 0;
     }
-    let edition = counts.edition;
-    lower(parent_count(counts), by_edition(edition, 256, 65536))
+    parent_count(counts).min(by_edition(counts.edition, 256, 65536))
 }
 
 fn asked_at(counts: Counts, i: usize) -> Asked
     ensures { result ≡ asked_of counts (class_at counts i) }
 {
-    let edition = counts.edition;
     let class = class_at(counts, i);
     Asked {
         class,
-        none: by_edition(edition, 255, 65535) as u64,
+        none: by_edition(counts.edition, 255, 65535) as u64,
         parents: parents_of(counts, class) as u64,
     }
 }
@@ -86,28 +83,29 @@ fn first_bad_in_class(asked: Asked, first: u32, run: &[u8]) -> usize
     requires { length run.now % 40 ≡ 0 }
     ensures { result ≡ first_bad (run_asked asked first run.now) (length run.now / 40) 0 }
 {
+    let count = run.len() / 40;
     let mut low = first;
-    let mut at = 0;
-    while at < run.len() {
+    for j in 0..count {
+        let at = 40 * j;
         let rec = &run[at..at + 40];
         if !component_fits(asked, low, rec) {
-            return at / 40;
+            return j;
         }
         low = number2(rec, 32) + 1;
-        at += 40;
     }
-    at / 40
+    count
 }
 
 // The first that breaks a rule; their number where none does. The first of the run is at place k. Only the first class of the run may have
 // begun before it, so only there the record before is asked.
-pub fn first_bad_component<'a>(counts: Counts, k: usize, previous: &'a [u8], run: &'a [u8]) -> usize
+pub fn first_bad_component(counts: Counts, k: usize, previous: &[u8], run: &[u8]) -> usize
     requires { (length run.now % 40 ≡ 0) × ((40 ≤ length previous.now) × (k < 4294967296)) }
     ensures { result ≡ first_bad_of_run Component counts k previous.now run.now }
 {
     let n = run.len() / 40;
     let mut low = lowest_form(counts, k, previous);
     let mut j = 0;
+    // from class to class, as `class_left` tells: no count
     while j < n {
         let i = k + j;
         let to = j + class_left(counts, i, n - j);

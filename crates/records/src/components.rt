@@ -11,7 +11,6 @@ ghost use Rattle.records.specs.Rules.{class_start, parent_count, run_named, othe
 use fields::names;
 use fields::names::Letters;
 use fields::numbers::number2;
-use header::contents::lower;
 use header::counts::Counts;
 use header::edition::{Edition, edition_of};
 use header::layout::Kind;
@@ -29,7 +28,7 @@ pub fn parent_in(edition: Edition, rec: &[u8]) -> usize
     }
 }
 
-pub fn component_name<'a>(image: &'a [u8], i: usize) -> &'a [u8]
+pub fn component_name(image: &[u8], i: usize) -> &[u8]
     requires { Fitted image.now × (i < count_of image.now Component) }
     ensures { result.now ≡ component_name (record_at image.now Component i) }
 {
@@ -73,10 +72,10 @@ pub(crate) fn class_left(counts: Counts, i: usize, left: usize) -> usize
     ensures { ClassUpto counts i (i + left) (i + result) }
 {
     if i < counts.levels {
-        return lower(left, counts.levels - i);
+        return left.min(counts.levels - i);
     }
     if i - counts.levels < counts.compartments {
-        return lower(left, counts.compartments - (i - counts.levels));
+        return left.min(counts.compartments - (i - counts.levels));
     }
     left
 }
@@ -99,16 +98,14 @@ pub fn first_in_run(run: &[u8], letters: Letters, name: &[u8]) -> usize
     requires { length run.now % 40 ≡ 0 }
     ensures { result ≡ first_bad (run_named run.now (in_letters letters name.now)) (length run.now / 40) 0 }
 {
-    let mut at = 0;
-    let mut j = 0;
-    while at < run.len() {
+    let count = run.len() / 40;
+    for k in 0..count {
+        let at = 40 * k;
         if is_named(letters, &run[at..at + 40], name) {
-            return j;
+            return k;
         }
-        at += 40;
-        j += 1;
     }
-    j
+    count
 }
 
 // The first place from `from` up to `to` whose component has that name; `to` where none has. Their records stand in one
@@ -136,8 +133,9 @@ pub fn first_named(image: &[u8], start: usize, end: usize, letters: Letters, nam
     let shape = layout::shape_of(image, Kind::Component);
     let mut here = walk::record_at(shape, start);
     let mut from = start;
+    // from block to block, which may begin anywhere in the first: no count
     while from < end {
-        let to = lower(end, from + here.left);
+        let to = end.min(from + here.left);
         let j = first_in_block(image, here.at, from, to, letters, name);
         if j < to {
             return j;
@@ -152,8 +150,7 @@ pub fn first_named(image: &[u8], start: usize, end: usize, letters: Letters, nam
 pub(crate) fn parent_count(counts: Counts) -> usize
     ensures { result ≡ parent_count counts }
 {
-    let profile = counts.profile;
-    match profile {
+    match counts.profile {
         Profile::Tree => counts.groups,
         Profile::Release => 0,
     }

@@ -13,7 +13,6 @@ ghost use Rattle.records.specs.Fresh.{name_key, marked, MarkedToo, field_of, ali
 
 use crate::components::{class_left, class_start};
 use fields::numbers::number8;
-use header::contents::lower;
 use header::counts::Counts;
 use header::layout::Kind;
 use header::{layout, walk};
@@ -25,7 +24,8 @@ pub type Filter = [u64; 128];
 // No bit is set.
 pub const EMPTY: Filter = [0u64; 128];
 
-// What holds component records: an image, in its blocks, or a run of them, one right after the other.
+// What holds component records: an image, in its blocks, or a run of them, one right after the other. It stays an enum, no trait, as `first_stale`,
+// a public function, takes it, and it says what the bytes are; only the search of `first_same` goes by it.
 #[derive(Clone, Copy)]
 pub enum Source {
     Image,
@@ -101,20 +101,19 @@ fn is_alike(field: Field, rec: &[u8]) -> bool
     number8(rec, 2) == field.a
 }
 
-// The place of the first record of a run that has these words; their number where none has. The place is worked out where the loop ends, so that
-// it carries no count.
+// The place of the first record of a run that has these words; their number where none has.
 fn first_alike(run: &[u8], field: Field) -> usize
     requires { length run.now % 40 ≡ 0 }
     ensures { result ≡ first_where (λ j. alike field (run_record 40 run.now j)) (length run.now / 40) 0 }
 {
-    let mut at = 0;
-    while at < run.len() {
+    let count = run.len() / 40;
+    for k in 0..count {
+        let at = 40 * k;
         if is_alike(field, &run[at..at + 40]) {
-            return at / 40;
+            return k;
         }
-        at += 40;
     }
-    at / 40
+    count
 }
 
 // The first place from `start` up to `end` whose component has these words; `end` where none has. The records of a block are a run.
@@ -125,8 +124,9 @@ fn alike_in_image(image: &[u8], start: usize, end: usize, field: Field) -> usize
     let shape = layout::shape_of(image, Kind::Component);
     let mut here = walk::record_at(shape, start);
     let mut from = start;
+    // from block to block, which may begin anywhere in the first: no count
     while from < end {
-        let to = lower(end, from + here.left);
+        let to = end.min(from + here.left);
         let first = here.at;
         let last = first + 40 * (to - from);
         let j = from + first_alike(&image[first..last], field);
@@ -194,17 +194,14 @@ fn stale_in_class(
     if from == start {
         *seen = EMPTY;
     }
-    let mut at = 0;
-    let mut i = from;
-    while i < to {
+    for i in from..to {
+        let at = 40 * (i - from);
         let rec = &run[at..at + 40];
         if !is_fresh(source, records, start, seen, i, rec) {
             return i;
         }
-        at += 40;
-        i += 1;
     }
-    i
+    to
 }
 
 // The first of the places from `from` up to `to` whose component has the name of one before it in its class; `to` where there is none. The run
@@ -226,6 +223,7 @@ pub fn first_stale(
     ensures marked { result ≡ to → Marked counts (components_in source records.now) to seen.new }
 {
     let mut i = from;
+    // from class to class, as `class_left` tells: no count
     while i < to {
         let end = i + class_left(counts, i, to - i);
         let start = class_start(counts, i);

@@ -16,15 +16,13 @@ use crate::fresh::{Filter, Source, first_stale};
 use crate::label_blocks::fine_label_blocks;
 use crate::runs::first_bad_after;
 use fields::numbers::all_zero;
-use header::contents::lower;
 use header::counts::Counts;
 use header::layout;
 use header::layout::{Contents, Kind, Shape, kind_byte};
 
-// What is wrong with the blocks of a kind: nothing, the layout of a block, or, in a block whose layout is right, the record at that place.
+// What is wrong with a block: its layout, or, where that is right, the record at that place.
 #[derive(Clone, Copy)]
 pub enum Found {
-    Nothing,
     Layout(usize),
     Record(usize, usize),
 }
@@ -35,11 +33,10 @@ pub(crate) fn laid_out(image: &[u8], b: usize, held: Contents) -> bool
     requires held_value { held ≡ contents_of image.now b }
     ensures { result ≡ layout_rule image.now b }
 {
-    let kind = held.kind;
     let at = 512 * b;
     let unused = at + held.end;
     let end = at + 510;
-    (image[at] == kind_byte(kind))
+    (image[at] == kind_byte(held.kind))
         & (image[at + 1] as usize == held.to - held.from)
         & all_zero(&image[unused..end])
 }
@@ -69,7 +66,7 @@ fn first_known(
 }
 
 // The records of block b, as a run.
-fn records_of<'a>(image: &'a [u8], b: usize, held: Contents) -> &'a [u8]
+fn records_of(image: &[u8], b: usize, held: Contents) -> &[u8]
     requires { Fitted image.now × (OfKind image.now held.kind b × (held ≡ contents_of image.now b)) }
     ensures { RunOf image.now held.kind held.from held.to result.now }
 {
@@ -80,10 +77,11 @@ fn records_of<'a>(image: &'a [u8], b: usize, held: Contents) -> &'a [u8]
 
 // The record before the first of block b: the last of the block before it, which is full. Before the first of the kind's blocks it is
 // whatever stands there, which no rule asks.
-fn last_before<'a>(image: &'a [u8], shape: Shape, kind: Kind, b: usize) -> &'a [u8]
+fn last_before(image: &[u8], shape: Shape, kind: Kind, b: usize) -> &[u8]
     requires { Fitted image.now × (Shaped image.now kind shape × OfKind image.now kind b) }
     ensures kind_in_bounds { record_size One kind ≤ length result.now }
-    ensures result_value { 1 ≤ shape.capacity * (b - shape.first) → result.now ≡ record_in (records_of image.now kind) (shape.capacity * (b - shape.first) - 1) }
+    ensures result_value { 1 ≤ shape.capacity * (b - shape.first)
+        → result.now ≡ record_in (records_of image.now kind) (shape.capacity * (b - shape.first) - 1) }
 {
     let at = 512 * (b - 1) + 4 + shape.size * (shape.capacity - 1);
     let end = at + shape.size;
@@ -106,12 +104,11 @@ fn first_bad_held(
     ensures passed_2 { result ≡ held.to → Passed image.now held.kind held.to seen.new }
 {
     let kind = held.kind;
-    let counts = existing.counts;
     let from = held.from;
     let run = records_of(image, b, held);
     let previous = last_before(image, shape, kind, b);
     let j = first_bad_after(existing, kind, from, previous, run);
-    first_known(image, counts, kind, seen, from, from + j, run)
+    first_known(image, existing.counts, kind, seen, from, from + j, run)
 }
 
 // How many of the kind's first blocks are known to be fine; asked of labels alone, which have the most blocks.
@@ -129,7 +126,12 @@ fn fine_blocks(image: &[u8], existing: Existing, shape: Shape, kind: Kind) -> us
 }
 
 // The first block of the kind that breaks a rule, and which.
-pub fn first_bad_of_kind(image: &[u8], existing: Existing, kind: Kind, seen: &mut Filter) -> Found
+pub fn first_bad_of_kind(
+    image: &[u8],
+    existing: Existing,
+    kind: Kind,
+    seen: &mut Filter,
+) -> Option<Found>
     requires { Counted image.now × (Exist existing × (existing.counts ≡ counts_of image.now)) }
     ensures { FoundIn image.now kind result }
 {
@@ -137,8 +139,9 @@ pub fn first_bad_of_kind(image: &[u8], existing: Existing, kind: Kind, seen: &mu
     let fine = fine_blocks(image, existing, shape, kind);
     let mut b = shape.first + fine;
     let mut from = shape.capacity * fine;
+    // b and `from` go on together by sums; a `for` over blocks would divide once more, to count them, and is no plainer
     while from < shape.count {
-        let to = lower(shape.count, from + shape.capacity);
+        let to = shape.count.min(from + shape.capacity);
         let end = 4 + shape.size * (to - from);
         let held = Contents {
             kind,
@@ -147,14 +150,14 @@ pub fn first_bad_of_kind(image: &[u8], existing: Existing, kind: Kind, seen: &mu
             end,
         };
         if !laid_out(image, b, held) {
-            return Found::Layout(b);
+            return Some(Found::Layout(b));
         }
         let i = first_bad_held(image, existing, shape, b, held, seen);
         if i < to {
-            return Found::Record(b, i - from);
+            return Some(Found::Record(b, i - from));
         }
         from += shape.capacity;
         b += 1;
     }
-    Found::Nothing
+    None
 }

@@ -35,8 +35,8 @@ fn gather(edition: Edition, size: usize, run: &[u8], before: u32, levels: u32) -
     let mut last = before;
     let mut compartments = 0u64;
     let mut groups = Groups::none();
-    let mut at = 0;
-    while at < run.len() {
+    for j in 0..run.len() / size {
+        let at = size * j;
         let rec = &run[at..at + size];
         let tag = number4(rec, 0);
         if (tag <= last) | (levels <= number4(rec, 4)) {
@@ -49,7 +49,6 @@ fn gather(edition: Edition, size: usize, run: &[u8], before: u32, levels: u32) -
         compartments = word::union(compartments, number8(rec, 8));
         groups = groups.union(group_set(edition, rec, 16));
         last = tag;
-        at += size;
     }
     Gathered {
         last,
@@ -77,18 +76,15 @@ fn last_of_block(existing: Existing, shape: Shape, before: u32, block: &[u8]) ->
     requires size_value { (shape.size ≡ record_size existing.counts.edition Label) × (Roomy shape × (length block.now ≡ 512)) }
     ensures { (result ≢ 0) → FineBlock existing.counts shape before block.now result }
 {
-    let counts = existing.counts;
-    let edition = counts.edition;
-    let levels = counts.levels as u32;
+    let levels = existing.counts.levels as u32;
     let end = 4 + shape.size * shape.capacity;
     let head = 76 + 256 * (shape.capacity as u32);
     if (number2(block, 0) != head) | !all_zero(&block[end..510]) {
         return 0;
     }
-    let all = gather_by(edition, &block[4..end], before, levels);
-    let groups = all.groups;
+    let all = gather_by(existing.counts.edition, &block[4..end], before, levels);
     let exist = word::within(all.compartments, existing.compartments)
-        & groups.within(existing.groups);
+        & all.groups.within(existing.groups);
     if exist & (all.last <= 99999999) {
         all.last
     } else {
@@ -105,15 +101,12 @@ pub fn fine_label_blocks(image: &[u8], existing: Existing, shape: Shape) -> usiz
 {
     let full = shape.count / shape.capacity;
     let mut last = 0;
-    let mut at = 512 * shape.first;
-    let mut k = 0;
-    while k < full {
+    for k in 0..full {
+        let at = 512 * (shape.first + k);
         last = last_of_block(existing, shape, last, &image[at..at + 512]);
         if last == 0 {
             return k;
         }
-        at += 512;
-        k += 1;
     }
-    k
+    full
 }

@@ -32,10 +32,7 @@ fn label_ok(existing: Existing, before: u32, rec: &[u8]) -> bool
     requires rec_len { (length rec.now ≡ record_size existing.counts.edition Label) × (24 ≤ length rec.now) }
     ensures { result ≡ label_after existing.counts before rec.now }
 {
-    let counts = existing.counts;
-    let edition = counts.edition;
-    let all = existing.groups;
-    let levels = counts.levels as u32;
+    let levels = existing.counts.levels as u32;
     if number4(rec, 0) <= before {
         return false;
     }
@@ -45,27 +42,26 @@ fn label_ok(existing: Existing, before: u32, rec: &[u8]) -> bool
     if !word::within(number8(rec, 8), existing.compartments) {
         return false;
     }
-    groups_exist(edition, rec, 16, all)
+    groups_exist(existing.counts.edition, rec, 16, existing.groups)
 }
 
-// The first that is not so; their number where all are. The tag before the first of the run is `first`. The place is worked out where the
-// loop ends, so that it carries no count.
+// The first that is not so; their number where all are. The tag before the first of the run is `first`.
 fn first_wrong(existing: Existing, size: usize, first: u32, run: &[u8]) -> usize
     requires exist { Exist existing × (existing.counts.levels ≤ 256) }
     requires size_value { (size ≡ record_size existing.counts.edition Label) × (length run.now % size ≡ 0) }
     ensures { result ≡ first_bad (run_after existing.counts size first run.now) (length run.now / size) 0 }
 {
+    let count = run.len() / size;
     let mut before = first;
-    let mut at = 0;
-    while at < run.len() {
+    for j in 0..count {
+        let at = size * j;
         let rec = &run[at..at + size];
         if !label_ok(existing, before, rec) {
-            return at / size;
+            return j;
         }
         before = number4(rec, 0);
-        at += size;
     }
-    at / size
+    count
 }
 
 // The first of n labels whose tag is above the highest; n where none is. It goes back from the last: nearly always that one's tag is not.
@@ -74,14 +70,11 @@ fn first_above(size: usize, run: &[u8], n: usize) -> usize
     requires tags_rise { TagsRise size run.now n }
     ensures { result ≡ first_bad (tag_limited size run.now) n 0 }
 {
-    let mut left = n;
-    while 0 < left {
-        let last = left - 1;
-        let at = size * last;
+    for j in (0..n).rev() {
+        let at = size * j;
         if number4(&run[at..at + size], 0) <= 99999999 {
-            return left;
+            return j + 1;
         }
-        left = last;
     }
     0
 }
@@ -92,9 +85,7 @@ pub fn first_bad_label(existing: Existing, k: usize, previous: &[u8], run: &[u8]
     requires edition_len { (length run.now % record_size existing.counts.edition Label ≡ 0) × (24 ≤ length previous.now) }
     ensures { result ≡ first_bad_of_run Label existing.counts k previous.now run.now }
 {
-    let counts = existing.counts;
-    let edition = counts.edition;
-    let size = layout::size(edition, Kind::Label);
+    let size = layout::size(existing.counts.edition, Kind::Label);
     let before = tag_before(k, previous);
     let n = first_wrong(existing, size, before, run);
     first_above(size, run, n)

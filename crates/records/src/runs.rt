@@ -26,22 +26,19 @@ pub fn record_before<'a>(previous: &'a [u8], run: &'a [u8], at: usize, size: usi
 
 // The first record of the run that breaks a rule, names of components among each other aside; their number where none does. The first of
 // them is at place k of its kind.
-pub fn first_bad_after<'a>(
+pub fn first_bad_after(
     existing: Existing,
     kind: Kind,
     k: usize,
-    previous: &'a [u8],
-    run: &'a [u8],
+    previous: &[u8],
+    run: &[u8],
 ) -> usize
     requires exist { Exist existing × ((existing.counts.levels ≤ 256) × (k < 4294967296)) }
     requires kind_len { (length run.now % record_size existing.counts.edition kind ≡ 0) × (record_size One kind ≤ length previous.now) }
     ensures { result ≡ first_bad_of_run kind existing.counts k previous.now run.now }
 {
     match kind {
-        Kind::Component => {
-            let counts = existing.counts;
-            first_bad_component(counts, k, previous, run)
-        }
+        Kind::Component => first_bad_component(existing.counts, k, previous, run),
         Kind::Label => first_bad_label(existing, k, previous, run),
         Kind::User => first_bad_user(existing, k, previous, run),
     }

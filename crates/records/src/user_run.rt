@@ -12,24 +12,20 @@ use header::layout;
 use header::layout::Kind;
 
 // The first that breaks a rule; their number where none does. The first of the run is at place k.
-pub fn first_bad_user<'a>(existing: Existing, k: usize, previous: &'a [u8], run: &'a [u8]) -> usize
+pub fn first_bad_user(existing: Existing, k: usize, previous: &[u8], run: &[u8]) -> usize
     requires exist { Exist existing × (length run.now % record_size existing.counts.edition User ≡ 0) }
     requires in_bounds { (128 ≤ length previous.now) × (k < 4294967296) }
     ensures { result ≡ first_bad_of_run User existing.counts k previous.now run.now }
 {
-    let counts = existing.counts;
-    let edition = counts.edition;
-    let size = layout::size(edition, Kind::User);
-    let mut at = 0;
-    let mut j = 0;
-    while at < run.len() {
+    let size = layout::size(existing.counts.edition, Kind::User);
+    let count = run.len() / size;
+    for j in 0..count {
+        let at = size * j;
         let rec = &run[at..at + size];
         let before = record_before(previous, run, at, size);
         if !user_ok(existing, k + j, before, rec) {
             return j;
         }
-        at += size;
-        j += 1;
     }
-    j
+    count
 }

@@ -22,7 +22,7 @@ use header::profile::Profile;
 use sets::groups::Groups;
 use sets::word;
 
-pub fn name<'a>(image: &'a [u8], u: usize) -> &'a [u8]
+pub fn name(image: &[u8], u: usize) -> &[u8]
     requires { Counted image.now × (u < users image.now) }
     ensures { result.now ≡ user_name (user_record image.now u) }
 {
@@ -60,7 +60,8 @@ pub fn levels_in(rec: &[u8]) -> Levels
     }
 }
 
-// A user's four sets of compartments.
+// A user's four sets of compartments. This and GroupSets are no `Sets<T>` under two names: a type alias has no name in specs/, where definitions of
+// hierarchy (SetsAre, NoSets) are about a GroupSets.
 #[derive(Clone, Copy)]
 pub struct CompartmentSets {
     pub read: u64,
@@ -149,10 +150,8 @@ fn groups_ok(existing: Existing, rec: &[u8]) -> bool
     requires { Exist existing × ((length rec.now ≡ record_size existing.counts.edition User) × (128 ≤ length rec.now)) }
     ensures { result ≡ user_groups_rule existing.counts.edition existing.counts.groups rec.now }
 {
-    let counts = existing.counts;
-    let edition = counts.edition;
     let all = existing.groups;
-    match edition {
+    match existing.counts.edition {
         Edition::One => words_exist(rec, 72, 8, all.word(0)),
         Edition::Two => {
             if !words_exist(rec, 72, 32, all.word(0)) {
@@ -173,13 +172,7 @@ fn groups_ok(existing: Existing, rec: &[u8]) -> bool
 fn bans_compaccess(edition: Edition, profile: Profile) -> bool
     ensures { result ≡ bans_compaccess edition profile }
 {
-    match edition {
-        Edition::One => match profile {
-            Profile::Tree => false,
-            Profile::Release => true,
-        },
-        Edition::Two => true,
-    }
+    (edition == Edition::Two) | (profile == Profile::Release)
 }
 
 // Bit 128 is zero, and COMPACCESS is absent where it is banned.
@@ -210,15 +203,13 @@ fn shape_ok(existing: Existing, rec: &[u8]) -> bool
     ensures { result ≡ user_shape existing.counts rec.now }
 {
     let counts = existing.counts;
-    let edition = counts.edition;
-    let profile = counts.profile;
     if !name_ok(rec[0], &rec[1..34]) {
         return false;
     }
-    if !privileges_ok(edition, profile, rec[31]) {
+    if !privileges_ok(counts.edition, counts.profile, rec[31]) {
         return false;
     }
-    if !unused_ok(edition, rec) {
+    if !unused_ok(counts.edition, rec) {
         return false;
     }
     if !levels_ok(rec, counts.levels) {

@@ -9,9 +9,8 @@ use lib.ListN.{get_or}
 use borrow.Author.Tests.{leb-true}
 use native.Mathlib.Omega.{arith}
 use Rattle.refusals.specs.Refusals.{number_of, values_of, packed_place}
-use Rattle.refusals.specs.Answers.{done, refused, refusal_given, checked_given}
-use Rattle.refusals.specs.declared.answers.Checked.{Checked}
-use Rattle.refusals.specs.declared.answers.Checked.TheVariants.{Accepted, Refused}
+use Rattle.std.proofs.Common.{Ok, Err}
+use Rattle.refusals.specs.Answers.{Checked, done, refused, refusal_given, checked_given}
 use Rattle.refusals.specs.declared.Refusal.{Refusal}
 use Rattle.refusals.specs.declared.Refusal.TheVariants.{ImageLength, BlockCheck, ImageLayout, ComponentRecord, LabelRecord, UserRecord, ParentRing, NoUser, TextShape, UnknownName, RepeatedName}
 use Rattle.refusals.specs.declared.Refusal.TheVariants.{LevelNotAllowed, CompartmentsNotAllowed, GroupsNotAllowed, RowLabelOutside, TableShape, Room}
@@ -95,7 +94,7 @@ pub refusal-given-tells : (r s : Refusal) → refusal_given r ≡ refusal_given 
 refusal-given-tells r s e = number-tells r s (same_number _ _ _ _ e) (same-values _ _ _ _ e)
 
 pub checked-given-tells : (c d : Checked) → checked_given c ≡ checked_given d → c ≡ d
-checked-given-tells Accepted Accepted e = refl
-checked-given-tells Accepted (Refused r) e = absurd (done_refused _ _ _ e)
-checked-given-tells (Refused r) Accepted e = absurd (done_refused _ _ _ (sym e))
-checked-given-tells (Refused r) (Refused s) e = ap Refused (refusal-given-tells r s e)
+checked-given-tells (Ok _) (Ok _) e = refl
+checked-given-tells (Ok _) (Err r) e = absurd (done_refused _ _ _ e)
+checked-given-tells (Err r) (Ok _) e = absurd (done_refused _ _ _ (sym e))
+checked-given-tells (Err r) (Err s) e = ap Err (refusal-given-tells r s e)

@@ -1,30 +1,33 @@
 -- Answers: done or refused, and a verdict. What each gives back, and how an answer goes on after another.
-use Rattle.std.specs.Prelude.{ℕ, ◌+◌, ◌*◌, ◌^◌, ◌<◌, Bool, true, false, cond, List}
+use Rattle.std.specs.Prelude.{ℕ, ◌+◌, ◌*◌, ◌^◌, ◌<◌, Bool, true, false, cond, List, Result, Ok, Err, ⊤}
 use Rattle.refusals.specs.declared.Refusal.{Refusal}
-use Rattle.refusals.specs.declared.answers.Checked.{Checked}
-use Rattle.refusals.specs.declared.answers.Checked.TheVariants.{Accepted, Refused}
-use Rattle.refusals.specs.declared.answers.Verdict.{Verdict}
-use Rattle.refusals.specs.declared.answers.Verdict.TheVariants.{Yes, No}
-use Rattle.refusals.specs.declared.answers.Verdict.TheVariants as verdict
 use Rattle.refusals.specs.Refusals.{number_of, values_of, place_in}
+
+-- done, or refused
+abbrev pub Checked : Type 0
+Checked = Result ⊤ Refusal
+
+-- yes or no, or the refusal where there is no verdict
+abbrev pub Verdict : Type 0
+Verdict = Result Bool Refusal
+
+-- a number, or refused: how many bytes are written, or how many rows
+abbrev pub Amount : Type 0
+Amount = Result ℕ Refusal
 
 -- what is given where an answer accepts; else what its refusal gives
 abbrev pub on_checked : {A : Type 0} → Checked → (Refusal → A) → A → A
-on_checked Accepted refuse answer = answer
-on_checked (Refused r) refuse answer = refuse r
+on_checked (Ok accepted) refuse answer = answer
+on_checked (Err r) refuse answer = refuse r
 
 -- the refusal unless the rule holds; then the rest
 abbrev pub or_refuse : Bool → Refusal → Checked → Checked
-or_refuse rule refusal rest = cond rule rest (Refused refusal)
+or_refuse rule refusal rest = cond rule rest (Err refusal)
 
 -- the answer refuses nothing
 abbrev pub allowed : Checked → Bool
-allowed Accepted = true
-allowed (Refused r) = false
-
--- yes where the rule grants it
-abbrev pub verdict_of : Bool → Verdict
-verdict_of granted = cond granted Yes No
+allowed (Ok accepted) = true
+allowed (Err r) = false
 
 -- ---- what is given back
 -- the value of a call that is done; or the number of a refusal, with the values returned beside it
@@ -38,14 +41,19 @@ refusal_given r = refused (number_of r) (values_of r)
 
 -- by an answer: 0 where it accepts
 abbrev pub checked_given : Checked → Given
-checked_given Accepted = done 0
-checked_given (Refused r) = refusal_given r
+checked_given (Ok accepted) = done 0
+checked_given (Err r) = refusal_given r
 
 -- by a verdict: 1 yes, 0 no
 abbrev pub verdict_given : Verdict → Given
-verdict_given Yes = done 1
-verdict_given No = done 0
-verdict_given (verdict.Refused r) = refusal_given r
+verdict_given (Ok true) = done 1
+verdict_given (Ok false) = done 0
+verdict_given (Err r) = refusal_given r
+
+-- by a number: how many bytes are written, or how many rows
+abbrev pub amount_given : Amount → Given
+amount_given (Ok n) = done n
+amount_given (Err r) = refusal_given r
 
 -- the number given back; 0 where it is done
 abbrev pub number_given : Given → ℕ

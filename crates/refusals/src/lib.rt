@@ -4,8 +4,6 @@
 
 #![tactic(auto)]
 
-pub mod answers;
-
 ghost use Rattle.std.specs.Prelude.{◌≡◌};
 ghost use Rattle.refusals.specs.Refusals.{number_of, packed_place, place_of};
 

@@ -1,29 +1,24 @@
 -- A read by a map that is judged right is the plain read. Assumes nothing.
+use Rattle.std.proofs.Common.{Ok, Err}
 use Prim.Native.Nat.{ℕ}
-use mathlib.Core.Path.{◌≡◌, refl, sym, ap, ◌∙◌}
-use mathlib.Core.Bool.{Bool, true, false, cond, ◌&&◌}
+use mathlib.Core.Path.{◌≡◌, refl, ap, ◌∙◌}
+use mathlib.Core.Bool.{Bool, true, false, cond}
 use mathlib.Core.List.{List, [], ◌∷◌}
-use lib.Dec.{ltb}
 use Rattle.refusals.specs.declared.Refusal.{Refusal}
 use Rattle.refusals.specs.declared.Refusal.TheVariants.{WrongMap}
-use Rattle.refusals.specs.declared.answers.Checked.TheVariants as checked
-use Rattle.refusals.specs.Answers.{on_checked, or_refuse}
-use Rattle.header.specs.Layout.{labels}
+use Rattle.refusals.specs.Answers.{on_checked, or_refuse, Amount}
 use Rattle.image.specs.Lookup.{label_of_tag}
-use Rattle.labels.specs.Label.{label_at}
 use Rattle.access.specs.Rights.{Rights}
-use Rattle.access.specs.Verdicts.{reads_label, known_tag, unknown_read, may_read}
-use Rattle.sessions.specs.Session.{SessionMarks, lent_answer, session_rights}
+use Rattle.access.specs.Verdicts.{known_tag, unknown_read, may_read}
+use Rattle.sessions.specs.Session.{SessionMarks, session_rights}
 use Rattle.maps.specs.Map.{bit_of, reads_record, map_rule}
 use Rattle.maps.specs.Calls.{map_answer, judge_map_of}
 use Rattle.maps.proofs.Bits.{bit_is, rule-means}
 use Rattle.maps.proofs.Judged.{judged-right}
 use Rattle.rows.specs.Run.{kept}
-use Rattle.rows.specs.Table.{rows_of, row_tag, row_readable, readable_rows, table_shape, table_answer}
+use Rattle.rows.specs.Table.{rows_of, row_tag, row_readable, readable_rows, table_answer}
 use Rattle.rows.specs.Reading.{handed_out, read_rows_of}
 use Rattle.rows.specs.Mapped.{tag_mapped, row_mapped, mapped_rows, read_mapped_of}
-use Rattle.rows.specs.declared.answers.RowsRead.{RowsRead}
-use Rattle.rows.specs.declared.answers.RowsRead.TheVariants.{Refused}
 
 -- two tests that agree keep the same rows
 pub kept_same : (test other : List ℕ → Bool) → ((row : List ℕ) → test row ≡ other row) → (rows : List (List ℕ)) → kept test rows ≡ kept other rows
@@ -66,28 +61,28 @@ module _ (im : List ℕ) (rights : Rights) (bits : List ℕ) (right : map_rule i
 
 -- ---- the call
 module _ (im : List ℕ) (s : SessionMarks) (table : List ℕ) (w : ℕ) (bits buffer : List ℕ) where
-  abbrev refuse : Refusal → RowsRead × List ℕ
-  refuse r = (Refused r, buffer)
+  abbrev refuse : Refusal → Amount × List ℕ
+  refuse r = (Err r, buffer)
 
   -- whatever the bytes, it is the plain read after the judgement
   pub mapped-plain : read_mapped_of im s table w bits buffer
       ≡ on_checked (table_answer im s table w) refuse
       (on_checked (map_answer im (session_rights im s) bits) refuse (handed_out (readable_rows im (session_rights im s) table w) buffer))
   unfolding read_mapped_of
-  mapped-plain = ap (λ (x : RowsRead × List ℕ). on_checked (table_answer im s table w) refuse x) (at (map_rule im (session_rights im s) bits) refl)
+  mapped-plain = ap (λ (x : Amount × List ℕ). on_checked (table_answer im s table w) refuse x) (at (map_rule im (session_rights im s) bits) refl)
     where
       at : (t : Bool) → map_rule im (session_rights im s) bits ≡ t
-          → on_checked (or_refuse t WrongMap checked.Accepted) refuse (handed_out (mapped_rows im bits (unknown_read im (session_rights im s)) table w) buffer)
-          ≡ on_checked (or_refuse t WrongMap checked.Accepted) refuse (handed_out (readable_rows im (session_rights im s) table w) buffer)
+          → on_checked (or_refuse t WrongMap (Ok tt)) refuse (handed_out (mapped_rows im bits (unknown_read im (session_rights im s)) table w) buffer)
+          ≡ on_checked (or_refuse t WrongMap (Ok tt)) refuse (handed_out (readable_rows im (session_rights im s) table w) buffer)
       at true e = ap (λ (rows : List (List ℕ)). handed_out rows buffer) (rows-mapped im (session_rights im s) bits e table w)
       at false e = refl
 
   -- where the bytes are judged right, the plain read
-  pub mapped-right : judge_map_of im s bits ≡ checked.Accepted → read_mapped_of im s table w bits buffer ≡ read_rows_of im s table w buffer
+  pub mapped-right : judge_map_of im s bits ≡ (Ok tt) → read_mapped_of im s table w bits buffer ≡ read_rows_of im s table w buffer
   unfolding read_rows_of
   mapped-right e = mapped-plain ∙ rw (judged-right im s bits e)
 
   -- where they are wrong and nothing before is, 20, whatever rows there are
-  pub mapped-wrong : table_answer im s table w ≡ checked.Accepted → map_rule im (session_rights im s) bits ≡ false
+  pub mapped-wrong : table_answer im s table w ≡ (Ok tt) → map_rule im (session_rights im s) bits ≡ false
       → read_mapped_of im s table w bits buffer ≡ refuse WrongMap
   mapped-wrong a e = mapped-plain ∙ rw (a, e)

@@ -10,7 +10,7 @@ use borrow.Author.Tests.{eq-eqb, ne_eqb, eqb-true, eqb-false}
 use lib.Dec.{eqb}
 use lib.ListN.{length, get_or, set, length-set}
 use lib.Seq.{get_or-set_same, get_or-set_other}
-use Rattle.rows.specs.Slots.{own_slot, held_from, held, Added}
+use Rattle.rows.specs.Slots.{own_slot, held_from, Added}
 
 -- two numbers are equal or not
 equal-or : (a b : ℕ) → (a ≡ b) ⊎ (a ≡ b → ⊥)

@@ -1,4 +1,5 @@
 -- What it means that the n-th row of those that pass a test is changed, said without recursion; and what a read counts. Assumes nothing.
+use Rattle.std.proofs.Common.{Ok, Err}
 use Prim.Native.Nat.{ℕ, zero, suc, ◌≤◌}
 use mathlib.Core.Path.{◌≡◌, refl, sym, ap, ◌∙◌}
 use mathlib.Core.Bool.{Bool, true, false, cond, true≢false, false≢true}
@@ -8,15 +9,11 @@ use lib.Dec.{leb}
 use lib.ListN.{length, get_or, set}
 use Rattle.buffers.specs.Pasting.{at_front}
 use Rattle.refusals.specs.declared.Refusal.TheVariants.{Room}
-use Rattle.refusals.specs.declared.answers.Checked.{Checked}
-use Rattle.refusals.specs.declared.answers.Checked.TheVariants as checked
-use Rattle.refusals.specs.Answers.{on_checked}
+use Rattle.refusals.specs.Answers.{on_checked, Amount, Checked}
 use Rattle.sessions.specs.Session.{SessionMarks, session_rights}
 use Rattle.rows.specs.Run.{kept, changed_nth}
 use Rattle.rows.specs.Table.{readable_rows, table_answer}
 use Rattle.rows.specs.Reading.{handed_out, read_rows_of}
-use Rattle.rows.specs.declared.answers.RowsRead.{RowsRead}
-use Rattle.rows.specs.declared.answers.RowsRead.TheVariants.{Done, Refused}
 use Rattle.rows.proofs.Standing.{AllWide}
 
 -- ---- changing the n-th row that passes: any test, any change
@@ -140,27 +137,27 @@ module _ (test : List ℕ → Bool) (change : List ℕ → List ℕ) where
       at false e next later = simp e (a.0, later)
 
 -- ---- what a read counts
-abbrev is_done : RowsRead → Bool
-is_done (Done count) = true
-is_done (Refused r) = false
+abbrev is_done : Amount → Bool
+is_done (Ok count) = true
+is_done (Err r) = false
 
-abbrev count_in : RowsRead → ℕ
-count_in (Done count) = count
-count_in (Refused r) = zero
+abbrev count_in : Amount → ℕ
+count_in (Ok count) = count
+count_in (Err r) = zero
 
 -- a done read's count is how many rows that session may read then
 pub read_count : (im : List ℕ) (s : SessionMarks) (table : List ℕ) (w : ℕ) (buffer : List ℕ) (count : ℕ) (after : List ℕ)
-    → read_rows_of im s table w buffer ≡ (Done count, after) → count ≡ length (readable_rows im (session_rights im s) table w)
+    → read_rows_of im s table w buffer ≡ (Ok count, after) → count ≡ length (readable_rows im (session_rights im s) table w)
 unfolding read_rows_of handed_out
 read_count im s table w buffer count after =
     at (table_answer im s table w) (readable_rows im (session_rights im s) table w)
     (leb (length (flatten (readable_rows im (session_rights im s) table w))) (length buffer))
   where
     at : (c : Checked) (rows : List (List ℕ)) (t : Bool)
-        → ◌≡◌ {A = RowsRead × List ℕ}
-        (on_checked c (λ r. (Refused r, buffer)) (cond t (Done (length rows), at_front (flatten rows) buffer) (Refused Room, buffer)))
-        (Done count, after)
+        → ◌≡◌ {A = Amount × List ℕ}
+        (on_checked c (λ r. (Err r, buffer)) (cond t (Ok (length rows), at_front (flatten rows) buffer) (Err Room, buffer)))
+        (Ok count, after)
         → count ≡ length rows
-    at checked.Accepted rows true e = sym (ap (λ (x : RowsRead × List ℕ). count_in x.0) e)
-    at checked.Accepted rows false e = absurd (false≢true (ap (λ (x : RowsRead × List ℕ). is_done x.0) e))
-    at (checked.Refused r) rows t e = absurd (false≢true (ap (λ (x : RowsRead × List ℕ). is_done x.0) e))
+    at (Ok tt) rows true e = sym (ap (λ (x : Amount × List ℕ). count_in x.0) e)
+    at (Ok tt) rows false e = absurd (false≢true (ap (λ (x : Amount × List ℕ). is_done x.0) e))
+    at (Err r) rows t e = absurd (false≢true (ap (λ (x : Amount × List ℕ). is_done x.0) e))

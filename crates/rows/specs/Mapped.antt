@@ -1,7 +1,7 @@
 -- Reading with a map, request R-4: the map is judged, and then bits only are looked up. The image says which label record carries a row's tag, and
 -- its bit decides. Of rows whose tag is 0 or unknown no bit tells: there the edition and READ or FULL decide, once for the whole read.
-use Rattle.std.specs.Prelude.{ℕ, Bool, cond, List}
-use Rattle.refusals.specs.Answers.{on_checked}
+use Rattle.std.specs.Prelude.{ℕ, Bool, cond, List, Err}
+use Rattle.refusals.specs.Answers.{on_checked, Amount}
 use Rattle.image.specs.Lookup.{label_of_tag}
 use Rattle.access.specs.Verdicts.{known_tag, unknown_read}
 use Rattle.sessions.specs.Session.{SessionMarks, session_rights}
@@ -10,8 +10,6 @@ use Rattle.maps.specs.Calls.{map_answer}
 use Rattle.rows.specs.Run.{kept}
 use Rattle.rows.specs.Table.{rows_of, row_tag, table_answer}
 use Rattle.rows.specs.Reading.{handed_out}
-use Rattle.rows.specs.declared.answers.RowsRead.{RowsRead}
-use Rattle.rows.specs.declared.answers.RowsRead.TheVariants.{Refused}
 
 -- ---- by any bytes, and whether rows of unknown tags are handed out; no rights, and so no verdict
 -- a row of that tag is handed out
@@ -27,9 +25,9 @@ unfoldable pub mapped_rows : List ℕ → List ℕ → Bool → List ℕ → ℕ
 mapped_rows im bits unknownSeen table width = kept (row_mapped im bits unknownSeen) (rows_of table width)
 
 -- ---- the answer of `read_mapped`, and the buffer after it: 1, 2, 31 to 35, 19, 12, then 20, then 13
-unfoldable pub read_mapped_of : List ℕ → SessionMarks → List ℕ → ℕ → List ℕ → List ℕ → RowsRead × List ℕ
+unfoldable pub read_mapped_of : List ℕ → SessionMarks → List ℕ → ℕ → List ℕ → List ℕ → Amount × List ℕ
 read_mapped_of im s table width bits buffer =
     let rights = session_rights im s in
-    on_checked (table_answer im s table width) (λ r. (Refused r, buffer))
-    (on_checked (map_answer im rights bits) (λ r. (Refused r, buffer))
+    on_checked (table_answer im s table width) (λ r. (Err r, buffer))
+    (on_checked (map_answer im rights bits) (λ r. (Err r, buffer))
     (handed_out (mapped_rows im bits (unknown_read im rights) table width) buffer))

@@ -1,6 +1,6 @@
 -- A run of rows: bytes that are whole rows of one width, one after the other. A row is its bytes, the tag too.
 use Rattle.std.specs.Prelude.{ℕ, zero, suc, ◌+◌, ◌*◌, ◌/◌, ◌%◌, ◌≤◌, ◌≡◌, Bool, cond, length, take, drop}
-use mathlib.Core.List.{List, [], ◌∷◌, flatten}
+use mathlib.Core.List.{List, [], ◌∷◌}
 
 -- bytes that are a run of rows: a width is 5 to 512, and the length is a multiple of it
 pub record IsRun (run : List ℕ) (width : ℕ) : Type 0 where

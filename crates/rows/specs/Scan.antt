@@ -1,13 +1,11 @@
 -- What the parts of the row calls do, one row at a time.
-use Rattle.std.specs.Prelude.{ℕ, ◌*◌, ◌≤◌, ◌≡◌, Bool, true, cond, length}
+use Rattle.sessions.specs.Lent.{LentView}
+use Rattle.std.specs.Prelude.{ℕ, ◌*◌, ◌≤◌, ◌≡◌, Bool, true, cond, length, Ok, Err}
 use mathlib.Core.List.{List, [], flatten}
 use Rattle.header.specs.Layout.{labels}
-use Rattle.access.specs.Rights.{Rights, rights_of}
+use Rattle.access.specs.Rights.{rights_of}
 use Rattle.image.specs.Check.{IsAccepted}
-use Rattle.refusals.specs.declared.answers.Checked.TheVariants as checked
 use Rattle.sessions.specs.Session.{SessionMarks, session_rights}
-use Rattle.sessions.specs.declared.given.Lent.{Lent}
-use Rattle.sessions.specs.declared.given.Lent.TheVariants.{At, Refused}
 use Rattle.rows.specs.Run.{IsRun, run_rows, kept}
 use Rattle.rows.specs.Table.{table_rule, table_answer}
 
@@ -42,7 +40,7 @@ pub record MappedRun (im bits run : List ℕ) (width : ℕ) : Type 0 where
   pub whole : IsRun run width
 
 -- what the code finds of a lent session and table: what the session gives its user, or the refusal
-abbrev pub TableGives : List ℕ → SessionMarks → List ℕ → ℕ → Lent → Type 0
-TableGives im s table width (At view) =
-    (table_answer im s table width ≡ checked.Accepted) × (UsableTable im table width × (rights_of view ≡ session_rights im s))
-TableGives im s table width (Refused r) = table_answer im s table width ≡ checked.Refused r
+abbrev pub TableGives : List ℕ → SessionMarks → List ℕ → ℕ → LentView → Type 0
+TableGives im s table width (Ok view) =
+    (table_answer im s table width ≡ Ok tt) × (UsableTable im table width × (rights_of view ≡ session_rights im s))
+TableGives im s table width (Err r) = table_answer im s table width ≡ Err r

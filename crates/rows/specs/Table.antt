@@ -1,11 +1,9 @@
 -- A table: lent bytes that hold a run of rows of one width, 5 to 512; a row's tag is its first 4 bytes.
-use Rattle.std.specs.Prelude.{ℕ, ◌+◌, ◌-◌, ◌%◌, Bool, ◌&&◌, eqb, length, take, drop}
+use Rattle.std.specs.Prelude.{ℕ, ◌+◌, ◌-◌, ◌%◌, Bool, ◌&&◌, eqb, length, take, drop, Ok, Err}
 use mathlib.Core.List.{List, ◌++◌, flatten}
 use Rattle.fields.specs.Bytes.{number4}
 use Rattle.refusals.specs.declared.Refusal.TheVariants.{TableShape}
-use Rattle.refusals.specs.declared.answers.Checked.{Checked}
-use Rattle.refusals.specs.declared.answers.Checked.TheVariants.{Accepted, Refused}
-use Rattle.refusals.specs.Answers.{on_checked, or_refuse}
+use Rattle.refusals.specs.Answers.{on_checked, or_refuse, Checked}
 use Rattle.access.specs.Rights.{Rights, between}
 use Rattle.access.specs.Verdicts.{may_read, may_write}
 use Rattle.sessions.specs.Session.{SessionMarks, lent_answer}
@@ -77,8 +75,8 @@ unfoldable pub table_rule : List ℕ → ℕ → Bool
 table_rule table width = width_rule width && eqb (length table % width) 0
 
 abbrev pub table_shape : List ℕ → ℕ → Checked
-table_shape table width = or_refuse (table_rule table width) TableShape Accepted
+table_shape table width = or_refuse (table_rule table width) TableShape (Ok tt)
 
 -- what every row call asks first: 1, 2, 31 to 35, 19, then 12
 unfoldable pub table_answer : List ℕ → SessionMarks → List ℕ → ℕ → Checked
-table_answer im s table width = on_checked (lent_answer im s) Refused (table_shape table width)
+table_answer im s table width = on_checked (lent_answer im s) Err (table_shape table width)

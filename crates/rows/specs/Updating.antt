@@ -1,10 +1,8 @@
 -- Updating takes n, counted from 0 among rows readable now, and a payload of width minus 4 bytes; it replaces that row's payload and
 -- nothing else.
-use Rattle.std.specs.Prelude.{ℕ, List, [], eqb, ltb, length, get_or}
+use Rattle.std.specs.Prelude.{ℕ, List, [], eqb, ltb, length, get_or, Ok, Err}
 use Rattle.refusals.specs.declared.Refusal.TheVariants.{PayloadLength, NoRow, RowNotWritable}
-use Rattle.refusals.specs.declared.answers.Checked.{Checked}
-use Rattle.refusals.specs.declared.answers.Checked.TheVariants.{Accepted, Refused}
-use Rattle.refusals.specs.Answers.{on_checked, or_refuse}
+use Rattle.refusals.specs.Answers.{on_checked, or_refuse, Checked}
 use Rattle.access.specs.Rights.{Rights}
 use Rattle.sessions.specs.Session.{SessionMarks, session_rights}
 use Rattle.rows.specs.Table.{table_changed, payload_length, with_payload, row_readable, row_writable, readable_rows, table_answer}
@@ -15,7 +13,7 @@ unfoldable pub nth_row_answer : List ℕ → Rights → List (List ℕ) → ℕ 
 nth_row_answer im rights readable width n payload =
     or_refuse (eqb (length payload) (payload_length width)) PayloadLength
     (or_refuse (ltb n (length readable)) NoRow
-    (or_refuse (row_writable im rights (get_or readable n [])) RowNotWritable Accepted))
+    (or_refuse (row_writable im rights (get_or readable n [])) RowNotWritable (Ok tt)))
 
 -- the table with that row's payload replaced
 unfoldable pub table_updated : List ℕ → Rights → List ℕ → ℕ → ℕ → List ℕ → List ℕ
@@ -30,4 +28,4 @@ update_with im rights table width n payload =
 -- ---- the answer of `update`, and the table after it: 1, 2, 31 to 35, 19, 12 before all others
 unfoldable pub update_row_of : List ℕ → SessionMarks → List ℕ → ℕ → ℕ → List ℕ → Checked × List ℕ
 update_row_of im s table width n payload =
-    on_checked (table_answer im s table width) (λ r. (Refused r, table)) (update_with im (session_rights im s) table width n payload)
+    on_checked (table_answer im s table width) (λ r. (Err r, table)) (update_with im (session_rights im s) table width n payload)

@@ -6,7 +6,6 @@ ghost use Rattle.rows.specs.Mapped.{row_mapped};
 ghost use Rattle.rows.specs.Reading.{handed_out};
 ghost use Rattle.rows.specs.Scan.{kept_bytes, Mapping, MappedRun};
 
-use crate::answers::RowsRead;
 use buffers::given::put;
 use fields::numbers::number4;
 use header::layout;
@@ -88,13 +87,13 @@ pub fn few_by_map(
     run: &[u8],
     width: usize,
     buffer: &mut [u8],
-) -> RowsRead
+) -> Result<usize, Refusal>
     requires { MappedRun image.now bits.now run.now width }
     ensures { (result, buffer.new) ≡ handed_out (kept (row_mapped image.now bits.now unknown) (run_rows run.now width)) buffer.old }
 {
     if !few_fit(image, bits, unknown, run, width, buffer.len()) {
-        return RowsRead::Refused(Refusal::Room);
+        return Err(Refusal::Room);
     }
     let end = copy_few(image, bits, unknown, run, width, buffer);
-    RowsRead::Done(end / width)
+    Ok(end / width)
 }

@@ -2,7 +2,6 @@
 
 #![tactic(auto)]
 
-pub mod answers;
 mod copying;
 mod few;
 mod mapped;
@@ -24,13 +23,12 @@ ghost use Rattle.rows.specs.Updating.{update_row_of};
 ghost use Rattle.rows.specs.Masked.{masked_verdict_of, masked_part};
 ghost use Rattle.rows.specs.Scan.{TableGives};
 
-use answers::RowsRead;
+use access::rights::View;
 use hierarchy::table;
 use maps::given::is_map;
 use refusals::Refusal;
-use refusals::answers::{Checked, Verdict};
 use run::{row_offset, run_of};
-use sessions::given::{Lent, lent_rights};
+use sessions::given::lent_rights;
 use sessions::session::Session;
 
 // A width is 5 to 512, and the table's length a multiple of it.
@@ -44,20 +42,15 @@ fn table_ok(table: &[u8], width: usize) -> bool
 }
 
 // What the session gives its user; or 1, 2, 31 to 35, 19, 12.
-fn table_rights(image: &[u8], session: Session, table: &[u8], width: usize) -> Lent
+fn table_rights(image: &[u8], session: Session, table: &[u8], width: usize) -> Result<View, Refusal>
     ensures { TableGives image.now (session_of session) table.now width result }
 {
     let mut parents = table::EMPTY;
-    let found = lent_rights(image, &mut parents, session);
-    match found {
-        Lent::At(view) => {
-            if !table_ok(table, width) {
-                return Lent::Refused(Refusal::TableShape);
-            }
-            Lent::At(view)
-        }
-        Lent::Refused(refusal) => Lent::Refused(refusal),
+    let view = lent_rights(image, &mut parents, session)?;
+    if !table_ok(table, width) {
+        return Err(Refusal::TableShape);
     }
+    Ok(view)
 }
 
 // Copies the rows that the session may read to the front of the buffer, whole and in table order, and tells how many. Refusals: 1, 2, 31 to 35,
@@ -68,14 +61,11 @@ pub fn read(
     table: &[u8],
     width: usize,
     buffer: &mut [u8],
-) -> RowsRead
+) -> Result<usize, Refusal>
     ensures { (result, buffer.new) ≡ read_rows_of image.now (session_of session) table.now width buffer.old }
 {
-    let found = table_rights(image, session, table, width);
-    match found {
-        Lent::At(view) => reading::read_accepted(image, view, run_of(table, width), width, buffer),
-        Lent::Refused(refusal) => RowsRead::Refused(refusal),
-    }
+    let view = table_rights(image, session, table, width)?;
+    reading::read_accepted(image, view, run_of(table, width), width, buffer)
 }
 
 // The same by a map of the session, which is judged before any row is looked at. Refusals: 1, 2, 31 to 35, 19, 12, 20, 13; the buffer is then as
@@ -87,19 +77,14 @@ pub fn read_mapped(
     width: usize,
     bits: &[u8],
     buffer: &mut [u8],
-) -> RowsRead
+) -> Result<usize, Refusal>
     ensures { (result, buffer.new) ≡ read_mapped_of image.now (session_of session) table.now width bits.now buffer.old }
 {
-    let found = table_rights(image, session, table, width);
-    match found {
-        Lent::At(view) => {
-            if !is_map(image, view, bits) {
-                return RowsRead::Refused(Refusal::WrongMap);
-            }
-            reading::read_judged(image, view, bits, run_of(table, width), width, buffer)
-        }
-        Lent::Refused(refusal) => RowsRead::Refused(refusal),
+    let view = table_rights(image, session, table, width)?;
+    if !is_map(image, view, bits) {
+        return Err(Refusal::WrongMap);
     }
+    reading::read_judged(image, view, bits, run_of(table, width), width, buffer)
 }
 
 // Replaces the payload of the n-th row, from 0, among those that the session may read. Refusals: 1, 2, 31 to 35, 19, 12, 16, 14, 15; the table is
@@ -111,14 +96,11 @@ pub fn update(
     width: usize,
     n: usize,
     payload: &[u8],
-) -> Checked
+) -> Result<(), Refusal>
     ensures { (result, table.new) ≡ update_row_of image.now (session_of session) table.old width n payload.now }
 {
-    let found = table_rights(image, session, table, width);
-    match found {
-        Lent::At(view) => updating::update_accepted(image, view, table, width, n, payload),
-        Lent::Refused(refusal) => Checked::Refused(refusal),
-    }
+    let view = table_rights(image, session, table, width)?;
+    updating::update_accepted(image, view, table, width, n, payload)
 }
 
 // May the session read the row at that place, from 0, among all rows? It tells how `masked_read` ends. Refusals: 1, 2, 31 to 35, 19, 12, 14.
@@ -128,14 +110,11 @@ pub fn masked_verdict(
     table: &[u8],
     width: usize,
     place: usize,
-) -> Verdict
+) -> Result<bool, Refusal>
     ensures { result ≡ masked_verdict_of image.now (session_of session) table.now width place }
 {
-    let found = table_rights(image, session, table, width);
-    match found {
-        Lent::At(view) => masking::place_verdict(image, view, run_of(table, width), width, place),
-        Lent::Refused(refusal) => Verdict::Refused(refusal),
-    }
+    let view = table_rights(image, session, table, width)?;
+    masking::place_verdict(image, view, run_of(table, width), width, place)
 }
 
 // The payload of the row at that place if the session may read it, otherwise the mask; an empty part where `masked_verdict` refuses.
@@ -149,13 +128,12 @@ pub fn masked_read<'a>(
 ) -> &'a [u8]
     ensures { (result.ref_ptr, result.now) ≡ masked_part image.now (session_of session) table.entry width place mask.entry }
 {
-    let verdict = masked_verdict(image, session, table, width, place);
-    match verdict {
-        Verdict::Yes => {
-            let at = row_offset(width, place);
-            &table[at + 4..at + width]
-        }
-        Verdict::No => mask,
-        Verdict::Refused(_refusal) => &mask[0..0],
+    let Ok(readable) = masked_verdict(image, session, table, width, place) else {
+        return &mask[0..0];
+    };
+    if !readable {
+        return mask;
     }
+    let at = row_offset(width, place);
+    &table[at + 4..at + width]
 }

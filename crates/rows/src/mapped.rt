@@ -8,7 +8,6 @@ ghost use Rattle.rows.specs.Reading.{handed_out};
 ghost use Rattle.rows.specs.Scan.{kept_bytes, MappedRun};
 ghost use Rattle.rows.specs.Slots.{row_held};
 
-use crate::answers::RowsRead;
 use crate::copying::put_row;
 use crate::few::few_by_map;
 use crate::slots::{COUNT, Slots, has};
@@ -99,7 +98,13 @@ fn copy_mapped(slots: &Slots, run: &[u8], width: usize, buffer: &mut [u8]) -> us
 }
 
 // One array serves the counting and the copying. Where a tag finds no slot, each row is asked.
-fn many_by_map(image: &[u8], bits: &[u8], run: &[u8], width: usize, buffer: &mut [u8]) -> RowsRead
+fn many_by_map(
+    image: &[u8],
+    bits: &[u8],
+    run: &[u8],
+    width: usize,
+    buffer: &mut [u8],
+) -> Result<usize, Refusal>
     requires { MappedRun image.now bits.now run.now width }
     ensures { (result, buffer.new) ≡ handed_out (kept (row_mapped image.now bits.now false) (run_rows run.now width)) buffer.old }
 {
@@ -108,10 +113,10 @@ fn many_by_map(image: &[u8], bits: &[u8], run: &[u8], width: usize, buffer: &mut
         return few_by_map(image, bits, false, run, width, buffer);
     }
     if !mapped_fits(&slots, run, width, buffer.len()) {
-        return RowsRead::Refused(Refusal::Room);
+        return Err(Refusal::Room);
     }
     let end = copy_mapped(&slots, run, width, buffer);
-    RowsRead::Done(end / width)
+    Ok(end / width)
 }
 
 // 13 where they are longer than the buffer: then no byte is written. Finding the tags pays from some hundreds of rows on. Slots hold no unknown tags.
@@ -122,7 +127,7 @@ pub fn read_by_map(
     run: &[u8],
     width: usize,
     buffer: &mut [u8],
-) -> RowsRead
+) -> Result<usize, Refusal>
     requires { MappedRun image.now bits.now run.now width }
     ensures { (result, buffer.new) ≡ handed_out (kept (row_mapped image.now bits.now unknown) (run_rows run.now width)) buffer.old }
 {

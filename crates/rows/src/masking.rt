@@ -9,20 +9,21 @@ use crate::run::row_offset;
 use crate::scan::is_readable;
 use access::rights::View;
 use refusals::Refusal;
-use refusals::answers::Verdict;
 
 // 14 where there is no row at that place.
-pub fn place_verdict(image: &[u8], view: View, run: &[u8], width: usize, place: usize) -> Verdict
+pub fn place_verdict(
+    image: &[u8],
+    view: View,
+    run: &[u8],
+    width: usize,
+    place: usize,
+) -> Result<bool, Refusal>
     requires { Usable image.now run.now width }
     ensures { result ≡ place_verdict image.now (rights_of view) (run_rows run.now width) place }
 {
     if run.len() / width <= place {
-        return Verdict::Refused(Refusal::NoRow);
+        return Err(Refusal::NoRow);
     }
     let at = row_offset(width, place);
-    if is_readable(image, view, &run[at..at + width]) {
-        Verdict::Yes
-    } else {
-        Verdict::No
-    }
+    Ok(is_readable(image, view, &run[at..at + width]))
 }

@@ -7,7 +7,6 @@ ghost use Rattle.rows.specs.Table.{row_readable};
 ghost use Rattle.rows.specs.Reading.{handed_out};
 ghost use Rattle.rows.specs.Scan.{kept_bytes, Usable};
 
-use crate::answers::RowsRead;
 use crate::mapped::read_by_map;
 use crate::scan::{copy_readable, readable_length};
 use access::rights::View;
@@ -28,27 +27,33 @@ fn has_room(image: &[u8], view: View, run: &[u8], width: usize, room: usize) -> 
 }
 
 // A verdict is asked of each row.
-fn read_few(image: &[u8], view: View, run: &[u8], width: usize, buffer: &mut [u8]) -> RowsRead
+fn read_few(
+    image: &[u8],
+    view: View,
+    run: &[u8],
+    width: usize,
+    buffer: &mut [u8],
+) -> Result<usize, Refusal>
     requires { Usable image.now run.now width }
     ensures { (result, buffer.new) ≡ handed_out (kept (row_readable image.now (rights_of view)) (run_rows run.now width)) buffer.old }
 {
     if !has_room(image, view, run, width, buffer.len()) {
-        return RowsRead::Refused(Refusal::Room);
+        return Err(Refusal::Room);
     }
     let end = copy_readable(image, view, run, width, buffer);
-    RowsRead::Done(end / width)
+    Ok(end / width)
 }
 
 // Every row is handed out.
-fn read_whole(run: &[u8], width: usize, buffer: &mut [u8]) -> RowsRead
+fn read_whole(run: &[u8], width: usize, buffer: &mut [u8]) -> Result<usize, Refusal>
     requires { IsRun run.now width }
     ensures { (result, buffer.new) ≡ handed_out (run_rows run.now width) buffer.old }
 {
     if buffer.len() < run.len() {
-        return RowsRead::Refused(Refusal::Room);
+        return Err(Refusal::Room);
     }
     let end = put_table(run, buffer, 0);
-    RowsRead::Done(end / width)
+    Ok(end / width)
 }
 
 // By bytes that are judged to be the map. Whoever sees rows of unknown tags sees every row.
@@ -59,7 +64,7 @@ pub fn read_judged(
     run: &[u8],
     width: usize,
     buffer: &mut [u8],
-) -> RowsRead
+) -> Result<usize, Refusal>
     requires { Usable image.now run.now width × (map_rule image.now (rights_of view) bits.now ≡ true) }
     ensures { (result, buffer.new) ≡ handed_out (kept (row_readable image.now (rights_of view)) (run_rows run.now width)) buffer.old }
 {
@@ -70,7 +75,13 @@ pub fn read_judged(
 }
 
 // A verdict is asked of each label once, as a map of the session. By it, the read is the same.
-fn read_many(image: &[u8], view: View, run: &[u8], width: usize, buffer: &mut [u8]) -> RowsRead
+fn read_many(
+    image: &[u8],
+    view: View,
+    run: &[u8],
+    width: usize,
+    buffer: &mut [u8],
+) -> Result<usize, Refusal>
     requires { Usable image.now run.now width }
     ensures { (result, buffer.new) ≡ handed_out (kept (row_readable image.now (rights_of view)) (run_rows run.now width)) buffer.old }
 {
@@ -86,7 +97,7 @@ pub fn read_accepted(
     run: &[u8],
     width: usize,
     buffer: &mut [u8],
-) -> RowsRead
+) -> Result<usize, Refusal>
     requires { Usable image.now run.now width }
     ensures { (result, buffer.new) ≡ handed_out (kept (row_readable image.now (rights_of view)) (run_rows run.now width)) buffer.old }
 {

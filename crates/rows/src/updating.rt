@@ -10,7 +10,6 @@ use crate::scan::is_writable;
 use access::rights::View;
 use buffers::given::put;
 use refusals::Refusal;
-use refusals::answers::Checked;
 
 // 16, 14, 15; otherwise the payload of the n-th readable row is replaced.
 pub fn update_accepted(
@@ -20,21 +19,21 @@ pub fn update_accepted(
     width: usize,
     n: usize,
     payload: &[u8],
-) -> Checked
+) -> Result<(), Refusal>
     requires { UsableTable image.now table.old width }
     ensures { (result, table.new) ≡ update_with image.now (rights_of view) table.old width n payload.now }
 {
     if payload.len() != width - 4 {
-        return Checked::Refused(Refusal::PayloadLength);
+        return Err(Refusal::PayloadLength);
     }
     let run = run_of(table, width);
     let at = nth_offset(image, view, run, width, n);
     if run.len() <= at {
-        return Checked::Refused(Refusal::NoRow);
+        return Err(Refusal::NoRow);
     }
     if !is_writable(image, view, &run[at..at + width]) {
-        return Checked::Refused(Refusal::RowNotWritable);
+        return Err(Refusal::RowNotWritable);
     }
     put(payload, table, at + 4);
-    Checked::Accepted
+    Ok(())
 }

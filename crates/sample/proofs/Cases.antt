@@ -1,4 +1,5 @@
 -- P1 to P16 of document 01: every question of the list gives what the document says. Computed. Assumes nothing.
+use Rattle.std.proofs.Common.{Ok}
 use Prim.Native.Nat.{ℕ}
 use mathlib.Core.Path.{◌≡◌, refl, ◌∙◌}
 use mathlib.Core.List.{List, [], ◌∷◌, map}
@@ -11,7 +12,6 @@ use Rattle.sets.specs.Sets.{has, difference, empty, all_below, within, meets, co
 use Rattle.header.specs.Layout.{levels, compartments, groups, labels, components, first_block, blocks_for, record_offset, record_at, class_first, edition_of, profile_of, records_of}
 use Rattle.hierarchy.specs.Forest.{has_parent_in, lineage_within_in, lineage_in, below_in}
 use Rattle.hierarchy.specs.Below.{parent_in, reach}
-use Rattle.refusals.specs.declared.answers.Checked.TheVariants.{Accepted}
 use Rattle.image.specs.Check.{check_of}
 use Rattle.image.specs.Lookup.{component_index, label_of_tag}
 use Rattle.labels.specs.Text.{text_byte, split, is_name, is_list, shape_rule}
@@ -27,7 +27,6 @@ use Rattle.sessions.specs.Session.{lent_answer, session_rights}
 use Rattle.sessions.specs.Opening.{session, open_of}
 use Rattle.sessions.specs.Changes.{label_change, set_label_of}
 use Rattle.sessions.specs.Asking.{may_read_of, may_write_of}
-use Rattle.refusals.specs.Answers.{verdict_of}
 use Rattle.sample.specs.Pieces.{mara}
 use Rattle.sample.specs.Cooperative.{cases_image, mara_opened}
 use Rattle.sample.specs.Questions.{Question, of_row, new_label, merged, printed, Told, told_verdicts, told_change, on_label, on_merged, told_print, buffer, answer}
@@ -37,14 +36,14 @@ use Rattle.sample.proofs.Mara.{mara-opens-cases, mara-passes-cases}
 
 -- ---- of an image that is accepted, where MARA's session opens and passes 19, questions are answered without these checks
 record Known (im : List ℕ) : Type 0 where
-  accepted : check_of im ≡ Accepted
+  accepted : check_of im ≡ Ok tt
   opens : open_of im mara ≡ session mara_opened
-  passes : lent_answer im mara_opened ≡ Accepted
+  passes : lent_answer im mara_opened ≡ Ok tt
 
 abbrev shortly : List ℕ → Question → Told
 shortly im (of_row tag) =
     let rights = session_rights im mara_opened in
-    told_verdicts im tag (verdict_of (may_read im rights tag)) (verdict_of (may_write im rights tag))
+    told_verdicts im tag (Ok (may_read im rights tag)) (Ok (may_write im rights tag))
 shortly im (new_label text) = told_change (label_change im mara_opened text)
 shortly im (merged text1 text2 letters) =
     on_label (of_text (read_text im text1))

@@ -1,5 +1,6 @@
 -- Dominance in the sample co-operative, computed: a group counts for those above it, at any distance, and dominance isn't transitive. Assumes
 -- nothing.
+use Rattle.std.proofs.Common.{Ok}
 use Prim.Native.Nat.{ℕ, ◌^◌, ◌≤◌, ◌<◌}
 use mathlib.Core.Path.{◌≡◌, refl, sym, ap, ◌∙◌, subst}
 use mathlib.Core.Bool.{true, false}
@@ -14,8 +15,6 @@ use Rattle.sets.proofs.Bounds.{none_below}
 use Rattle.header.specs.Layout.{levels, compartments, groups, components, first_block, blocks_for, record_offset, record_at, class_first, edition_of, profile_of, records_of}
 use Rattle.hierarchy.specs.Forest.{has_parent_in, lineage_within_in, lineage_in, below_in}
 use Rattle.hierarchy.specs.Below.{parent_in, reach}
-use Rattle.refusals.specs.declared.answers.Verdict.TheVariants.{Yes, No}
-use Rattle.refusals.specs.Answers.{verdict_of}
 use Rattle.labels.specs.Label.{Marks, marks, label_exists}
 use Rattle.labels.proofs.Existing.{means-exists}
 use Rattle.labels.specs.GroupTest.{group_test}
@@ -59,25 +58,25 @@ exist g h =
     counted : (1 < levels cooperative) × (groups cooperative ≡ 4)
     counted = unfold cooperative levels groups edition_of in (lit< tt, refl)
 
-answered : (a b : ℕ) → a ≤ 15 → b ≤ 15 → dominates_of cooperative (crew a) (crew b) ≡ verdict_of (dominates cooperative (crew a) (crew b))
+answered : (a b : ℕ) → a ≤ 15 → b ≤ 15 → dominates_of cooperative (crew a) (crew b) ≡ Ok (dominates cooperative (crew a) (crew b))
 unfolding dominates_of
 answered a b ha hb =
     rw (means-compared cooperative (crew a) (crew b) (record { accepted = sample-accepted; first = exist a ha; second = exist b hb }))
 
 -- NORTH dominates DOCK, which stands under it; WORKS does so two steps down; DOCK does not dominate NORTH
-pub subgroups-dominated : (dominates_of cooperative north dock ≡ Yes) × (dominates_of cooperative works dock ≡ Yes)
-    × (dominates_of cooperative dock north ≡ No)
+pub subgroups-dominated : (dominates_of cooperative north dock ≡ Ok true) × (dominates_of cooperative works dock ≡ Ok true)
+    × (dominates_of cooperative dock north ≡ Ok false)
 subgroups-dominated = (
-  answered 2 4 (lit≤ tt) (lit≤ tt) ∙ ap verdict_of computed.0.0,
-  answered 1 4 (lit≤ tt) (lit≤ tt) ∙ ap verdict_of computed.0.1,
-  answered 4 2 (lit≤ tt) (lit≤ tt) ∙ ap verdict_of computed.0.2,
+  answered 2 4 (lit≤ tt) (lit≤ tt) ∙ ap Ok computed.0.0,
+  answered 1 4 (lit≤ tt) (lit≤ tt) ∙ ap Ok computed.0.1,
+  answered 4 2 (lit≤ tt) (lit≤ tt) ∙ ap Ok computed.0.2,
 )
 
 -- NORTH dominates NORTH,SOUTH, which dominates SOUTH, but NORTH does not dominate SOUTH
-pub not-transitive : (dominates_of cooperative north north_south ≡ Yes) × (dominates_of cooperative north_south south ≡ Yes)
-    × (dominates_of cooperative north south ≡ No)
+pub not-transitive : (dominates_of cooperative north north_south ≡ Ok true) × (dominates_of cooperative north_south south ≡ Ok true)
+    × (dominates_of cooperative north south ≡ Ok false)
 not-transitive = (
-  answered 2 10 (lit≤ tt) (lit≤ tt) ∙ ap verdict_of computed.1.0,
-  answered 10 8 (lit≤ tt) (lit≤ tt) ∙ ap verdict_of computed.1.1,
-  answered 2 8 (lit≤ tt) (lit≤ tt) ∙ ap verdict_of computed.1.2,
+  answered 2 10 (lit≤ tt) (lit≤ tt) ∙ ap Ok computed.1.0,
+  answered 10 8 (lit≤ tt) (lit≤ tt) ∙ ap Ok computed.1.1,
+  answered 2 8 (lit≤ tt) (lit≤ tt) ∙ ap Ok computed.1.2,
 )

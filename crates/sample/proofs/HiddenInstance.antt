@@ -1,4 +1,5 @@
 -- An instance of the claim that hidden rows stay hidden, computed on the sample co-operative: MARA's calls on two tables. Assumes nothing.
+use Rattle.std.proofs.Common.{Ok, Err}
 use Prim.Native.Nat.{ℕ}
 use mathlib.Core.Path.{◌≡◌, refl, sym, ap, ◌∙◌}
 use mathlib.Core.Bool.{true, not}
@@ -6,14 +7,12 @@ use mathlib.Core.List.{List, [], ◌∷◌, flatten}
 use lib.ListN.{replicate}
 use Rattle.fields.specs.Bytes.{number2, number4}
 use Rattle.refusals.specs.declared.Refusal.TheVariants.{NoUser, RowLabelOutside, TableShape, NoRow, RowNotWritable, SessionRules, WrongMap}
-use Rattle.refusals.specs.declared.answers.Checked.TheVariants.{Accepted, Refused}
 use Rattle.sessions.specs.Session.{session_rights}
 use Rattle.sessions.specs.Opening.{session, refused}
 use Rattle.rows.specs.Run.{first_rows, run_rows, kept}
 use Rattle.rows.specs.Table.{table_run, with_run, rows_of, with_rows, table_changed, readable_rows, table_rule, table_answer}
 use Rattle.rows.specs.Reading.{handed_out, read_rows_of}
 use Rattle.rows.specs.Updating.{nth_row_answer, table_updated, update_with, update_row_of}
-use Rattle.rows.specs.declared.answers.RowsRead.TheVariants as rowsRead
 use Rattle.rows.proofs.ByMap.{mapped-plain}
 use Rattle.isolation.specs.Calls.{last, other, reading, reading_mapped, updating, Call, opening, setting_label, setting_row_label, on_rows, Answer, opened, label_set, rows_handed, row_done, State, row_step, step, run}
 use Rattle.isolation.specs.Claim.{ever_readable, list_at_maximum, own_call, own_calls, started, table_after, Premises, Claim}
@@ -125,69 +124,69 @@ opens_not : step cooperative (started table1 mara) (opening name_mark) ≡ (star
 unfolding step
 opens_not = rw mark-refused
 
-reads : step cooperative (started table1 mara) (on_rows last 6 (reading (replicate 20 1))) ≡ (started table1 mara, rows_handed (rowsRead.Done 3) bytes_before)
+reads : step cooperative (started table1 mara) (on_rows last 6 (reading (replicate 20 1))) ≡ (started table1 mara, rows_handed (Ok 3) bytes_before)
 unfolding step row_step read_rows_of handed_out table_answer table_rule table1 flatten
 reads = rw (mara-passes, readable-before)
 
 reads-mapped : step cooperative (started table1 mara) (on_rows last 6 (reading_mapped mara_map (replicate 20 1)))
-    ≡ (started table1 mara, rows_handed (rowsRead.Done 3) bytes_before)
+    ≡ (started table1 mara, rows_handed (Ok 3) bytes_before)
 unfolding step row_step handed_out table_answer table_rule table1 flatten
 reads-mapped = rw (mapped-plain cooperative mara table1 6 mara_map (replicate 20 1), mara-passes, mara-right, readable-before)
 
-updates : step cooperative (started table1 mara) (on_rows last 6 (updating 2 (88 ∷ 89 ∷ []))) ≡ (started table_after1 mara, row_done Accepted)
+updates : step cooperative (started table1 mara) (on_rows last 6 (updating 2 (88 ∷ 89 ∷ []))) ≡ (started table_after1 mara, row_done (Ok tt))
 unfolding step row_step update_row_of update_with nth_row_answer table_updated table_changed with_rows with_run table_answer table_rule table1 table_after1 flatten number4 number2
 updates =
     let v = mara-verdicts in
     rw (mara-passes, readable-before, rows_before, v.reads10, v.hides20, v.reads30, v.writes10)
 
-updates-not : step cooperative (started table_after1 mara) (on_rows last 6 (updating 1 (88 ∷ 89 ∷ []))) ≡ (started table_after1 mara, row_done (Refused RowNotWritable))
+updates-not : step cooperative (started table_after1 mara) (on_rows last 6 (updating 1 (88 ∷ 89 ∷ []))) ≡ (started table_after1 mara, row_done (Err RowNotWritable))
 unfolding step row_step update_row_of update_with nth_row_answer table_answer table_rule table_after1 flatten number4 number2
 updates-not = rw (mara-passes, readable-between, mara-verdicts.writes30)
 
-relabels : step cooperative (started table_after1 mara) (setting_label last text_vault) ≡ (started table_after1 vaulted, label_set vaulted Accepted)
+relabels : step cooperative (started table_after1 mara) (setting_label last text_vault) ≡ (started table_after1 vaulted, label_set vaulted (Ok tt))
 unfolding step
 relabels = rw p10
 
-relabels-not : step cooperative (started table_after1 vaulted) (setting_label last text_glaze) ≡ (started table_after1 vaulted, label_set vaulted (Refused RowLabelOutside))
+relabels-not : step cooperative (started table_after1 vaulted) (setting_label last text_glaze) ≡ (started table_after1 vaulted, label_set vaulted (Err RowLabelOutside))
 unfolding step
 relabels-not = rw glaze-refused
 
-too-narrow : step cooperative (started table_after1 vaulted) (on_rows last 4 (reading (replicate 20 1))) ≡ (started table_after1 vaulted, rows_handed (rowsRead.Refused TableShape) [])
+too-narrow : step cooperative (started table_after1 vaulted) (on_rows last 4 (reading (replicate 20 1))) ≡ (started table_after1 vaulted, rows_handed (Err TableShape) [])
 unfolding step row_step read_rows_of table_answer table_rule
 too-narrow = rw vaulted-passes
 
-too-low : step cooperative (started table_after1 vaulted) (on_rows (other too_low) 6 (reading (replicate 20 1))) ≡ (started table_after1 vaulted, rows_handed (rowsRead.Refused SessionRules) [])
+too-low : step cooperative (started table_after1 vaulted) (on_rows (other too_low) 6 (reading (replicate 20 1))) ≡ (started table_after1 vaulted, rows_handed (Err SessionRules) [])
 unfolding step row_step read_rows_of table_answer
 too-low = rw too-low-refused
 
-reads-again : step cooperative (started table_after1 vaulted) (on_rows last 6 (reading (replicate 20 1))) ≡ (started table_after1 vaulted, rows_handed (rowsRead.Done 3) bytes_after)
+reads-again : step cooperative (started table_after1 vaulted) (on_rows last 6 (reading (replicate 20 1))) ≡ (started table_after1 vaulted, rows_handed (Ok 3) bytes_after)
 unfolding step row_step read_rows_of handed_out table_answer table_rule table_after1 flatten
 reads-again = rw (vaulted-passes, readable-after)
 
-sets-row-label : step cooperative (started table_after1 vaulted) (setting_row_label last text_crew) ≡ (started table_after1 bare, label_set bare Accepted)
+sets-row-label : step cooperative (started table_after1 vaulted) (setting_row_label last text_crew) ≡ (started table_after1 bare, label_set bare (Ok tt))
 unfolding step
 sets-row-label = rw crew-accepted
 
-relabels-now : step cooperative (started table_after1 bare) (setting_label last text_glaze) ≡ (started table_after1 glazed, label_set glazed Accepted)
+relabels-now : step cooperative (started table_after1 bare) (setting_label last text_glaze) ≡ (started table_after1 glazed, label_set glazed (Ok tt))
 unfolding step
 relabels-now = rw glaze-accepted
 
-reads-less : step cooperative (started table_after1 glazed) (on_rows last 6 (reading (replicate 20 1))) ≡ (started table_after1 glazed, rows_handed (rowsRead.Done 1) bytes_now)
+reads-less : step cooperative (started table_after1 glazed) (on_rows last 6 (reading (replicate 20 1))) ≡ (started table_after1 glazed, rows_handed (Ok 1) bytes_now)
 unfolding step row_step read_rows_of handed_out table_answer table_rule table_after1 flatten
 reads-less = rw (glazed-passes, readable-now)
 
 -- the map that she had before she gave KILN up
 old-map : step cooperative (started table_after1 glazed) (on_rows last 6 (reading_mapped mara_map (replicate 20 1)))
-    ≡ (started table_after1 glazed, rows_handed (rowsRead.Refused WrongMap) [])
+    ≡ (started table_after1 glazed, rows_handed (Err WrongMap) [])
 unfolding step row_step table_answer table_rule table_after1 flatten
 old-map = rw (mapped-plain cooperative glazed table_after1 6 mara_map (replicate 20 1), glazed-passes, glazed-wrong)
 
 new-map : step cooperative (started table_after1 glazed) (on_rows last 6 (reading_mapped glazed_map (replicate 20 1)))
-    ≡ (started table_after1 glazed, rows_handed (rowsRead.Done 1) bytes_now)
+    ≡ (started table_after1 glazed, rows_handed (Ok 1) bytes_now)
 unfolding step row_step handed_out table_answer table_rule table_after1 flatten
 new-map = rw (mapped-plain cooperative glazed table_after1 6 glazed_map (replicate 20 1), glazed-passes, glazed-right, readable-now)
 
-no_row : step cooperative (started table_after1 glazed) (on_rows last 6 (updating 1 (88 ∷ 89 ∷ []))) ≡ (started table_after1 glazed, row_done (Refused NoRow))
+no_row : step cooperative (started table_after1 glazed) (on_rows last 6 (updating 1 (88 ∷ 89 ∷ []))) ≡ (started table_after1 glazed, row_done (Err NoRow))
 unfolding step row_step update_row_of update_with nth_row_answer table_answer table_rule table_after1 flatten
 no_row = rw (glazed-passes, readable-now)
 
@@ -196,21 +195,21 @@ abbrev pub answers : List Answer
 answers =
     opened (session mara)
     ∷ opened (refused NoUser)
-    ∷ rows_handed (rowsRead.Done 3) bytes_before
-    ∷ rows_handed (rowsRead.Done 3) bytes_before
-    ∷ row_done Accepted
-    ∷ row_done (Refused RowNotWritable)
-    ∷ label_set vaulted Accepted
-    ∷ label_set vaulted (Refused RowLabelOutside)
-    ∷ rows_handed (rowsRead.Refused TableShape) []
-    ∷ rows_handed (rowsRead.Refused SessionRules) []
-    ∷ rows_handed (rowsRead.Done 3) bytes_after
-    ∷ label_set bare Accepted
-    ∷ label_set glazed Accepted
-    ∷ rows_handed (rowsRead.Done 1) bytes_now
-    ∷ rows_handed (rowsRead.Refused WrongMap) []
-    ∷ rows_handed (rowsRead.Done 1) bytes_now
-    ∷ row_done (Refused NoRow)
+    ∷ rows_handed (Ok 3) bytes_before
+    ∷ rows_handed (Ok 3) bytes_before
+    ∷ row_done (Ok tt)
+    ∷ row_done (Err RowNotWritable)
+    ∷ label_set vaulted (Ok tt)
+    ∷ label_set vaulted (Err RowLabelOutside)
+    ∷ rows_handed (Err TableShape) []
+    ∷ rows_handed (Err SessionRules) []
+    ∷ rows_handed (Ok 3) bytes_after
+    ∷ label_set bare (Ok tt)
+    ∷ label_set glazed (Ok tt)
+    ∷ rows_handed (Ok 1) bytes_now
+    ∷ rows_handed (Err WrongMap) []
+    ∷ rows_handed (Ok 1) bytes_now
+    ∷ row_done (Err NoRow)
     ∷ []
 
 first_run : Ran (started table1 no_session) (calls 1) (started table_after1 glazed) answers

@@ -1,5 +1,6 @@
 -- What the sample image says of MARA's sessions and of the tags of TwoTables, computed once: the runs of HiddenInstance are put together
 -- from these facts. Assumes nothing.
+use Rattle.std.proofs.Common.{Ok, Err}
 use mathlib.Core.Path.{◌≡◌, refl}
 use mathlib.Core.Bool.{true, false}
 use Rattle.sets.specs.Words.{joined}
@@ -12,7 +13,6 @@ use Rattle.header.specs.Layout.{levels, compartments, groups, users, labels, com
 use Rattle.records.specs.Fields.{privileges, groups_at}
 use Rattle.hierarchy.specs.Forest.{has_parent_in, lineage_within_in, lineage_in, below_in}
 use Rattle.hierarchy.specs.Below.{parent_in, reach}
-use Rattle.refusals.specs.declared.answers.Checked.TheVariants.{Accepted, Refused}
 use Rattle.image.specs.Lookup.{component_index, label_of_tag, user_of_name}
 use Rattle.labels.specs.Text.{text_byte, split, is_name, is_list, shape_rule}
 use Rattle.labels.specs.Parse.{matches, place_of_name, read_names}
@@ -60,7 +60,7 @@ pub mara-verdicts : Verdicts mara
 unfolding may_read known_tag label_at reads_label read_tests read_level_rule read_groups_rule group_test read_compartments_rule compaccess_reads holds_compaccess reads_all may_write writes_all writes_label write_tests write_level_rule write_sets_rule write_groups_rule write_compartments_rule compaccess_writes rights_at write_compartments_of write_groups_of cooperative number2 number4 number8 has empty within meets collect first_bad levels compartments groups users labels components first_block blocks_for record_offset record_at records_of list_from parent_in class_first has_parent_in lineage_within_in lineage_in below_in label_of_tag edition_of groups_at joined tree_sets_rule profile_of reach
 mara-verdicts = record { reads10 = refl; reads30 = refl; hides20 = refl; hides0 = refl; writes10 = refl; writes30 = refl }
 
-pub vaulted-passes : lent_answer cooperative vaulted ≡ Accepted
+pub vaulted-passes : lent_answer cooperative vaulted ≡ Ok tt
 unfolding lent_answer session_rule session_label_answer row_label_answer row_inside session_groups_rule rights_at write_compartments_of write_groups_of cooperative number2 number4 number8 within meets collect levels compartments groups users labels components first_block blocks_for record_offset record_at records_of list_from parent_in class_first has_parent_in lineage_within_in lineage_in below_in edition_of groups_at joined profile_of reach
 vaulted-passes = rw sample-accepted
 
@@ -69,11 +69,11 @@ unfolding may_read known_tag label_at reads_label read_tests read_level_rule rea
 vaulted-verdicts = record { reads10 = refl; reads30 = refl; hides20 = refl; hides0 = refl; writes10 = refl; writes30 = refl }
 
 -- ---- a session that reads less than she could ever read
-pub bare-passes : lent_answer cooperative bare ≡ Accepted
+pub bare-passes : lent_answer cooperative bare ≡ Ok tt
 unfolding lent_answer session_rule session_label_answer row_label_answer row_inside session_groups_rule rights_at write_compartments_of write_groups_of cooperative number2 number4 number8 within meets collect levels compartments groups users labels components first_block blocks_for record_offset record_at records_of list_from parent_in class_first has_parent_in lineage_within_in lineage_in below_in edition_of groups_at joined profile_of reach
 bare-passes = rw sample-accepted
 
-pub glazed-passes : lent_answer cooperative glazed ≡ Accepted
+pub glazed-passes : lent_answer cooperative glazed ≡ Ok tt
 unfolding lent_answer session_rule session_label_answer row_label_answer row_inside session_groups_rule rights_at write_compartments_of write_groups_of cooperative number2 number4 number8 within meets collect levels compartments groups users labels components first_block blocks_for record_offset record_at records_of list_from parent_in class_first has_parent_in lineage_within_in lineage_in below_in edition_of groups_at joined profile_of reach
 glazed-passes = rw sample-accepted
 
@@ -89,16 +89,16 @@ glazed-verdicts = record { hides10 = refl; reads30 = refl; hides20 = refl; hides
 
 -- ---- label changes
 -- the row label CREW:KILN:DOCK does not lie inside CREW:GLAZE:NORTH
-pub glaze-refused : set_label_of cooperative vaulted text_glaze ≡ (vaulted, Refused RowLabelOutside)
+pub glaze-refused : set_label_of cooperative vaulted text_glaze ≡ (vaulted, Err RowLabelOutside)
 unfolding set_label_of label_change session_label_answer row_inside session_groups_rule rights_at write_compartments_of write_groups_of cooperative number2 number4 number8 all text_byte small_letter folded name_byte name_in same_bytes first_bad has within meets collect levels compartments groups users labels components first_block blocks_for record_offset record_at component_index class_first records_of list_from parent_in has_parent_in lineage_within_in lineage_in below_in split is_name is_list shape_rule matches place_of_name read_names edition_of groups_at joined profile_of reach
 glaze-refused = rw vaulted-passes
 
-pub crew-accepted : set_row_label_of cooperative vaulted text_crew ≡ (bare, Accepted)
+pub crew-accepted : set_row_label_of cooperative vaulted text_crew ≡ (bare, Ok tt)
 unfolding set_row_label_of row_label_change row_label_answer rights_at write_compartments_of write_groups_of cooperative number2 number4 number8 all text_byte small_letter folded name_byte name_in same_bytes first_bad has within meets collect levels compartments groups users labels components first_block blocks_for record_offset record_at component_index class_first records_of list_from parent_in has_parent_in lineage_within_in lineage_in below_in split is_name is_list shape_rule matches place_of_name read_names edition_of groups_at joined profile_of reach
 crew-accepted = rw vaulted-passes
 
 -- CREW does
-pub glaze-accepted : set_label_of cooperative bare text_glaze ≡ (glazed, Accepted)
+pub glaze-accepted : set_label_of cooperative bare text_glaze ≡ (glazed, Ok tt)
 unfolding set_label_of label_change session_label_answer row_inside session_groups_rule rights_at write_compartments_of write_groups_of cooperative number2 number4 number8 all text_byte small_letter folded name_byte name_in same_bytes first_bad has within meets collect levels compartments groups users labels components first_block blocks_for record_offset record_at component_index class_first records_of list_from parent_in has_parent_in lineage_within_in lineage_in below_in split is_name is_list shape_rule matches place_of_name read_names edition_of groups_at joined profile_of reach
 glaze-accepted = rw bare-passes
 
@@ -107,6 +107,6 @@ pub mark-refused : open_of cooperative name_mark ≡ refused NoUser
 unfolding open_of open_accepted cooperative number2 name_in same_bytes first_bad levels compartments groups users labels components first_block blocks_for record_offset record_at user_of_name edition_of
 mark-refused = rw sample-accepted
 
-pub too-low-refused : lent_answer cooperative too_low ≡ Refused SessionRules
+pub too-low-refused : lent_answer cooperative too_low ≡ Err SessionRules
 unfolding lent_answer session_rule session_label_answer row_label_answer row_inside session_groups_rule rights_at write_compartments_of write_groups_of cooperative number2 number4 number8 within meets collect levels compartments groups users labels components first_block blocks_for record_offset record_at records_of list_from parent_in class_first has_parent_in lineage_within_in lineage_in below_in edition_of groups_at joined profile_of reach
 too-low-refused = rw sample-accepted

@@ -1,5 +1,6 @@
 -- The small image of the release profile is accepted, and what MARA reads and writes in it is computed: so the laws on that profile speak of images and
 -- sessions that there are. With SOUTH beside NORTH her session reads less. Assumes nothing.
+use Rattle.std.proofs.Common.{Ok}
 use Prim.Native.Nat.{ℕ}
 use mathlib.Core.Path.{◌≡◌, refl}
 use Rattle.sets.specs.Words.{joined}
@@ -14,8 +15,6 @@ use Rattle.header.specs.Header.{header_rule, fit_rule, counts_rule}
 use Rattle.records.specs.Rules.{parent_rule, component_shape, new_name_rule, label_shape, user_levels_rule, user_compartments_rule, user_groups_rule, privileges_rule, user_shape, rule_of, layout_rule, first_bad_record, content_rule, other_name}
 use Rattle.hierarchy.specs.Forest.{has_parent_in, ends_within_in, ends_in, first_ring_in, lineage_within_in, lineage_in, below_in}
 use Rattle.hierarchy.specs.Below.{parent_in, below_sets, first_bad_sets, group_sets_in, record_sets, reach}
-use Rattle.refusals.specs.declared.answers.Checked.TheVariants.{Accepted}
-use Rattle.image.specs.declared.faults.Fault.TheVariants.{Sound}
 use Rattle.image.specs.Walk.{first_bad_content, content_fault, counted_fault, found_fault}
 use mathlib.Core.Bool.{true, false}
 use Rattle.header.specs.declared.profile.Profile.TheVariants.{Release}
@@ -34,18 +33,18 @@ use Rattle.sessions.specs.Session.{SessionMarks, lent_answer, session_rights}
 use Rattle.sample.specs.Partners.{partners, of_north, of_both}
 use Rattle.sample.proofs.Sample.{sound-accepted}
 
-partners-sound : found_fault partners ≡ Sound
+partners-sound : found_fault partners ≡ Ok tt
 unfolding partners number2 number4 number8 all name_byte name_in name_rule same_bytes name_before first_bad has all_below within meets collect length_rule block_at sum_a sum_b check_rule place_rule block_rule block_count first_bad_block levels compartments groups users labels components first_block blocks_for blocks_needed record_offset record_at contents_of kind_at header_rule fit_rule class_at class_first parent_rule component_shape other_name new_name_rule label_shape user_levels_rule user_compartments_rule user_groups_rule privileges_rule user_shape rule_of records_of list_from layout_rule first_bad_record content_rule parent_in has_parent_in ends_within_in ends_in first_ring_in lineage_within_in lineage_in below_in below_sets first_bad_sets first_bad_content content_fault counted_fault found_fault edition_of counts_rule groups_at joined group_sets_in record_sets profile_of reach release_sets
 partners-sound = refl
 
-pub partners-accepted : check_of partners ≡ Accepted
+pub partners-accepted : check_of partners ≡ Ok tt
 partners-accepted = sound-accepted partners partners-sound
 
 pub partners-release : profile_of partners ≡ Release
 unfolding profile_of partners
 partners-release = refl
 
-pub both-pass : (lent_answer partners of_north ≡ Accepted) × (lent_answer partners of_both ≡ Accepted)
+pub both-pass : (lent_answer partners of_north ≡ Ok tt) × (lent_answer partners of_both ≡ Ok tt)
 unfolding lent_answer session_rule session_label_answer row_label_answer row_inside session_groups_rule rights_at write_compartments_of write_groups_of partners number2 number4 number8 within meets collect levels compartments groups users labels components first_block blocks_for record_offset record_at edition_of groups_at joined profile_of reach all_below has
 both-pass = (rw partners-accepted, rw partners-accepted)
 

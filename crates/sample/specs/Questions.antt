@@ -1,23 +1,19 @@
 -- The questions of document 01's cases, and how each is answered of an image of the sample co-operative: by the definitions that the
 -- contracts of the public calls cite, told in the numbers of document 01.
-use Rattle.std.specs.Prelude.{ℕ, cond, List, [], ◌∷◌, take, replicate}
+use Rattle.std.specs.Prelude.{ℕ, cond, List, [], ◌∷◌, take, replicate, Ok, Err}
 use Rattle.refusals.specs.Refusals.{number_of, values_of}
 use Rattle.refusals.specs.declared.Refusal.{Refusal}
-use Rattle.refusals.specs.declared.answers.Checked.{Checked}
 use Rattle.image.specs.Lookup.{label_of_tag}
-use Rattle.refusals.specs.Answers.{on_checked}
+use Rattle.refusals.specs.Answers.{on_checked, Amount, Checked, Verdict}
 use Rattle.labels.specs.Label.{Marks, label_at}
 use Rattle.labels.specs.Parse as parse
 use Rattle.printing.specs.Print.{text_of, print_of}
-use Rattle.printing.specs.declared.answers.Printed.{Printed}
-use Rattle.printing.specs.declared.answers.Printed.TheVariants as print
 use Rattle.dominance.specs.TwoLabels as merging
 use Rattle.access.specs.Verdicts.{known_tag}
 use Rattle.sessions.specs.Session.{SessionMarks}
 use Rattle.sessions.specs.Opening as opening
 use Rattle.sessions.specs.Changes.{set_label_of}
 use Rattle.sessions.specs.Asking.{may_read_of, may_write_of}
-use Rattle.refusals.specs.declared.answers.Verdict.{Verdict}
 use Rattle.encoding.specs.Sessions.{session_bytes}
 use Rattle.encoding.specs.Verdicts.{verdict_code}
 use Rattle.sample.specs.Pieces.{mara}
@@ -64,20 +60,19 @@ told_change c = on_checked c.1 (λ r. refused_by r (session_bytes c.0)) (done (s
 
 -- what is asked of the label that a text names, or that a merge gives
 abbrev pub on_label : parse.Parsing → (Marks → Told) → Told
-on_label (parse.of_text (parse.read m)) ask = ask m
-on_label (parse.of_text (parse.refused reason)) ask = refused_by (parse.refusal_of reason) []
-on_label (parse.bad_image r) ask = refused_by r []
+on_label (Ok m) ask = ask m
+on_label (Err r) ask = refused_by r []
 
 abbrev pub on_merged : merging.Merging → (Marks → Told) → Told
-on_merged (merging.label m) ask = ask m
-on_merged (merging.refused r) ask = refused_by r []
+on_merged (Ok m) ask = ask m
+on_merged (Err r) ask = refused_by r []
 
 -- as many bytes of the buffer as the print reports
-abbrev told_bytes : Printed → List ℕ → Told
-told_bytes (print.Done n) buffer = done (take n buffer)
-told_bytes (print.Refused r) buffer = refused_by r []
+abbrev told_bytes : Amount → List ℕ → Told
+told_bytes (Ok n) buffer = done (take n buffer)
+told_bytes (Err r) buffer = refused_by r []
 
-abbrev pub told_print : Printed × List ℕ → Told
+abbrev pub told_print : Amount × List ℕ → Told
 told_print p = told_bytes p.0 p.1
 
 -- that labels are printed into

@@ -1,10 +1,10 @@
 -- Both labels of an accepted session name only components that the policy has. Assumes nothing.
+use Rattle.std.proofs.Common.{Ok}
 use Prim.Native.Nat.{ℕ, ◌^◌, ◌<◌}
 use mathlib.Core.Path.{◌≡◌}
 use mathlib.Core.Bool.{true, ◌&&◌}
 use mathlib.Core.List.{List}
 use native.Mathlib.Omega.{arith}
-use borrow.Author.Tests.{lt-ltb}
 use Rattle.fields.proofs.Both.{parts}
 use Rattle.sets.specs.Sets.{intersection, within, all_below}
 use Rattle.sets.proofs.Bounds.{within-below, part-below, intersection-below}
@@ -17,16 +17,15 @@ use Rattle.records.proofs.MeaningUsers.{UserKept}
 use Rattle.labels.proofs.Existing.{means-exists}
 use Rattle.hierarchy.specs.Below.{forest_of, below, reach}
 use Rattle.hierarchy.proofs.Under.{below-limit}
-use Rattle.refusals.specs.declared.answers.Checked.TheVariants.{Accepted}
 use Rattle.image.proofs.Policy.{user-kept}
-use Rattle.labels.specs.Label.{Marks, label_exists}
+use Rattle.labels.specs.Label.{label_exists}
 use Rattle.access.specs.Rights.{rights_at, write_compartments_of, write_groups_of}
 use Rattle.access.specs.NewLabels.{session_groups_rule}
 use Rattle.access.proofs.Answers.{SessionLabelKept}
 use Rattle.sessions.specs.Session.{SessionMarks, lent_answer}
 use Rattle.sessions.proofs.Accepting.{lent-accepted, lent-means, lent-user}
 
-module _ (im : List ℕ) (s : SessionMarks) (lent : lent_answer im s ≡ Accepted) where
+module _ (im : List ℕ) (s : SessionMarks) (lent : lent_answer im s ≡ Ok tt) where
   -- the user's record names only what exists, and the session keeps its rules
   user : UserKept (counts_of im) (user_record im s.user)
   user = user-kept im (lent-accepted im s lent) s.user (lent-user im s lent)

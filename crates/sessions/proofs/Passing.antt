@@ -1,4 +1,5 @@
 -- An opened session and a changed session always pass 19. Assumes nothing.
+use Rattle.std.proofs.Common.{Ok, Err}
 use Prim.Native.Nat.{ℕ, ◌<◌}
 use mathlib.Core.Path.{◌≡◌, refl, sym, ap, subst}
 use mathlib.Core.Bool.{Bool, true, false, cond, ◌&&◌, true≢false}
@@ -15,10 +16,8 @@ use Rattle.records.specs.Fields.{read_compartments, write_compartments, default_
 use Rattle.records.proofs.MeaningLabels.{exist-holds}
 use Rattle.records.proofs.MeaningUsers.{GroupsKept}
 use Rattle.hierarchy.specs.Below.{below, reach}
-use Rattle.refusals.specs.declared.answers.Checked.{Checked}
-use Rattle.refusals.specs.declared.answers.Checked.TheVariants.{Accepted, Refused}
 use Rattle.image.specs.Check.{check_of, IsAccepted}
-use Rattle.refusals.specs.Answers.{on_checked, allowed}
+use Rattle.refusals.specs.Answers.{on_checked, allowed, Checked}
 use Rattle.image.proofs.Accepted.{refused-not}
 use Rattle.refusals.specs.declared.Refusal.{Refusal}
 use Rattle.refusals.specs.declared.Refusal.TheVariants.{NoUser}
@@ -92,7 +91,7 @@ module _ (im : List ℕ) (acc : IsAccepted im) (u : ℕ) (here : u < users im) w
         row_label = unfold rights_at in record { minimum = k.levels_kept.minimum_row; inside = default-inside };
       })
 
-  pub default-lent : lent_answer im (default_session im u) ≡ Accepted
+  pub default-lent : lent_answer im (default_session im u) ≡ Ok tt
   unfolding lent_answer default_session
   default-lent = rw (acc, default-passes)
 
@@ -112,40 +111,40 @@ session-tells s t e = ap (opened_or s) e
 refused-not-session : (r : Refusal) (s : SessionMarks) → refused r ≡ session s → ⊥
 refused-not-session r s e = true≢false (sym (ap is_session e))
 
-pub opened-passes : (im name : List ℕ) (s : SessionMarks) → open_of im name ≡ session s → lent_answer im s ≡ Accepted
+pub opened-passes : (im name : List ℕ) (s : SessionMarks) → open_of im name ≡ session s → lent_answer im s ≡ Ok tt
 unfolding open_of open_accepted
 opened-passes im name s e = at (check_of im) refl (ltb (user_of_name im name) (users im)) refl e
   where
     at : (c : Checked) → check_of im ≡ c → (t : Bool) → ltb (user_of_name im name) (users im) ≡ t
         → on_checked c refused (cond t (session (default_session im (user_of_name im name))) (refused NoUser)) ≡ session s
-        → lent_answer im s ≡ Accepted
-    at Accepted a true h e =
+        → lent_answer im s ≡ Ok tt
+    at (Ok tt) a true h e =
         let d : default_session im (user_of_name im name) ≡ s = session-tells _ _ e in
-        subst (λ (x : SessionMarks). lent_answer im x ≡ Accepted) d
+        subst (λ (x : SessionMarks). lent_answer im x ≡ Ok tt) d
         (default-lent im a (user_of_name im name) (ltb-true _ _ h))
-    at Accepted a false h e = absurd (refused-not-session _ _ e)
-    at (Refused r) a t h e = absurd (refused-not-session _ _ e)
+    at (Ok tt) a false h e = absurd (refused-not-session _ _ e)
+    at (Err r) a t h e = absurd (refused-not-session _ _ e)
 
 -- ---- a changed session
 -- a change that is accepted has taken the new session, and the rule has accepted it
-change-taken : (old new t : SessionMarks) (c : Checked) → change_if old c new ≡ (t, Accepted) → (c ≡ Accepted) × (new ≡ t)
-change-taken old new t Accepted e = (refl, ap (λ (p : SessionMarks × Checked). p.0) e)
-change-taken old new t (Refused r) e = absurd (refused-not r (ap (λ (p : SessionMarks × Checked). p.1) e))
+change-taken : (old new t : SessionMarks) (c : Checked) → change_if old c new ≡ (t, Ok tt) → (c ≡ Ok tt) × (new ≡ t)
+change-taken old new t (Ok tt) e = (refl, ap (λ (p : SessionMarks × Checked). p.0) e)
+change-taken old new t (Err r) e = absurd (refused-not r (ap (λ (p : SessionMarks × Checked). p.1) e))
 
 text-taken : (old t : SessionMarks) (r : Reading Marks) (rule : Marks → Checked) (change : Marks → SessionMarks)
-    → change_to old r rule change ≡ (t, Accepted) → (m : Marks) × ((rule m ≡ Accepted) × (change m ≡ t))
+    → change_to old r rule change ≡ (t, Ok tt) → (m : Marks) × ((rule m ≡ Ok tt) × (change m ≡ t))
 text-taken old t (read m) rule change e = (m, change-taken old (change m) t (rule m) e)
 text-taken old t (parse.refused reason) rule change e = absurd (refused-not (refusal_of reason) (ap (λ (p : SessionMarks × Checked). p.1) e))
 
-lent-taken : (im : List ℕ) (s t : SessionMarks) (change : SessionMarks × Checked) → after_lent im s change ≡ (t, Accepted)
-    → (lent_answer im s ≡ Accepted) × (change ≡ (t, Accepted))
+lent-taken : (im : List ℕ) (s t : SessionMarks) (change : SessionMarks × Checked) → after_lent im s change ≡ (t, Ok tt)
+    → (lent_answer im s ≡ Ok tt) × (change ≡ (t, Ok tt))
 lent-taken im s t change e = at (lent_answer im s) e
   where
-    at : (c : Checked) → on_checked c (λ r. (s, Refused r)) change ≡ (t, Accepted) → (c ≡ Accepted) × (change ≡ (t, Accepted))
-    at Accepted e = (refl, e)
-    at (Refused r) e = absurd (refused-not r (ap (λ (p : SessionMarks × Checked). p.1) e))
+    at : (c : Checked) → on_checked c (λ r. (s, Err r)) change ≡ (t, Ok tt) → (c ≡ Ok tt) × (change ≡ (t, Ok tt))
+    at (Ok tt) e = (refl, e)
+    at (Err r) e = absurd (refused-not r (ap (λ (p : SessionMarks × Checked). p.1) e))
 
-pub label-changed-passes : (im text : List ℕ) (s t : SessionMarks) → set_label_of im s text ≡ (t, Accepted) → lent_answer im t ≡ Accepted
+pub label-changed-passes : (im text : List ℕ) (s t : SessionMarks) → set_label_of im s text ≡ (t, Ok tt) → lent_answer im t ≡ Ok tt
 unfolding set_label_of label_change
 label-changed-passes im text s t e =
     let lent = lent-taken im s t _ e in
@@ -153,7 +152,7 @@ label-changed-passes im text s t e =
     let old = lent-means im s lent.0 in
     let m = taken.0 in
     let new = session-label-means im s.user m s.row (ap allowed taken.1.0) in
-    subst (λ (x : SessionMarks). lent_answer im x ≡ Accepted) taken.1.1
+    subst (λ (x : SessionMarks). lent_answer im x ≡ Ok tt) taken.1.1
     (means-lent im (with_label s m) (lent-accepted im s lent.0)
     (record {
       user = old.user;
@@ -161,7 +160,7 @@ label-changed-passes im text s t e =
       row_label = record { minimum = unfold rights_at in old.row_label.minimum; inside = new.inside };
     }))
 
-pub row-label-changed-passes : (im text : List ℕ) (s t : SessionMarks) → set_row_label_of im s text ≡ (t, Accepted) → lent_answer im t ≡ Accepted
+pub row-label-changed-passes : (im text : List ℕ) (s t : SessionMarks) → set_row_label_of im s text ≡ (t, Ok tt) → lent_answer im t ≡ Ok tt
 unfolding set_row_label_of row_label_change
 row-label-changed-passes im text s t e =
     let lent = lent-taken im s t _ e in
@@ -169,7 +168,7 @@ row-label-changed-passes im text s t e =
     let old = lent-means im s lent.0 in
     let m = taken.0 in
     let new = row-label-means (session_rights im s) m (ap allowed taken.1.0) in
-    subst (λ (x : SessionMarks). lent_answer im x ≡ Accepted) taken.1.1
+    subst (λ (x : SessionMarks). lent_answer im x ≡ Ok tt) taken.1.1
     (means-lent im (with_row_label s m) (lent-accepted im s lent.0)
     (record {
       user = old.user;

@@ -1,5 +1,5 @@
 -- Opening takes a user name and gives the default label and the default row label.
-use Rattle.std.specs.Prelude.{ℕ, cond, List, ltb}
+use Rattle.std.specs.Prelude.{ℕ, cond, List, ltb, Result, Ok, Err}
 use Rattle.refusals.specs.declared.Refusal.{Refusal}
 use Rattle.refusals.specs.declared.Refusal.TheVariants.{NoUser}
 use Rattle.header.specs.declared.edition.Edition.{Edition}
@@ -10,8 +10,7 @@ use Rattle.refusals.specs.Answers.{on_checked}
 use Rattle.image.specs.Lookup.{user_of_name}
 use Rattle.labels.specs.Label.{Marks, marks}
 use Rattle.sessions.specs.Session.{SessionMarks, session_marks, session_of}
-use Rattle.sessions.specs.declared.answers.Opened.{Opened}
-use Rattle.sessions.specs.declared.answers.Opened.TheVariants as opened
+use Rattle.sessions.specs.declared.session.Session.{Session}
 
 unfoldable pub default_label : Edition → List ℕ → Marks
 default_label edition rec = marks (default_level rec) (default_compartments rec) (default_groups edition rec)
@@ -39,6 +38,6 @@ unfoldable pub open_of : List ℕ → List ℕ → Opening
 open_of im name = on_checked (check_of im) refused (open_accepted im name)
 
 -- what an answer of the code stands for
-abbrev pub opening_of : Opened → Opening
-opening_of (opened.Done s) = session (session_of s)
-opening_of (opened.Refused r) = refused r
+abbrev pub opening_of : Result Session Refusal → Opening
+opening_of (Ok s) = session (session_of s)
+opening_of (Err r) = refused r

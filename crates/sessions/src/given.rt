@@ -17,48 +17,35 @@ use header::layout;
 use hierarchy::table::Table;
 use image::check_table;
 use refusals::Refusal;
-use refusals::answers::Checked;
-
-#[derive(Clone, Copy)]
-pub enum Lent {
-    At(View),
-    // 1, 2, 31 to 35, 19; a row call's 12 after them.
-    Refused(Refusal),
-}
 
 // 19 unless the user's place exists and both labels meet their rules.
-fn lent_accepted(image: &[u8], table: &Table, session: Session) -> Lent
+fn lent_accepted(image: &[u8], table: &Table, session: Session) -> Result<View, Refusal>
     requires { IsAccepted image.now × Tabled image.now table.now }
     ensures { LentGives image.now table.now (session_of session) result }
 {
     let user = session.user as usize;
     if user >= layout::users(image) {
-        return Lent::Refused(Refusal::SessionRules);
+        return Err(Refusal::SessionRules);
     }
     let label = session.label;
     let row = session.row;
     let view = rights_at(image, table, user, label);
-    let label_answer = session_label_answer(image, table, user, label, view, row);
-    let Checked::Accepted = label_answer else {
-        return Lent::Refused(Refusal::SessionRules);
+    let Ok(()) = session_label_answer(image, table, user, label, view, row) else {
+        return Err(Refusal::SessionRules);
     };
-    let row_answer = row_label_answer(view, row);
-    let Checked::Accepted = row_answer else {
-        return Lent::Refused(Refusal::SessionRules);
+    let Ok(()) = row_label_answer(view, row) else {
+        return Err(Refusal::SessionRules);
     };
-    Lent::At(view)
+    Ok(view)
 }
 
 // The session's rights, and the table of groups that the check filled and they were found by; the table is the caller's scratch room.
 // Refusals: 1, 2, 31 to 35, 19.
-pub fn lent_rights(image: &[u8], table: &mut Table, session: Session) -> Lent
+pub fn lent_rights(image: &[u8], table: &mut Table, session: Session) -> Result<View, Refusal>
     ensures { LentGives image.now table.new (session_of session) result }
 {
-    let answer = check_table(image, table);
-    match answer {
-        Checked::Accepted => lent_accepted(image, table, session),
-        Checked::Refused(refusal) => Lent::Refused(refusal),
-    }
+    check_table(image, table)?;
+    lent_accepted(image, table, session)
 }
 
 // What the session that opens for the user at place u gives, where the image is known to be accepted.

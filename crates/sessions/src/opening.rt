@@ -5,7 +5,6 @@ ghost use Rattle.header.specs.Limits.{Counted};
 ghost use Rattle.sessions.specs.Session.{session_of};
 ghost use Rattle.sessions.specs.Opening.{default_session, open_accepted, opening_of};
 
-use crate::answers::Opened;
 use crate::session::Session;
 use header::edition::edition_of;
 use header::layout;
@@ -43,13 +42,13 @@ pub fn default_session(image: &[u8], u: usize) -> Session
 }
 
 // 4 where no user has that name.
-pub fn open_accepted(image: &[u8], name: &[u8]) -> Opened
+pub fn open_accepted(image: &[u8], name: &[u8]) -> Result<Session, Refusal>
     requires { Counted image.now }
     ensures { opening_of result ≡ open_accepted image.now name.now }
 {
     let u = user_of_name(image, name);
     if u >= layout::users(image) {
-        return Opened::Refused(Refusal::NoUser);
+        return Err(Refusal::NoUser);
     }
-    Opened::Done(default_session(image, u))
+    Ok(default_session(image, u))
 }

@@ -1,4 +1,5 @@
 -- An accepted image that is made of bytes is what is laid out from its own counts and records, byte for byte. Assumes nothing.
+use Rattle.std.proofs.Common.{Ok}
 use Prim.Native.Nat.{ℕ, zero, suc, ◌+◌, ◌*◌, ◌/◌, ◌%◌, ◌≤◌, ◌<◌}
 use mathlib.Core.Path.{◌≡◌, ap, ◌∙◌, subst}
 use mathlib.Core.Bool.{Bool, true}
@@ -24,7 +25,6 @@ use Rattle.image.specs.Check.{IsAccepted}
 use Rattle.image.proofs.Accepted.{keeps}
 use Rattle.image.proofs.EveryRule.{EveryRule, accepted-keeps}
 use Rattle.image.proofs.Policy.{record-kept}
-use Rattle.writing.specs.declared.answers.LentCheck.TheVariants.{Sound}
 use Rattle.writing.specs.Laid.{Sized, image_of, Fits, Limited}
 use Rattle.writing.specs.Lent.{first_bad_of, records_check}
 use Rattle.writing.proofs.Counted.{counts-are, users-is, labels-is}
@@ -85,7 +85,7 @@ module _ (im : List ℕ) (acc : IsAccepted im) where
   unfolding first_bad_sets
   sets-kept = none-bad (group_sets_rule im) (length (records User)) (λ u h. (keeps im acc).below u (omega (arith, records-count im User)))
 
-  pub own-sound : records_check n records ≡ Sound
+  pub own-sound : records_check n records ≡ Ok tt
   unfolding records_check
   own-sound =
       rw (

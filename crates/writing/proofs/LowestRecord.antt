@@ -1,5 +1,6 @@
 -- Of an image whose header, length and layouts are right, 32 to 34 is told of the lowest record at fault: all of the kinds before it, and all of
 -- its own kind at lower places, keep their rules. Assumes nothing.
+use Rattle.std.proofs.Common.{Err}
 use Prim.Native.Nat.{ℕ, suc, ◌+◌, ◌-◌, ◌*◌, ◌/◌, ◌≤◌, ◌<◌}
 use mathlib.Core.Path.{◌≡◌, refl, sym, ap, ◌∙◌, subst}
 use mathlib.Core.Bool.{Bool, true, false, ◌&&◌}
@@ -17,7 +18,6 @@ use Rattle.header.specs.Header.{header_rule, fit_rule}
 use Rattle.header.proofs.Inside.{shape-roomy, slot-below, block-among, blocks-among, blocks-after, kind-among, kind-of, held-is}
 use Rattle.records.specs.Rules.{layout_rule, record_rule}
 use Rattle.records.proofs.MeaningBlocks.{layout-means, content-holds, contents-kept}
-use Rattle.refusals.specs.declared.answers.Checked.TheVariants.{Refused}
 use Rattle.image.specs.Check.{check_of}
 use Rattle.image.specs.Exactly.{Framed, SoundBefore, RecordAtFault, record_refusal}
 use Rattle.image.proofs.Exactly.{record-exactly}
@@ -93,7 +93,7 @@ module _ (im : List ℕ) (framed : Framed im) (header : (header_rule im && fit_r
     slot-among : slot < (held kind shape block).to - (held kind shape block).from
     slot-among = omega (arith, from_is, here, slot-below shape (shape-roomy im kind) i)
 
-    pub record-told : record_rule im kind i ≡ false → check_of im ≡ Refused (record_refusal kind block slot)
+    pub record-told : record_rule im kind i ≡ false → check_of im ≡ Err (record_refusal kind block slot)
     record-told fault = (record-exactly im framed kind block slot).1 (inl at-fault)
       where
         from-there : (contents_of im block).from + slot ≡ i

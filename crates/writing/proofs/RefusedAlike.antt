@@ -1,5 +1,6 @@
 -- What is lent past 31 is refused as the image laid out from it would be, where each component names a class; and a component that names none is
 -- told as 32, at its place or at an earlier one. Assumes nothing.
+use Rattle.std.proofs.Common.{Err}
 use Prim.Native.Nat.{ℕ, zero-le, ◌≤◌, ◌<◌}
 use mathlib.Core.Path.{◌≡◌, refl, sym, ap, ◌∙◌, subst}
 use mathlib.Core.Bool.{Bool, true, false, true≢false}
@@ -20,7 +21,6 @@ use Rattle.refusals.specs.Answers.{number_given, checked_given}
 use Rattle.image.specs.Check.{check_of}
 use Rattle.writing.specs.declared.answers.LentFault.{LentFault}
 use Rattle.writing.specs.declared.answers.LentFault.TheVariants.{Layout, Record, Ring}
-use Rattle.writing.specs.declared.answers.LentCheck.TheVariants.{Fault}
 use Rattle.writing.specs.Laid.{image_of}
 use Rattle.writing.specs.Lent.{lent_records, lent_counts, Unclassed, Classed, LentWhole, first_bad_of, records_check, lent_check, fault_given}
 use Rattle.writing.specs.Calls.{lent_image}
@@ -31,7 +31,7 @@ use Rattle.writing.proofs.SoundLent.{classed-fits, layout-told}
 use Rattle.writing.proofs.ToldAlike.{told-alike}
 
 -- ---- the number is that of the image's refusal
-pub same_number : (im : List ℕ) (fault : LentFault) → number_given (checked_given (in_blocks im (Fault fault))) ≡ number_given (fault_given fault)
+pub same_number : (im : List ℕ) (fault : LentFault) → number_given (checked_given (in_blocks im (Err fault))) ≡ number_given (fault_given fault)
 same_number im Layout = refl
 same_number im (Record Component i) = refl
 same_number im (Record Label i) = refl
@@ -63,7 +63,7 @@ module _ (n : Counts) (records : Kind → List (List ℕ)) (p : ℕ) (here : p <
           (sym (good-before (rule_of Component n (records Component)) (length (records Component)) 0 p zero-le (leb-false _ _ q)) ∙ bad))
 
   -- and is told
-  component-told : first_bad_of n records Component ≤ p → records_check n records ≡ Fault (Record Component (first_bad_of n records Component))
+  component-told : first_bad_of n records Component ≤ p → records_check n records ≡ Err (Record Component (first_bad_of n records Component))
   unfolding records_check
   component-told soon = rw (lt-ltb (first_bad_of n records Component) (length (records Component)) (omega arith))
 
@@ -93,14 +93,14 @@ module _ (edition profile : ℕ) (bytes : Kind → List ℕ) (whole : LentWhole 
     bad : rule_of Component n (records Component) p ≡ false
     bad = unclassed-bad n records p here other
 
-    pub unknown-class : (i : ℕ) × ((i ≤ p) × (lent_check edition profile bytes ≡ Fault (Record Component i)))
+    pub unknown-class : (i : ℕ) × ((i ≤ p) × (lent_check edition profile bytes ≡ Err (Record Component i)))
     unknown-class =
         let soon : first_bad_of n records Component ≤ p = bad-soon n records p here bad in
         (first_bad_of n records Component, (soon, after-layout ∙ component-told n records p here soon))
 
     -- it is the record that is told where all before it keep their rules
-    pub unknown-told : ((j : ℕ) → j < p → rule_of Component n (records Component) j ≡ true) → lent_check edition profile bytes ≡ Fault (Record Component p)
+    pub unknown-told : ((j : ℕ) → j < p → rule_of Component n (records Component) j ≡ true) → lent_check edition profile bytes ≡ Err (Record Component p)
     unknown-told before =
         let first : first_bad_of n records Component ≡ p =
         bad-is (rule_of Component n (records Component)) (length (records Component)) 0 p zero-le (omega arith) (λ j low high. before j high) bad in
-        after-layout ∙ component-told n records p here (omega arith) ∙ ap (λ (i : ℕ). Fault (Record Component i)) first
+        after-layout ∙ component-told n records p here (omega arith) ∙ ap (λ (i : ℕ). Err (Record Component i)) first

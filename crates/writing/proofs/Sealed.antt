@@ -4,7 +4,7 @@ use mathlib.Core.Path.{◌≡◌, refl, sym, ap, ap₂, ◌∙◌}
 use mathlib.Core.List.{List, [], ◌∷◌, ◌++◌, append_assoc}
 use native.Mathlib.Nat.{mod-lt}
 use native.Mathlib.Omega.{arith}
-use lib.ListN.{length, take, drop, length-append, length-drop, length-replicate, get_or-append}
+use lib.ListN.{length, take, drop, length-append, length-drop, length-replicate, get_or-append, replicate-append-replicate}
 use lib.Seq.{take_at, get_or_at, get_or-append-add, take-append-le, drop-append-le, drop-append-add}
 use Rattle.fields.specs.Bytes.{byte_at, part}
 use Rattle.blocks.specs.Blocks.{sum_a, sum_b}
@@ -92,3 +92,20 @@ module _ (used : List ℕ) (fits : length used ≤ 510) where
       ap (λ (s : List ℕ). byte_at s i) sealed-body
       ∙ get_or-append (body_of used) (sum_a 0 (body_of used) ∷ sum_b 0 0 (body_of used) ∷ []) 0 i inside
       ∙ padded-byte used (510 - length used) i
+
+-- zeros at the end of the used bytes are the unused ones
+module _ (used : List ℕ) (n : ℕ) (fits : length used + n ≤ 510) where
+  padded-long : length (used ++ zeros n) ≤ 510
+  padded-long = rw (length-append, length-replicate) fits
+
+  padded-body : body_of (used ++ zeros n) ≡ body_of used
+  unfolding body_of
+  padded-body =
+      let left : n + (510 - length (used ++ zeros n)) ≡ 510 - length used = rw (length-append, length-replicate) (omega arith) in
+      append_assoc used (zeros n) (zeros (510 - length (used ++ zeros n)))
+      ∙ ap (λ (z : List ℕ). used ++ z) (replicate-append-replicate n (510 - length (used ++ zeros n)) 0 ∙ ap zeros left)
+
+  pub sealed-padded : sealed (used ++ zeros n) ≡ sealed used
+  sealed-padded =
+      sealed-body (used ++ zeros n) padded-long
+      ∙ ap (λ (s : List ℕ). s ++ sum_a 0 s ∷ sum_b 0 0 s ∷ []) padded-body ∙ sym (sealed-body used (omega arith))

@@ -1,5 +1,6 @@
 -- What is lent, as records for an image: where no fault is told of it, or every component names a class, there are as many components as the classes
 -- have; where no fault is told, every record keeps its rule, and no count is past its limit. Assumes nothing.
+use Rattle.std.proofs.Common.{Ok, Err}
 use Prim.Native.Nat.{ℕ, ◌≤◌, ◌<◌}
 use mathlib.Core.Path.{◌≡◌, refl}
 use mathlib.Core.Bool.{Bool, true, false, cond}
@@ -19,27 +20,25 @@ use Rattle.hierarchy.specs.Forest.{first_ring_in}
 use Rattle.hierarchy.specs.Below.{forest_in, first_bad_sets}
 use Rattle.writing.specs.declared.answers.LentFault.{LentFault}
 use Rattle.writing.specs.declared.answers.LentFault.TheVariants.{Layout, Record, Ring}
-use Rattle.writing.specs.declared.answers.LentCheck.{LentCheck}
-use Rattle.writing.specs.declared.answers.LentCheck.TheVariants.{Sound, Fault}
 use Rattle.writing.specs.Laid.{Sized, Fits}
-use Rattle.writing.specs.Lent.{lent_records, lent_counts, lent_layout_rule, LentWhole, Classed, first_bad_of, fault_at, records_check, lent_check}
+use Rattle.writing.specs.Lent.{LentCheck, lent_records, lent_counts, lent_layout_rule, LentWhole, Classed, first_bad_of, fault_at, records_check, lent_check}
 use Rattle.records.proofs.BlockRuns.{size-some}
 use Rattle.writing.proofs.Runs.{run-sized}
 use Rattle.writing.proofs.Totals.{counts_all, kept-all}
 use Rattle.writing.proofs.LentLayout.{layout-means}
 
-pub fault-sound : {f : LentFault} → Fault f ≡ Sound → ⊥
+pub fault-sound : {f : LentFault} → ◌≡◌ {A = LentCheck} (Err f) (Ok tt) → ⊥
 fault-sound {f} e = let z : ◌≡◌ {A = ℕ} 0 1 = cc in omega arith
 
-pub fault-none : (place count : ℕ) (fault : ℕ → LentFault) (after : LentCheck) → fault_at place count fault after ≡ Sound → (count ≤ place) × (after ≡ Sound)
+pub fault-none : (place count : ℕ) (fault : ℕ → LentFault) (after : LentCheck) → fault_at place count fault after ≡ Ok tt → (count ≤ place) × (after ≡ Ok tt)
 fault-none place count fault after = at (ltb place count) refl
   where
-    at : (t : Bool) → ltb place count ≡ t → cond t (Fault (fault place)) after ≡ Sound → (count ≤ place) × (after ≡ Sound)
+    at : (t : Bool) → ltb place count ≡ t → cond {A = LentCheck} t (Err (fault place)) after ≡ Ok tt → (count ≤ place) × (after ≡ Ok tt)
     at true e h = absurd (fault-sound h)
     at false e h = (ltb-false place count e, h)
 
 -- ---- the records
-module _ (n : Counts) (records : Kind → List (List ℕ)) (sound : records_check n records ≡ Sound) where
+module _ (n : Counts) (records : Kind → List (List ℕ)) (sound : records_check n records ≡ Ok tt) where
   -- each search ends past its places
   pub record Searched : Type 0 where
     pub kinds : (kind : Kind) → length (records kind) ≤ first_bad_of n records kind
@@ -53,7 +52,7 @@ module _ (n : Counts) (records : Kind → List (List ℕ)) (sound : records_chec
       let l = fault-none (first_bad_of n records Label) (length (records Label)) (Record Label) _ c.1 in
       let u = fault-none (first_bad_of n records User) (length (records User)) (Record User) _ l.1 in
       let r = fault-none (first_ring_in (forest_in n (records Component))) n.groups Ring _ u.1 in
-      let s = fault-none (first_bad_sets n (records Component) (records User)) (length (records User)) (Record User) Sound r.1 in
+      let s = fault-none (first_bad_sets n (records Component) (records User)) (length (records User)) (Record User) (Ok tt) r.1 in
       record { kinds = λ kind. by_kind kind c.0 l.0 u.0; rings = r.0; sets = s.0 }
     where
       by_kind : (kind : Kind) → length (records Component) ≤ first_bad_of n records Component → length (records Label) ≤ first_bad_of n records Label
@@ -89,13 +88,13 @@ module _ (edition profile : ℕ) (bytes : Kind → List ℕ) where
   layout-told h = rw h
 
   -- ---- where no fault is told
-  module _ (sound : lent_check edition profile bytes ≡ Sound) where
-    pub sound-parts : (lent_layout_rule edition profile bytes ≡ true) × (records_check n records ≡ Sound)
+  module _ (sound : lent_check edition profile bytes ≡ Ok tt) where
+    pub sound-parts : (lent_layout_rule edition profile bytes ≡ true) × (records_check n records ≡ Ok tt)
     unfolding lent_check
     sound-parts = at (lent_layout_rule edition profile bytes) refl sound
       where
-        at : (t : Bool) → lent_layout_rule edition profile bytes ≡ t → cond t (records_check n records) (Fault Layout) ≡ Sound
-            → (lent_layout_rule edition profile bytes ≡ true) × (records_check n records ≡ Sound)
+        at : (t : Bool) → lent_layout_rule edition profile bytes ≡ t → cond t (records_check n records) (Err Layout) ≡ Ok tt
+            → (lent_layout_rule edition profile bytes ≡ true) × (records_check n records ≡ Ok tt)
         at true q h = (q, h)
         at false q h = absurd (fault-sound h)
 

@@ -1,4 +1,5 @@
 -- The writer refuses records exactly if the image laid out from them is refused, with the same number at the same record or group. Assumes nothing.
+use Rattle.std.proofs.Common.{Ok, Err}
 use Prim.Native.Nat.{ℕ, zero-le, ◌<◌}
 use mathlib.Core.Path.{◌≡◌, refl, ap, ap₂, ◌∙◌}
 use mathlib.Core.Bool.{Bool, true, false, cond, ◌&&◌}
@@ -23,7 +24,6 @@ use Rattle.image.specs.Exactly.{Framed, SoundBefore}
 use Rattle.image.proofs.Exactly.{record-exactly, ring-exactly}
 use Rattle.image.proofs.Accepted.{kept-accepted}
 use Rattle.writing.specs.declared.answers.LentFault.TheVariants.{Record, Ring}
-use Rattle.writing.specs.declared.answers.LentCheck.TheVariants.{Sound, Fault}
 use Rattle.writing.specs.Laid.{image_of, Fits, Limited}
 use Rattle.writing.specs.Lent.{first_bad_of, records_check}
 use Rattle.writing.specs.InBlocks.{in_blocks}
@@ -72,14 +72,14 @@ module _ (n : Counts) (records : Kind → List (List ℕ)) (fits : Fits n record
 
   record-here : (kind : Kind) → Bad kind true
       → ((k : Kind) → first_block im k < first_block im kind → (j : ℕ) → j < count_of im k → record_rule im k j ≡ true)
-      → check_of im ≡ in_blocks im (Fault (Record kind (bad kind)))
+      → check_of im ≡ in_blocks im (Err (Record kind (bad kind)))
   record-here kind e lower =
       let there : bad kind < length (records kind) = ltb-true (bad kind) (length (records kind)) e in
       let fault = bad-at (rule_of kind n (records kind)) (length (records kind)) 0 (omega arith) in
       record-told im framed header (layout-right n records fits) kind (bad kind) (omega (arith, count-is n records fits kind)) lower (kept-before kind)
       (record_same kind (bad kind) ∙ fault)
 
-  component-told : Bad Component true → check_of im ≡ in_blocks im (Fault (Record Component (bad Component)))
+  component-told : Bad Component true → check_of im ≡ in_blocks im (Err (Record Component (bad Component)))
   unfolding first_block
   component-told e = record-here Component e none
     where
@@ -88,7 +88,7 @@ module _ (n : Counts) (records : Kind → List (List ℕ)) (fits : Fits n record
       none Label h j l = absurd (omega arith)
       none User h j l = absurd (omega arith)
 
-  label-told : Bad Component false → Bad Label true → check_of im ≡ in_blocks im (Fault (Record Label (bad Label)))
+  label-told : Bad Component false → Bad Label true → check_of im ≡ in_blocks im (Err (Record Label (bad Label)))
   unfolding first_block
   label-told c e = record-here Label e lower
     where
@@ -97,7 +97,7 @@ module _ (n : Counts) (records : Kind → List (List ℕ)) (fits : Fits n record
       lower Label h j l = absurd (omega arith)
       lower User h j l = absurd (omega arith)
 
-  user-told : Bad Component false → Bad Label false → Bad User true → check_of im ≡ in_blocks im (Fault (Record User (bad User)))
+  user-told : Bad Component false → Bad Label false → Bad User true → check_of im ≡ in_blocks im (Err (Record User (bad User)))
   unfolding first_block
   user-told c b e = record-here User e lower
     where
@@ -123,7 +123,7 @@ module _ (n : Counts) (records : Kind → List (List ℕ)) (fits : Fits n record
     unfolding first_ring_in
     ends-before g h = ends_same g ∙ good-before (ends_in (forest_in n (records Component))) n.groups 0 g zero-le h
 
-    ring-told : ltb ring n.groups ≡ true → check_of im ≡ in_blocks im (Fault (Ring ring))
+    ring-told : ltb ring n.groups ≡ true → check_of im ≡ in_blocks im (Err (Ring ring))
     unfolding first_ring_in
     ring-told e =
         let there : ring < n.groups = ltb-true ring n.groups e in
@@ -149,7 +149,7 @@ module _ (n : Counts) (records : Kind → List (List ℕ)) (fits : Fits n record
       unfolding first_bad_sets
       sets-before v h = sets_same v ∙ good-before sets (length (records User)) 0 v zero-le h
 
-      sets-told : ltb user (length (records User)) ≡ true → check_of im ≡ in_blocks im (Fault (Record User user))
+      sets-told : ltb user (length (records User)) ≡ true → check_of im ≡ in_blocks im (Err (Record User user))
       unfolding first_bad_sets
       sets-told e =
           let there : user < length (records User) = ltb-true user (length (records User)) e in
@@ -198,11 +198,11 @@ module _ (n : Counts) (records : Kind → List (List ℕ)) (fits : Fits n record
           → (s : Bool) → ltb (first_bad_sets n (records Component) (records User)) (length (records User)) ≡ s
           → check_of im
           ≡ in_blocks im
-          (cond c (Fault (Record Component (bad Component)))
-          (cond b (Fault (Record Label (bad Label)))
-          (cond u (Fault (Record User (bad User)))
-          (cond r (Fault (Ring (first_ring_in (forest_in n (records Component)))))
-          (cond s (Fault (Record User (first_bad_sets n (records Component) (records User)))) Sound)))))
+          (cond c (Err (Record Component (bad Component)))
+          (cond b (Err (Record Label (bad Label)))
+          (cond u (Err (Record User (bad User)))
+          (cond r (Err (Ring (first_ring_in (forest_in n (records Component)))))
+          (cond s (Err (Record User (first_bad_sets n (records Component) (records User)))) (Ok tt))))))
       at true c _ b _ u _ r _ s = component-told c
       at false c true b _ u _ r _ s = label-told c b
       at false c false b true u _ r _ s = user-told c b u
@@ -211,5 +211,5 @@ module _ (n : Counts) (records : Kind → List (List ℕ)) (fits : Fits n record
       at false c false b false u false r false s = sound-told c b u r s
 
   -- so records of which no fault is told give an accepted image
-  pub sound-accepted : records_check n records ≡ Sound → IsAccepted im
+  pub sound-accepted : records_check n records ≡ Ok tt → IsAccepted im
   sound-accepted e = told-alike ∙ ap (in_blocks im) e

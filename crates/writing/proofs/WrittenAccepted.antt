@@ -1,4 +1,8 @@
 -- What the writer writes is an accepted image of the edition and the profile told, and taken apart it gives the bytes lent. Assumes nothing.
+use Rattle.std.proofs.Common.{Ok, Err}
+use Rattle.writing.specs.declared.answers.WriteRefusal.TheVariants.{Lent}
+use Rattle.std.proofs.Common.{Ok}
+use Rattle.refusals.specs.Answers.{Amount}
 use Prim.Native.Nat.{ℕ, ◌≤◌}
 use mathlib.Core.Path.{◌≡◌, refl, sym, ap, ap₂, ◌∙◌}
 use mathlib.Core.Bool.{Bool, true, false, cond}
@@ -11,8 +15,6 @@ use lib.Dec.{eqb}
 use lib.ListN.{length}
 use Rattle.fields.specs.Bytes.{byte_at}
 use Rattle.buffers.specs.Filling.{written_to}
-use Rattle.buffers.specs.declared.answers.Filled.{Filled}
-use Rattle.buffers.specs.declared.answers.Filled.TheVariants.{Done}
 use Rattle.buffers.proofs.FrontWritten.{FrontDone, front-done}
 use Rattle.header.specs.declared.edition.Edition.{Edition}
 use Rattle.header.specs.declared.counts.Counts.{Counts}
@@ -23,13 +25,9 @@ use Rattle.header.specs.Layout.{edition_named, profile_named, by_edition, record
 use Rattle.image.specs.Check.{IsAccepted}
 use Rattle.image.proofs.EveryRule.{accepted-keeps}
 use Rattle.writing.specs.declared.answers.LentFault.{LentFault}
-use Rattle.writing.specs.declared.answers.LentCheck.{LentCheck}
-use Rattle.writing.specs.declared.answers.LentCheck.TheVariants.{Sound, Fault}
-use Rattle.writing.specs.declared.answers.WriteAnswer.{WriteAnswer}
-use Rattle.writing.specs.declared.answers.WriteAnswer.TheVariants.{Image, Refused}
 use Rattle.writing.specs.Laid.{profile_byte}
-use Rattle.writing.specs.Lent.{bytes_by, lent_records, lent_counts, lent_check}
-use Rattle.writing.specs.Calls.{lent_image, on_sound, image_to, write_of}
+use Rattle.writing.specs.Lent.{LentCheck, bytes_by, lent_records, lent_counts, lent_check}
+use Rattle.writing.specs.Calls.{WriteAnswer, written_answer, lent_image, on_sound, image_to, write_of}
 use Rattle.writing.proofs.Runs.{run-joined}
 use Rattle.writing.proofs.Counted.{edition-byte-is, profile-byte-is}
 use Rattle.writing.proofs.ReadBack.{records-are}
@@ -48,7 +46,7 @@ profile-told profile few = at (eqb profile 1) refl
     at false e = omega (arith, lt_of_le_of_ne few (eqb-false _ _ e))
 
 -- ---- the image of what is lent and sound
-module _ (edition profile : ℕ) (bytes : Kind → List ℕ) (sound : lent_check edition profile bytes ≡ Sound) where
+module _ (edition profile : ℕ) (bytes : Kind → List ℕ) (sound : lent_check edition profile bytes ≡ Ok tt) where
   abbrev e : Edition
   e = edition_named edition
 
@@ -86,11 +84,12 @@ module _ (edition profile : ℕ) (bytes : Kind → List ℕ) (sound : lent_check
       ∙ run-joined (record_size e kind) (bytes kind) ((sound-layout edition profile bytes sound).whole kind)
 
 -- ---- the call
-image-same : {f g : Filled} → Image f ≡ Image g → f ≡ g
-image-same {f} {g} q = cc
+image-same : (f : Amount) {n : ℕ} → written_answer f ≡ Ok n → f ≡ Ok n
+image-same (Ok m) {n} q = let e : m ≡ n = cc in ap Ok e
+image-same (Err r) {n} q = let z : ◌≡◌ {A = ℕ} 0 1 = cc in absurd (omega arith)
 
-refused-image : {fault : LentFault} {f : Filled} → Refused fault ≡ Image f → ⊥
-refused-image {fault} {f} q = let z : ◌≡◌ {A = ℕ} 0 1 = cc in omega arith
+refused-image : {fault : LentFault} {n : ℕ} → ◌≡◌ {A = WriteAnswer} (Err (Lent fault)) (Ok n) → ⊥
+refused-image {fault} {n} q = let z : ◌≡◌ {A = ℕ} 0 1 = cc in omega arith
 
 module _ (edition profile : ℕ) (components labels users buffer after : List ℕ) (n : ℕ) where
   abbrev bytes : Kind → List ℕ
@@ -100,17 +99,17 @@ module _ (edition profile : ℕ) (components labels users buffer after : List �
   image = lent_image edition profile bytes
 
   -- where it is done, no fault is told, and the front of the buffer is the image
-  pub write_done : write_of edition profile components labels users buffer ≡ (Image (Done n), after)
-      → (lent_check edition profile (bytes_by components labels users) ≡ Sound)
+  pub write_done : write_of edition profile components labels users buffer ≡ (Ok n, after)
+      → (lent_check edition profile (bytes_by components labels users) ≡ Ok tt)
       × FrontDone buffer (lent_image edition profile (bytes_by components labels users)) after n
   unfolding write_of
   write_done = at (lent_check edition profile bytes) refl
     where
       at : (c : LentCheck) → lent_check edition profile bytes ≡ c
-          → on_sound {A = WriteAnswer × List ℕ} c (λ fault. (Refused fault, buffer)) (image_to buffer image) ≡ (Image (Done n), after)
-          → (lent_check edition profile bytes ≡ Sound) × FrontDone buffer image after n
-      at Sound sound q =
-          let done : written_to buffer image ≡ (Done n, after) =
-          ap₂ (λ (f : Filled) (b : List ℕ). (f, b)) (image-same (ap (λ (p : WriteAnswer × List ℕ). p.0) q)) (ap (λ (p : WriteAnswer × List ℕ). p.1) q) in
+          → on_sound {A = WriteAnswer × List ℕ} c (λ fault. (Err (Lent fault), buffer)) (image_to buffer image) ≡ (Ok n, after)
+          → (lent_check edition profile bytes ≡ Ok tt) × FrontDone buffer image after n
+      at (Ok _) sound q =
+          let done : written_to buffer image ≡ (Ok n, after) =
+          ap₂ (λ (f : Amount) (b : List ℕ). (f, b)) (image-same _ (ap (λ (p : WriteAnswer × List ℕ). p.0) q)) (ap (λ (p : WriteAnswer × List ℕ). p.1) q) in
           (sound, front-done buffer image after n done)
-      at (Fault fault) faulty q = absurd (refused-image (ap (λ (p : WriteAnswer × List ℕ). p.0) q))
+      at (Err fault) faulty q = absurd (refused-image (ap (λ (p : WriteAnswer × List ℕ). p.0) q))

@@ -1,5 +1,7 @@
 -- An accepted image, if made of bytes, is given again by the writer that is lent its edition, its profile and its records without their blocks. Assumes
 -- nothing.
+use Rattle.std.proofs.Common.{Ok, Err}
+use Rattle.writing.specs.declared.answers.WriteRefusal.TheVariants.{Lent}
 use Prim.Native.Nat.{ℕ, ◌%◌}
 use mathlib.Core.Path.{◌≡◌, refl, sym, ap, ap₂, ◌∙◌, subst, fun_ext}
 use mathlib.Core.List.{List, flatten}
@@ -17,12 +19,9 @@ use Rattle.records.specs.Rules.{run_records}
 use Rattle.image.specs.Check.{IsAccepted}
 use Rattle.image.proofs.EveryRule.{accepted-keeps}
 use Rattle.image.proofs.Policy.{component-among}
-use Rattle.writing.specs.declared.answers.LentCheck.{LentCheck}
-use Rattle.writing.specs.declared.answers.LentCheck.TheVariants.{Sound}
-use Rattle.writing.specs.declared.answers.WriteAnswer.TheVariants.{Image, Refused}
 use Rattle.writing.specs.Laid.{image_of, Limited}
-use Rattle.writing.specs.Lent.{bytes_by, lent_records, lent_counts, LentWhole, records_check, lent_check}
-use Rattle.writing.specs.Calls.{lent_image, on_sound, image_to, write_of}
+use Rattle.writing.specs.Lent.{LentCheck, bytes_by, lent_records, lent_counts, LentWhole, records_check, lent_check}
+use Rattle.writing.specs.Calls.{written_answer, lent_image, on_sound, image_to, write_of}
 use Rattle.writing.proofs.Packed.{flatten-length}
 use Rattle.records.proofs.BlockRuns.{size-some}
 use Rattle.writing.proofs.Runs.{run-split}
@@ -86,7 +85,7 @@ module _ (im : List ℕ) (acc : IsAccepted im) where
             (sym lent_same) own;
       }
 
-  own-check : lent_check (byte_at im 4) (byte_at im 12) bytes_of ≡ Sound
+  own-check : lent_check (byte_at im 4) (byte_at im 12) bytes_of ≡ Ok tt
   unfolding edition_of profile_of
   own-check =
       layout-told (byte_at im 4) (byte_at im 12) bytes_of (layout-holds (byte_at im 4) (byte_at im 12) bytes_of own-whole)
@@ -100,8 +99,9 @@ module _ (im : List ℕ) (acc : IsAccepted im) where
 
     pub written-again : (buffer : List ℕ)
         → write_of (byte_at im 4) (byte_at im 12) (flatten (records_of im Component)) (flatten (records_of im Label)) (flatten (records_of im User)) buffer
-        ≡ (Image (written_to buffer im).0, (written_to buffer im).1)
+        ≡ (written_answer (written_to buffer im).0, (written_to buffer im).1)
     unfolding write_of
     written-again buffer =
-        ap (λ (c : LentCheck). on_sound c (λ fault. (Refused fault, buffer)) (image_to buffer (lent_image (byte_at im 4) (byte_at im 12) bytes_of))) own-check
+        let image = lent_image (byte_at im 4) (byte_at im 12) bytes_of in
+        ap (λ (c : LentCheck). on_sound c (λ fault. (Err (Lent fault), buffer)) (image_to buffer image)) own-check
         ∙ ap (image_to buffer) own-image

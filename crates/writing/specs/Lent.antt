@@ -1,6 +1,6 @@
 -- Request R-1: what is lent to the writer, and which fault of it is told. Lent are an edition, a profile, and for each kind a run of bytes: its
 -- records in the layouts of the edition, without blocks. The rules of records are the image's own.
-use Rattle.std.specs.Prelude.{ℕ, ◌%◌, ◌≤◌, ◌<◌, ◌≡◌, Bool, cond, ◌&&◌, List, [], ◌∷◌, ◌⊎◌, eqb, ltb, length}
+use Rattle.std.specs.Prelude.{ℕ, ◌%◌, ◌≤◌, ◌<◌, ◌≡◌, Bool, cond, ◌&&◌, List, [], ◌∷◌, ◌⊎◌, eqb, ltb, length, Result, Ok, Err, ⊤}
 use Rattle.fields.specs.Scan.{first_bad, places_where}
 use Rattle.refusals.specs.declared.Refusal.TheVariants.{ImageLayout, ParentRing}
 use Rattle.refusals.specs.Answers.{Given, refused, refusal_given}
@@ -17,9 +17,8 @@ use Rattle.hierarchy.specs.Forest.{first_ring_in}
 use Rattle.hierarchy.specs.Below.{forest_in, first_bad_sets}
 use Rattle.image.specs.Exactly.{record_number}
 use Rattle.writing.specs.declared.answers.LentFault.{LentFault}
+use Rattle.writing.specs.declared.lent.LentRecords.{LentRecords}
 use Rattle.writing.specs.declared.answers.LentFault.TheVariants.{Layout, Record, Ring}
-use Rattle.writing.specs.declared.answers.LentCheck.{LentCheck}
-use Rattle.writing.specs.declared.answers.LentCheck.TheVariants.{Sound, Fault}
 use Rattle.writing.specs.Laid.{counts_from, Limited}
 
 -- ---- what is lent
@@ -28,6 +27,10 @@ abbrev pub bytes_by : List ℕ → List ℕ → List ℕ → Kind → List ℕ
 bytes_by components labels users Component = components
 bytes_by components labels users Label = labels
 bytes_by components labels users User = users
+
+-- as the writer's own functions are handed them
+abbrev pub bytes_in : LentRecords → Kind → List ℕ
+bytes_in lent = bytes_by lent.components.now lent.labels.now lent.users.now
 
 -- the records of each kind
 abbrev pub lent_records : Edition → (Kind → List ℕ) → Kind → List (List ℕ)
@@ -77,6 +80,10 @@ pub record LentWhole (edition profile : ℕ) (bytes : Kind → List ℕ) : Type 
       (length (lent_records (edition_named edition) bytes User))
       (length (lent_records (edition_named edition) bytes Label))
 
+-- ---- no fault, or the fault that is told
+abbrev pub LentCheck : Type 0
+LentCheck = Result ⊤ LentFault
+
 -- ---- 32 to 35: the rules of the image over lists of records
 -- the lowest record of a kind that breaks a rule; the number of records where none does. A record of no counted class has another class than the
 -- one expected at its place, so it breaks a rule; past all counts class 3 is expected, and some record up to the first place there is at fault
@@ -85,13 +92,17 @@ first_bad_of n records kind = first_bad (rule_of kind n (records kind)) (length 
 
 -- the fault at that place where the place is below `count`; else what is told after it
 abbrev pub fault_at : ℕ → ℕ → (ℕ → LentFault) → LentCheck → LentCheck
-fault_at place count fault after = cond (ltb place count) (Fault (fault place)) after
+fault_at place count fault after = cond (ltb place count) (Err (fault place)) after
+
+-- of a kind: its lowest record that breaks a rule
+abbrev pub kind_check : Counts → Kind → List (List ℕ) → LentCheck
+kind_check n kind records = fault_at (first_bad (rule_of kind n records) (length records) 0) (length records) (Record kind) (Ok tt)
 
 -- of the groups: the lowest whose parents never end, and after that the lowest user whose sets of groups break their rule
 abbrev pub groups_check : Counts → List (List ℕ) → List (List ℕ) → LentCheck
 groups_check n components users =
     fault_at (first_ring_in (forest_in n components)) n.groups Ring
-    (fault_at (first_bad_sets n components users) (length users) (Record User) Sound)
+    (fault_at (first_bad_sets n components users) (length users) (Record User) (Ok tt))
 
 -- the kinds in the image's order, each by its lowest record, and the groups after all records
 unfoldable pub records_check : Counts → (Kind → List (List ℕ)) → LentCheck
@@ -105,7 +116,7 @@ unfoldable pub lent_check : ℕ → ℕ → (Kind → List ℕ) → LentCheck
 lent_check edition profile bytes =
     let records = lent_records (edition_named edition) bytes in
     cond (lent_layout_rule edition profile bytes)
-    (records_check (lent_counts (edition_named edition) (profile_named profile) (records Component)) records) (Fault Layout)
+    (records_check (lent_counts (edition_named edition) (profile_named profile) (records Component)) records) (Err Layout)
 
 -- ---- what is given back for a fault: the image's number for it, and the place of the record in its run of bytes or of the group
 abbrev pub fault_given : LentFault → Given

@@ -1,6 +1,9 @@
 // What the writer answers.
-use buffers::answers::Filled;
+ghost use Rattle.std.specs.Prelude.{◌≡◌};
+ghost use Rattle.writing.specs.declared.answers.WriteRefusal.TheVariants.{Lent, Buffer};
+
 use header::layout::Kind;
+use refusals::Refusal;
 
 // What is wrong with an edition, a profile and records that are lent to the writer.
 #[derive(Clone, Copy)]
@@ -13,17 +16,27 @@ pub enum LentFault {
     Ring(usize),
 }
 
-// Whether a rule is broken, and the fault that is told.
+// Why no image is written.
 #[derive(Clone, Copy)]
-pub enum LentCheck {
-    Sound,
-    Fault(LentFault),
+pub enum WriteRefusal {
+    // 31 to 35: a rule of what is lent is broken.
+    Lent(LentFault),
+    // 13: no rule is broken, but the buffer is shorter than the image.
+    Buffer(Refusal),
 }
 
-#[derive(Clone, Copy)]
-pub enum WriteAnswer {
-    // No rule is broken: how many bytes the image has, which are written; or, where the buffer is shorter, 13.
-    Image(Filled),
-    // A rule is broken: 31 to 35.
-    Refused(LentFault),
+impl From<LentFault> for WriteRefusal {
+    ghost from_gives = { λ fault refusal. refusal ≡ Lent fault };
+
+    fn from(fault: LentFault) -> WriteRefusal {
+        WriteRefusal::Lent(fault)
+    }
+}
+
+impl From<Refusal> for WriteRefusal {
+    ghost from_gives = { λ room refusal. refusal ≡ Buffer room };
+
+    fn from(room: Refusal) -> WriteRefusal {
+        WriteRefusal::Buffer(room)
+    }
 }

@@ -8,14 +8,12 @@ ghost use Rattle.header.specs.Limits.{Counted};
 ghost use Rattle.records.specs.Kinds.{RunOf};
 ghost use Rattle.writing.specs.Calls.{records_given_of};
 
-use buffers::answers::Filled;
 use buffers::given::put;
 use header::contents::lower;
 use header::layout::{Kind, Shape};
 use header::{layout, walk};
 use image::check;
 use refusals::Refusal;
-use refusals::answers::Checked;
 
 // The records from `from` up to `to`. They stand in one block, the first of them at `first`, so that they are a run.
 fn run_in_block<'a>(
@@ -44,6 +42,7 @@ fn put_records(image: &[u8], kind: Kind, buffer: &mut [u8]) -> usize
     let mut here = walk::record_at(shape, 0);
     let mut end = 0;
     let mut from = 0;
+    // No counted loop: the next turn begins where the block ends.
     while from < shape.count {
         let to = lower(shape.count, from + here.left);
         let run = run_in_block(image, shape, kind, here.at, from, to);
@@ -55,25 +54,21 @@ fn put_records(image: &[u8], kind: Kind, buffer: &mut [u8]) -> usize
 }
 
 // Refusal: 13.
-fn give_records(image: &[u8], kind: Kind, buffer: &mut [u8]) -> Filled
+fn give_records(image: &[u8], kind: Kind, buffer: &mut [u8]) -> Result<usize, Refusal>
     requires { Counted image.now }
     ensures { (result, buffer.new) ≡ written_to buffer.old (flatten (records_of image.now kind)) }
 {
     let shape = layout::shape_of(image, kind);
     if buffer.len() < shape.size * shape.count {
-        return Filled::Refused(Refusal::Room);
+        return Err(Refusal::Room);
     }
-    let length = put_records(image, kind, buffer);
-    Filled::Done(length)
+    Ok(put_records(image, kind, buffer))
 }
 
 // Refusals: 1, 2, 31 to 35, 13.
-pub(crate) fn records_given(image: &[u8], kind: Kind, buffer: &mut [u8]) -> Filled
+pub(crate) fn records_given(image: &[u8], kind: Kind, buffer: &mut [u8]) -> Result<usize, Refusal>
     ensures { (result, buffer.new) ≡ records_given_of kind image.now buffer.old }
 {
-    let answer = check(image);
-    match answer {
-        Checked::Accepted => give_records(image, kind, buffer),
-        Checked::Refused(refusal) => Filled::Refused(refusal),
-    }
+    check(image)?;
+    give_records(image, kind, buffer)
 }

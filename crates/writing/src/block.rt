@@ -2,7 +2,6 @@
 ghost use Rattle.std.specs.Prelude.{◌+◌, ◌/◌, ◌%◌, ◌<◌, ◌≤◌, ◌≡◌, ◌++◌, length};
 ghost use Rattle.fields.specs.Bytes.{part};
 ghost use Rattle.buffers.specs.Pasting.{Written};
-ghost use Rattle.header.specs.declared.edition.Edition.TheVariants.{One, Two};
 ghost use Rattle.header.specs.Layout.{by_edition};
 ghost use Rattle.writing.specs.Laid.{zeros, head_of, end_of, sealed, profile_byte, counts_from, header_block};
 
@@ -17,12 +16,10 @@ pub fn put_zeros(buffer: &mut [u8], at: usize, n: usize) -> usize
     ensures { Written buffer.old at (zeros n) buffer.new result }
 {
     let end = at + n;
-    let mut i = at;
-    while i < end {
+    for i in at..end {
         buffer[i] = 0;
-        i += 1;
     }
-    i
+    end
 }
 
 // The low byte of a number.
@@ -90,69 +87,9 @@ fn profile_byte(profile: Profile) -> u8
     }
 }
 
-// Writes the header of edition 1, whose group count is one byte.
-fn put_header_one(
-    profile: Profile,
-    levels: u8,
-    compartments: u8,
-    groups: usize,
-    users: usize,
-    labels: usize,
-    buffer: &mut [u8],
-    at: usize,
-) -> usize
-    requires groups_bound { (groups < 256) × ((users < 65536) × (labels < 65536)) }
-    requires at_in_bounds { at + 512 ≤ length buffer.old }
-    ensures { Written buffer.old at (header_block (counts_from One profile levels compartments groups) users labels) buffer.new result }
-{
-    let group_byte = groups as u8;
-    let fields = [
-        1,
-        levels,
-        compartments,
-        group_byte,
-        low(users),
-        high(users),
-        low(labels),
-        high(labels),
-        profile_byte(profile),
-    ];
-    put_block(80, 0, 0, &fields, buffer, at)
-}
-
-// Writes the header of edition 2, whose group count is two bytes behind the other counts.
-fn put_header_two(
-    profile: Profile,
-    levels: u8,
-    compartments: u8,
-    groups: usize,
-    users: usize,
-    labels: usize,
-    buffer: &mut [u8],
-    at: usize,
-) -> usize
-    requires groups_bound { (groups < 65536) × ((users < 65536) × (labels < 65536)) }
-    requires at_in_bounds { at + 512 ≤ length buffer.old }
-    ensures { Written buffer.old at (header_block (counts_from Two profile levels compartments groups) users labels) buffer.new result }
-{
-    let fields = [
-        2,
-        levels,
-        compartments,
-        0,
-        low(users),
-        high(users),
-        low(labels),
-        high(labels),
-        profile_byte(profile),
-        0,
-        low(groups),
-        high(groups),
-    ];
-    put_block(80, 0, 0, &fields, buffer, at)
-}
-
-// Writes the header: the edition, the profile, and how many there are of each.
+// Writes the header: the edition, the profile, and how many there are of each. The number of groups is one byte among the other counts in edition 1,
+// and two bytes behind the profile in edition 2; those that the edition does not use are zeros, as all unused bytes of a block.
+// The documents name this function and its clause, so its counts stay parameters of their own.
 pub fn put_header(
     edition: Edition,
     profile: Profile,
@@ -168,30 +105,23 @@ pub fn put_header(
     requires at_in_bounds { at + 512 ≤ length buffer.old }
     ensures { Written buffer.old at (header_block (counts_from edition profile levels compartments groups) users labels) buffer.new result }
 {
-    match edition {
-        Edition::One => {
-            put_header_one(
-                profile,
-                levels,
-                compartments,
-                groups,
-                users,
-                labels,
-                buffer,
-                at,
-            )
-        },
-        Edition::Two => {
-            put_header_two(
-                profile,
-                levels,
-                compartments,
-                groups,
-                users,
-                labels,
-                buffer,
-                at,
-            )
-        },
-    }
+    let (number, among, behind) = match edition {
+        Edition::One => (1, groups as u8, 0),
+        Edition::Two => (2, 0, groups),
+    };
+    let fields = [
+        number,
+        levels,
+        compartments,
+        among,
+        low(users),
+        high(users),
+        low(labels),
+        high(labels),
+        profile_byte(profile),
+        0,
+        low(behind),
+        high(behind),
+    ];
+    put_block(80, 0, 0, &fields, buffer, at)
 }

@@ -2,8 +2,9 @@
 ghost use Rattle.std.specs.Prelude.{◌/◌, ◌%◌, ◌≤◌, ◌<◌, ◌≡◌, eqb, length};
 ghost use Rattle.records.specs.Fields.{class_of};
 ghost use Rattle.records.specs.Rules.{record_in, run_records};
-ghost use Rattle.writing.specs.Lent.{bytes_by, class_total, lent_counts, lent_layout_rule};
+ghost use Rattle.writing.specs.Lent.{bytes_in, class_total, lent_counts, lent_layout_rule};
 
+use crate::lent::LentRecords;
 use header::counts::Counts;
 use header::edition::{Edition, edition_named};
 use header::layout::{Kind, size};
@@ -24,12 +25,10 @@ fn class_total(components: &[u8], class: u8) -> usize
 {
     let count = components.len() / 40;
     let mut held = 0;
-    let mut i = 0;
-    while i < count {
+    for i in 0..count {
         if names_class(components, i, class) {
             held += 1;
         }
-        i += 1;
     }
     held
 }
@@ -56,23 +55,21 @@ fn whole(records: &[u8], size: usize) -> bool
 }
 
 // The edition and the profile are known, each length is whole records, and no count is outside its limits.
-pub(crate) fn layout_fits(
-    edition: u8,
-    profile: u8,
-    components: &[u8],
-    labels: &[u8],
-    users: &[u8],
-) -> bool
-    ensures { result ≡ lent_layout_rule edition profile (bytes_by components.now labels.now users.now) }
+pub(crate) fn layout_fits(edition: u8, profile: u8, lent: LentRecords) -> bool
+    ensures { result ≡ lent_layout_rule edition profile (bytes_in lent.entry) }
 {
     let named = edition_named(edition);
     let label_size = size(named, Kind::Label);
     let user_size = size(named, Kind::User);
-    let counts = lent_counts(named, profile_named(profile), components);
+    let counts = lent_counts(named, profile_named(profile), lent.components);
     known_edition(edition)
         & known_profile(profile)
-        & whole(components, 40)
-        & whole(labels, label_size)
-        & whole(users, user_size)
-        & counts_within(counts, users.len() / user_size, labels.len() / label_size)
+        & whole(lent.components, 40)
+        & whole(lent.labels, label_size)
+        & whole(lent.users, user_size)
+        & counts_within(
+            counts,
+            lent.users.len() / user_size,
+            lent.labels.len() / label_size,
+        )
 }

@@ -33,12 +33,10 @@ fn fill_places(counts: Counts, components: &[u8], places: &mut [u8])
 {
     let edition = counts.edition;
     let first = counts.levels + counts.compartments;
-    let mut g = 0;
-    while g < counts.groups {
+    for g in 0..counts.groups {
         let parent = parent_at(edition, components, first + g);
         places[2 * g] = (parent % 256) as u8;
         places[2 * g + 1] = (parent / 256) as u8;
-        g += 1;
     }
 }
 

@@ -6,10 +6,10 @@ ghost use Rattle.header.specs.declared.layout.Kind.TheVariants.{Component, Label
 ghost use Rattle.header.specs.Layout.{kind_byte, record_size, capacity_of, blocks_for};
 ghost use Rattle.records.specs.Rules.{run_records};
 ghost use Rattle.writing.specs.Laid.{block_of, kind_blocks, image_of, Fits, Limited};
-ghost use Rattle.writing.specs.Lent.{bytes_by, lent_records};
+ghost use Rattle.writing.specs.Lent.{bytes_in, lent_records};
 
 use crate::block::{put_block, put_header};
-use buffers::answers::Filled;
+use crate::lent::LentRecords;
 use header::contents::lower;
 use header::counts::Counts;
 use header::edition::Edition;
@@ -84,6 +84,7 @@ fn put_kind(
     let mut end = at;
     let mut b = place;
     let mut from = 0;
+    // No counted loop: the next turn begins after the records of the block.
     while from < count {
         let to = lower(count, from + held);
         end = put_run(edition, kind, b, records, from, to, buffer, end);
@@ -94,23 +95,17 @@ fn put_kind(
 }
 
 // Writes the image. `counts` are those of what is lent.
-fn put_image(
-    counts: Counts,
-    components: &[u8],
-    labels: &[u8],
-    users: &[u8],
-    buffer: &mut [u8],
-) -> usize
-    requires fits { Fits counts (lent_records counts.edition (bytes_by components.now labels.now users.now)) }
-    requires limited { Limited counts (length users.now / record_size counts.edition User) (length labels.now / record_size counts.edition Label) }
-    requires users_in_bounds { length (image_of counts (lent_records counts.edition (bytes_by components.now labels.now users.now))) ≤ length buffer.old }
-    ensures { Written buffer.old 0 (image_of counts (lent_records counts.edition (bytes_by components.now labels.now users.now))) buffer.new result }
+fn put_image(counts: Counts, lent: LentRecords, buffer: &mut [u8]) -> usize
+    requires fits { Fits counts (lent_records counts.edition (bytes_in lent)) }
+    requires limited { Limited counts (length lent.users.now / record_size counts.edition User) (length lent.labels.now / record_size counts.edition Label) }
+    requires users_in_bounds { length (image_of counts (lent_records counts.edition (bytes_in lent))) ≤ length buffer.old }
+    ensures { Written buffer.old 0 (image_of counts (lent_records counts.edition (bytes_in lent.entry))) buffer.new result }
 {
     let edition = counts.edition;
     let profile = counts.profile;
-    let label_count = labels.len() / size(edition, Kind::Label);
-    let user_count = users.len() / size(edition, Kind::User);
-    let label_place = 1 + blocks_for(edition, Kind::Component, components.len() / 40);
+    let label_count = lent.labels.len() / size(edition, Kind::Label);
+    let user_count = lent.users.len() / size(edition, Kind::User);
+    let label_place = 1 + blocks_for(edition, Kind::Component, lent.components.len() / 40);
     let user_place = label_place + blocks_for(edition, Kind::Label, label_count);
     let levels = counts.levels as u8;
     let compartments = counts.compartments as u8;
@@ -125,36 +120,40 @@ fn put_image(
         buffer,
         0,
     );
-    let component_end = put_kind(edition, Kind::Component, 1, components, buffer, head);
+    let component_end = put_kind(edition, Kind::Component, 1, lent.components, buffer, head);
     let label_end = put_kind(
         edition,
         Kind::Label,
         label_place,
-        labels,
+        lent.labels,
         buffer,
         component_end,
     );
-    put_kind(edition, Kind::User, user_place, users, buffer, label_end)
+    put_kind(
+        edition,
+        Kind::User,
+        user_place,
+        lent.users,
+        buffer,
+        label_end,
+    )
 }
 
 // Refusal: 13.
 pub(crate) fn write_image(
     counts: Counts,
-    components: &[u8],
-    labels: &[u8],
-    users: &[u8],
+    lent: LentRecords,
     buffer: &mut [u8],
-) -> Filled
-    requires fits { Fits counts (lent_records counts.edition (bytes_by components.now labels.now users.now)) }
-    requires limited { Limited counts (length users.now / record_size counts.edition User) (length labels.now / record_size counts.edition Label) }
-    ensures { (result, buffer.new) ≡ written_to buffer.old (image_of counts (lent_records counts.edition (bytes_by components.now labels.now users.now))) }
+) -> Result<usize, Refusal>
+    requires fits { Fits counts (lent_records counts.edition (bytes_in lent)) }
+    requires limited { Limited counts (length lent.users.now / record_size counts.edition User) (length lent.labels.now / record_size counts.edition Label) }
+    ensures { (result, buffer.new) ≡ written_to buffer.old (image_of counts (lent_records counts.edition (bytes_in lent.entry))) }
 {
     let edition = counts.edition;
-    let label_count = labels.len() / size(edition, Kind::Label);
-    let user_count = users.len() / size(edition, Kind::User);
-    if buffer.len() < length_for(edition, components.len() / 40, label_count, user_count) {
-        return Filled::Refused(Refusal::Room);
+    let label_count = lent.labels.len() / size(edition, Kind::Label);
+    let user_count = lent.users.len() / size(edition, Kind::User);
+    if buffer.len() < length_for(edition, lent.components.len() / 40, label_count, user_count) {
+        return Err(Refusal::Room);
     }
-    let length = put_image(counts, components, labels, users, buffer);
-    Filled::Done(length)
+    Ok(put_image(counts, lent, buffer))
 }

@@ -15,6 +15,14 @@ use records::fresh;
 use records::fresh::{Source, first_stale};
 use records::runs::first_bad_after;
 
+// The bytes that are lent: the records of each kind, without blocks.
+#[derive(Clone, Copy)]
+pub(crate) struct LentRecords<'a> {
+    pub(crate) components: &'a [u8],
+    pub(crate) labels: &'a [u8],
+    pub(crate) users: &'a [u8],
+}
+
 // The first of the first `to` records whose name stands before it in its class; `to` where there is none. That is asked of components alone.
 fn first_known(counts: Counts, kind: Kind, records: &[u8], to: usize) -> usize
     requires kind_len { (length records.now % record_size counts.edition kind ≡ 0) × (to ≤ length records.now / record_size counts.edition kind) }

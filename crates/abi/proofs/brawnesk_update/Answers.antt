@@ -1,6 +1,6 @@
+use Rattle.refusals.specs.Answers.{Checked}
 use Prim.Native.Nat.{ℕ}
 use mathlib.Core.List.{List}
-use Rattle.refusals.specs.declared.answers.Checked.{Checked}
 use mathlib.Core.Path.{sym, ap, ◌∙◌}
 use borrow.Author.Tests.{not-true, not-false}
 use Rattle.abi.proofs.RowPlaces.{update-fits}

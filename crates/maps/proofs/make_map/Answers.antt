@@ -1,3 +1,4 @@
+use Rattle.refusals.proofs.Passed.{err-passed}
 use Rattle.image.proofs.Accepted.{accepted-counted}
 use Rattle.sessions.proofs.Accepting.{lent-accepted, lent_at, lent-refused}
 use Rattle.maps.specs.Calls.{make_map_of}
@@ -5,14 +6,15 @@ use Rattle.maps.proofs.make_map.Goals as goal
 
 pub write_map-requires : goal.write_map-requires
 write_map-requires c =
-    accepted-counted _ (lent-accepted _ _ (lent_at _ _ _ _ _ c.in-At.is c.lent_rights-found.ensures).0)
+    accepted-counted _ (lent-accepted _ _ (lent_at _ _ _ _ _ c.in_ok-view.was c.lent_rights.ensures).0)
 
-pub returns-in-At : goal.returns-in-At
+pub returns-in_err-view : goal.returns-in_err-view
 unfolding make_map_of
-returns-in-At c =
-    let g = lent_at _ _ _ _ _ c.in-At.is c.lent_rights-found.ensures in
+returns-in_err-view c =
+    rw (err-passed _ c.from_residual.ensures.1, lent-refused _ _ _ _ _ c.in_err-view.was c.lent_rights.ensures)
+
+pub returns : goal.returns
+unfolding make_map_of
+returns c =
+    let g = lent_at _ _ _ _ _ c.in_ok-view.was c.lent_rights.ensures in
     rw (g.0, ← g.1.1) c.write_map.ensures
-
-pub returns-in-Refused : goal.returns-in-Refused
-unfolding make_map_of
-returns-in-Refused c = rw (lent-refused _ _ _ _ _ c.in-Refused.is c.lent_rights-found.ensures)

@@ -1,4 +1,5 @@
 use mathlib.Core.Path.{sym, ◌∙◌}
+use Rattle.refusals.proofs.Passed.{err-passed}
 use Rattle.image.proofs.Accepted.{accepted-counted}
 use Rattle.moves.specs.Moving.{clear_compaccess_of}
 use Rattle.moves.proofs.OldAccepted.{old-accepted}
@@ -6,15 +7,15 @@ use Rattle.moves.proofs.clear_compaccess.Goals as goal
 
 pub write_image-requires : goal.write_image-requires
 write_image-requires c =
-    let kept = old-accepted _ (sym c.old_check-answer.ensures ∙ c.in-Accepted.is) in
+    let kept = old-accepted _ (sym c.old_check.ensures ∙ c.in_ok-old_check.was) in
     (accepted-counted _ kept.0, kept.1)
 
-pub returns-in-Accepted : goal.returns-in-Accepted
+pub returns : goal.returns
 unfolding clear_compaccess_of
-returns-in-Accepted c =
-    rw (sym c.old_check-answer.ensures ∙ c.in-Accepted.is) c.write_image.ensures
+returns c =
+    rw (sym c.old_check.ensures ∙ c.in_ok-old_check.was) c.write_image.ensures
 
-pub returns-in-Refused : goal.returns-in-Refused
+pub returns-in_err-old_check : goal.returns-in_err-old_check
 unfolding clear_compaccess_of
-returns-in-Refused c =
-    rw (sym c.old_check-answer.ensures ∙ c.in-Refused.is)
+returns-in_err-old_check c =
+    rw (err-passed _ c.from_residual.ensures.1) (rw (sym c.old_check.ensures ∙ c.in_err-old_check.was))

@@ -1,3 +1,4 @@
+use Rattle.refusals.proofs.Passed.{err-passed}
 use Rattle.rows.specs.Table.{rows_of}
 use Rattle.rows.specs.Masked.{masked_verdict_of}
 use Rattle.rows.proofs.Held.{held-means}
@@ -6,15 +7,15 @@ use Rattle.rows.proofs.masked_verdict.Goals as goal
 
 pub place_verdict-requires : goal.place_verdict-requires
 place_verdict-requires c =
-    let usable = (table_at _ _ _ _ _ _ c.in-At.is c.table_rights-found.ensures).1.0 in
+    let usable = (table_at _ _ _ _ _ _ c.in_ok-view.was c.table_rights.ensures).1.0 in
     record { accepted = usable.accepted; whole = held-means _ _ usable.rule _ c.run_of.ensures }
 
-pub returns-in-At : goal.returns-in-At
+pub returns : goal.returns
 unfolding masked_verdict_of rows_of
-returns-in-At c =
-    let g = table_at _ _ _ _ _ _ c.in-At.is c.table_rights-found.ensures in
+returns c =
+    let g = table_at _ _ _ _ _ _ c.in_ok-view.was c.table_rights.ensures in
     rw (g.0, ← g.1.1, ← c.run_of.ensures) c.place_verdict.ensures
 
-pub returns-in-Refused : goal.returns-in-Refused
+pub returns-in_err-view : goal.returns-in_err-view
 unfolding masked_verdict_of
-returns-in-Refused c = call-refused _ _ _ _ _ _ _ _ c.in-Refused.is c.table_rights-found.ensures
+returns-in_err-view c = rw (err-passed _ c.from_residual.ensures.1) (call-refused _ _ _ _ _ _ _ _ c.in_err-view.was c.table_rights.ensures)

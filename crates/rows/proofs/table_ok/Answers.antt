@@ -1,8 +1,8 @@
 use Prim.Native.Nat.{◌≤◌}
 use native.Mathlib.Omega.{arith}
-use borrow.Author.Tests.{leb-true, not-true, not-false}
+use borrow.Author.Tests.{leb-true}
 use Rattle.fields.proofs.Both.{parts}
-use Rattle.rows.specs.Table.{width_rule, table_rule}
+use Rattle.rows.specs.Table.{table_rule}
 use Rattle.rows.proofs.table_ok.Goals as goal
 
 pub returns-then-not-width : goal.returns-then-not-width

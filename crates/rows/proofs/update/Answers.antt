@@ -1,16 +1,17 @@
+use Rattle.refusals.proofs.Passed.{err-passed}
 use Rattle.rows.specs.Updating.{update_row_of}
 use Rattle.rows.proofs.Giving.{table_at, call-refused}
 use Rattle.rows.proofs.update.Goals as goal
 
 pub update_accepted-requires : goal.update_accepted-requires
-update_accepted-requires c = (table_at _ _ _ _ _ _ c.in-At.is c.table_rights-found.ensures).1.0
+update_accepted-requires c = (table_at _ _ _ _ _ _ c.in_ok-view.was c.table_rights.ensures).1.0
 
-pub returns-in-At : goal.returns-in-At
+pub returns : goal.returns
 unfolding update_row_of
-returns-in-At c =
-    let g = table_at _ _ _ _ _ _ c.in-At.is c.table_rights-found.ensures in
+returns c =
+    let g = table_at _ _ _ _ _ _ c.in_ok-view.was c.table_rights.ensures in
     rw (g.0, ← g.1.1) c.update_accepted.ensures
 
-pub returns-in-Refused : goal.returns-in-Refused
+pub returns-in_err-view : goal.returns-in_err-view
 unfolding update_row_of
-returns-in-Refused c = call-refused _ _ _ _ _ _ _ _ c.in-Refused.is c.table_rights-found.ensures
+returns-in_err-view c = rw (err-passed _ c.from_residual.ensures.1) (call-refused _ _ _ _ _ _ _ _ c.in_err-view.was c.table_rights.ensures)

@@ -1,15 +1,16 @@
-use Rattle.image.proofs.Accepted.{accepted-counted}
 use mathlib.Core.Path.{sym, ◌∙◌}
+use Rattle.refusals.proofs.Passed.{err-passed}
+use Rattle.image.proofs.Accepted.{accepted-counted}
 use Rattle.sessions.specs.Opening.{open_of}
 use Rattle.sessions.proofs.open.Goals as goal
 
 pub open_accepted-requires : goal.open_accepted-requires
-open_accepted-requires c = accepted-counted _ (sym c.check-answer.ensures ∙ c.in-Accepted.is)
+open_accepted-requires c = accepted-counted _ (sym c.check.ensures ∙ c.in_ok-check.was)
 
-pub returns-in-Accepted : goal.returns-in-Accepted
+pub returns-in_err-check : goal.returns-in_err-check
 unfolding open_of
-returns-in-Accepted c = rw (sym c.check-answer.ensures ∙ c.in-Accepted.is) c.open_accepted.ensures
+returns-in_err-check c = rw (err-passed _ c.from_residual.ensures.1) (rw (sym c.check.ensures ∙ c.in_err-check.was))
 
-pub returns-in-Refused : goal.returns-in-Refused
+pub returns : goal.returns
 unfolding open_of
-returns-in-Refused c = rw (sym c.check-answer.ensures ∙ c.in-Refused.is)
+returns c = rw (sym c.check.ensures ∙ c.in_ok-check.was) c.open_accepted.ensures

@@ -1,3 +1,6 @@
+use Rattle.std.proofs.Common.{Ok, Err}
+use Rattle.refusals.specs.Answers.{Amount}
+use Rattle.refusals.proofs.Passed.{err-passed}
 use Prim.Native.Nat.{ℕ, ◌/◌}
 use mathlib.Core.Path.{◌≡◌, sym, ap, ap₂, ◌∙◌, subst}
 use mathlib.Core.List.{List}
@@ -9,14 +12,10 @@ use Rattle.header.specs.declared.layout.Kind.{Kind}
 use Rattle.header.specs.declared.layout.Kind.TheVariants.{Component, Label, User}
 use Rattle.header.specs.Layout.{edition_named, profile_named, record_size}
 use Rattle.records.specs.Rules.{run_records}
-use Rattle.buffers.specs.declared.answers.Filled.{Filled}
 use Rattle.buffers.specs.Filling.{written_to}
-use Rattle.writing.specs.declared.answers.LentCheck.TheVariants.{Sound}
-use Rattle.writing.specs.declared.answers.WriteAnswer.{WriteAnswer}
-use Rattle.writing.specs.declared.answers.WriteAnswer.TheVariants.{Image}
 use Rattle.writing.specs.Laid.{image_of, Fits, Limited}
 use Rattle.writing.specs.Lent.{bytes_by, lent_records, lent_counts, lent_check}
-use Rattle.writing.specs.Calls.{lent_image, image_to, write_of}
+use Rattle.writing.specs.Calls.{WriteAnswer, written_answer, lent_image, image_to, write_of}
 use Rattle.records.proofs.Parts.{run-count}
 use Rattle.writing.proofs.SoundLent.{sound-layout, sound-fits}
 use Rattle.writing.proofs.write.Goals as goal
@@ -32,7 +31,7 @@ module _ (edition profile : ℕ) (bytes : Kind → List ℕ) (m : Counts)
   counted : (kind : Kind) → length (lent_records (edition_named edition) bytes kind) ≡ length (bytes kind) / record_size (edition_named edition) kind
   counted kind = run-count (record_size (edition_named edition) kind) (bytes kind)
 
-  ready : lent_check edition profile bytes ≡ Sound → Ready m
+  ready : lent_check edition profile bytes ≡ Ok tt → Ready m
   ready sound =
       subst Ready (sym is) (sound-fits edition profile bytes sound, rw (← counted User, ← counted Label) (sound-layout edition profile bytes sound).limited)
 
@@ -41,9 +40,13 @@ module _ (edition profile : ℕ) (bytes : Kind → List ℕ) (m : Counts)
   image-is = ap (λ (n : Counts). image_of n (lent_records n.edition bytes)) is
 
 -- what is written is the answer's image
-done : (buffer image : List ℕ) (r : Filled) (after : List ℕ) → (r, after) ≡ written_to buffer image
-    → ◌≡◌ {A = WriteAnswer × List ℕ} (Image r, after) (image_to buffer image)
-done buffer image r after e = ap {B = WriteAnswer × List ℕ} (λ p. (Image p.0, p.1)) e
+done : (buffer image : List ℕ) (r : Amount) (after : List ℕ) → (r, after) ≡ written_to buffer image
+    → ◌≡◌ {A = WriteAnswer × List ℕ} (written_answer r, after) (image_to buffer image)
+done buffer image r after e = ap {B = WriteAnswer × List ℕ} (λ (p : Amount × List ℕ). (written_answer p.0, p.1)) e
+
+pub returns-in_err-lent_check : goal.returns-in_err-lent_check
+unfolding write_of
+returns-in_err-lent_check c = rw (err-passed _ c.from_residual.ensures.1, ← c.lent_check.ensures, c.in_err-lent_check.was)
 
 pub write_image-requires : goal.write_image-requires
 write_image-requires c =
@@ -51,21 +54,26 @@ write_image-requires c =
     let bytes = bytes_by a.components.now a.labels.now a.users.now in
     let is = c.lent_counts-counts.ensures
     ∙ ap₂ (λ (e : Edition) (p : Profile). lent_counts e p (run_records 40 a.components.now)) c.edition_named.ensures c.profile_named.ensures in
-    let whole = ready a.edition a.profile bytes _ is (sym c.lent_check-answer.ensures ∙ c.in-Sound.is) in
+    let whole = ready a.edition a.profile bytes _ is (sym c.lent_check.ensures ∙ c.in_ok-lent_check.was) in
     record { fits = whole.0; limited = whole.1 }
 
-pub returns-in-Sound : goal.returns-in-Sound
+pub returns-in_err-write_image : goal.returns-in_err-write_image
 unfolding write_of
-returns-in-Sound c =
+returns-in_err-write_image c =
     let a = c.args in
     let bytes = bytes_by a.components.now a.labels.now a.users.now in
     let is = c.lent_counts-counts.ensures
     ∙ ap₂ (λ (e : Edition) (p : Profile). lent_counts e p (run_records 40 a.components.now)) c.edition_named.ensures c.profile_named.ensures in
-    let told = sym c.lent_check-answer.ensures ∙ c.in-Sound.is in
-    let image = c.write_image.ensures ∙ ap (written_to a.buffer.now) (image-is a.edition a.profile bytes _ is) in
-    rw told (done a.buffer.now (lent_image a.edition a.profile bytes) _ _ image)
+    let image = c.in_err-write_image.ensures ∙ ap (written_to a.buffer.now) (image-is a.edition a.profile bytes _ is) in
+    rw (err-passed _ c.from_residual-in_err-write_image.ensures.1, sym c.lent_check.ensures ∙ c.in_ok-lent_check.was)
+    (done a.buffer.now (lent_image a.edition a.profile bytes) (Err _) _ image)
 
-pub returns-in-Fault : goal.returns-in-Fault
+pub returns : goal.returns
 unfolding write_of
-returns-in-Fault c =
-    rw (sym c.lent_check-answer.ensures ∙ c.in-Fault.is)
+returns c =
+    let a = c.args in
+    let bytes = bytes_by a.components.now a.labels.now a.users.now in
+    let is = c.lent_counts-counts.ensures
+    ∙ ap₂ (λ (e : Edition) (p : Profile). lent_counts e p (run_records 40 a.components.now)) c.edition_named.ensures c.profile_named.ensures in
+    let image = c.in_ok-write_image.ensures ∙ ap (written_to a.buffer.now) (image-is a.edition a.profile bytes _ is) in
+    rw (sym c.lent_check.ensures ∙ c.in_ok-lent_check.was) (done a.buffer.now (lent_image a.edition a.profile bytes) (Ok _) _ image)

@@ -1,7 +1,7 @@
 use Prim.Native.Nat.{ℕ}
 use mathlib.Core.Path.{ap}
 use mathlib.Core.List.{List}
-use Rattle.writing.specs.declared.answers.WriteAnswer.{WriteAnswer}
+use Rattle.writing.specs.Calls.{WriteAnswer}
 use Rattle.abi.proofs.WritePlaces.{write-fits}
 use Rattle.abi.proofs.laying.brawnesk_write.Goals as goal
 

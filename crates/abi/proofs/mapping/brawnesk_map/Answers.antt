@@ -1,18 +1,18 @@
+use Rattle.refusals.specs.Answers.{Amount}
 use Prim.Native.Nat.{ℕ}
 use mathlib.Core.Path.{sym, ap, ◌∙◌}
 use mathlib.Core.List.{List}
 use borrow.Author.Tests.{not-true, not-false}
-use Rattle.buffers.specs.declared.answers.Filled.{Filled}
 use Rattle.abi.proofs.MapPlaces.{map-fits}
 use Rattle.abi.proofs.mapping.brawnesk_map.Goals as goal
 
 pub returns-then-not-one_user : goal.returns-then-not-one_user
 returns-then-not-one_user c = rw (sym c.one_user.ensures ∙ c.if-not-one_user.true, c.after_check.ensures)
 
-pub filled_code-requires : goal.filled_code-requires
-filled_code-requires c = rw (ap (λ (p : Filled × List ℕ). p.0) c.make_map.ensures) (map-fits _ _ _)
+pub amount_code-requires : goal.amount_code-requires
+amount_code-requires c = rw (ap (λ (p : Amount × List ℕ). p.0) c.make_map.ensures) (map-fits _ _ _)
 
 pub returns : goal.returns
 returns c =
     let one = sym c.one_user.ensures ∙ c.if-not-one_user.false in
-    rw (one, ← c.session_in.ensures, ← c.make_map.ensures, c.filled_code.ensures)
+    rw (one, ← c.session_in.ensures, ← c.make_map.ensures, c.amount_code.ensures)

@@ -1,4 +1,3 @@
-use Rattle.dominance.specs.TwoLabels.{dominates_groups}
 use Rattle.header.proofs.Inside.{header-inside}
 use Rattle.image.proofs.Accepted.{accepted-counted, accepted-ends}
 use Rattle.dominance.proofs.comparing.groups_reached.Goals as goal
@@ -13,7 +12,3 @@ reach-reached-requires c =
 
 pub profile_of-requires : goal.profile_of-requires
 profile_of-requires c = header-inside _ (accepted-counted _ c.requires).fitted
-
-pub returns : goal.returns
-unfolding dominates_groups
-returns c = rw (c.passes.ensures, c.profile_of.ensures, c.reach-reached.ensures)

@@ -1,10 +1,9 @@
 use mathlib.Core.Path.{subst}
-use Rattle.refusals.specs.Answers.{PlaceFits, checked_given}
-use Rattle.refusals.specs.declared.answers.Checked.{Checked}
+use Rattle.refusals.specs.Answers.{PlaceFits, checked_given, Checked}
 use Rattle.encoding.proofs.answers.checked_code.Goals as goal
 
 pub refused-requires : goal.refused-requires
-refused-requires c = subst (λ (a : Checked). PlaceFits (checked_given a)) c.in-Refused.is c.requires
+refused-requires c = subst (λ (a : Checked). PlaceFits (checked_given a)) c.in-Err.is c.requires
 
-pub returns-in-Refused : goal.returns-in-Refused
-returns-in-Refused c = rw c.in-Refused.is c.refused.ensures
+pub returns-in-Err : goal.returns-in-Err
+returns-in-Err c = rw c.in-Err.is c.refused.ensures

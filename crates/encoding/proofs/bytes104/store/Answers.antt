@@ -1,13 +1,16 @@
-use Rattle.refusals.specs.Answers.{PlaceFits, checked_given}
-use Rattle.refusals.specs.declared.answers.Checked.{Checked}
 use mathlib.Core.Path.{subst}
+use Rattle.std.proofs.Common.{Result}
+use Rattle.refusals.specs.declared.Refusal.{Refusal}
+use Rattle.refusals.specs.Answers.{PlaceFits}
+use Rattle.sessions.specs.declared.session.Session.{Session}
+use Rattle.encoding.specs.Sessions.{changed_given}
 use Rattle.encoding.proofs.bytes104.store.Goals as goal
 
 pub refused-requires : goal.refused-requires
-refused-requires c = subst (λ (a : Checked). PlaceFits (checked_given a)) c.in-Refused.is c.requires
+refused-requires c = subst (λ (a : Result Session Refusal). PlaceFits (changed_given a)) c.in-Err.is c.requires
 
-pub returns-in-Accepted : goal.returns-in-Accepted
-returns-in-Accepted c = rw (c.in-Accepted.is, c.session_bytes.ensures.0)
+pub returns-in-Ok : goal.returns-in-Ok
+returns-in-Ok c = rw (c.in-Ok.is, c.session_bytes.ensures.0)
 
-pub returns-in-Refused : goal.returns-in-Refused
-returns-in-Refused c = rw (c.in-Refused.is, c.refused.ensures)
+pub returns-in-Err : goal.returns-in-Err
+returns-in-Err c = rw (c.in-Err.is, c.refused.ensures)

@@ -1,7 +1,7 @@
 use mathlib.Core.Path.{refl, sym, ◌∙◌}
 use native.Mathlib.Omega.{arith}
 use Rattle.header.proofs.Inside.{header-inside}
-use Rattle.image.proofs.Turns.{search-start, half-fits, search-past, search-after, search-found, search-before, search-end}
+use Rattle.image.proofs.Turns.{search-start, search-past, search-after, search-found, search-before, search-end}
 use Rattle.image.proofs.given.search_tag.Goals as goal
 
 pub shape_of-shape-requires : goal.shape_of-shape-requires
@@ -9,28 +9,6 @@ shape_of-shape-requires c = header-inside _ c.requires.fitted
 
 pub loop-left-init : goal.loop-left-init
 loop-left-init c = search-start _ _ _ c.shape_of-shape.ensures
-
-pub overflow_sub-left : goal.overflow_sub-left
-overflow_sub-left c = omega arith
-
-pub overflow_shl-middle : goal.overflow_shl-middle
-overflow_shl-middle c = omega arith
-
-pub overflow_add-middle : goal.overflow_add-middle
-overflow_add-middle c = omega (arith, half-fits c.loop-left.left c.loop-left-test.true c.loop-left.invariant.steps)
-
-pub overflow_sub-middle : goal.overflow_sub-middle
-overflow_sub-middle c = omega (arith, half-fits c.loop-left.left c.loop-left-test.true c.loop-left.invariant.steps)
-
-pub tag_at-found-requires : goal.tag_at-found-requires
-tag_at-found-requires c =
-    (c.requires, (c.shape_of-shape.ensures, omega arith))
-
-pub overflow_add-low : goal.overflow_add-low
-overflow_add-low c = omega arith
-
-pub loop-left-smaller-then-found-tag : goal.loop-left-smaller-then-found-tag
-loop-left-smaller-then-found-tag c = omega arith
 
 pub loop-left-preserved-then-found-tag : goal.loop-left-preserved-then-found-tag
 loop-left-preserved-then-found-tag c =
@@ -42,16 +20,10 @@ returns-then-found-tag-2 c =
     search-found _ _ _ _ _ _ c.loop-left.invariant c.loop-left-test.true refl c.if-middle-count.true
     (sym c.tag_at-found.ensures ∙ c.if-found-tag-2.true)
 
-pub loop-left-smaller-else-found-tag-2 : goal.loop-left-smaller-else-found-tag-2
-loop-left-smaller-else-found-tag-2 c = omega arith
-
 pub loop-left-preserved-else-found-tag-2 : goal.loop-left-preserved-else-found-tag-2
 loop-left-preserved-else-found-tag-2 c =
     search-before _ _ _ _ _ _ c.loop-left.invariant c.loop-left-test.true refl c.if-middle-count.true
     (rw (← c.tag_at-found.ensures) (omega arith))
-
-pub loop-left-smaller : goal.loop-left-smaller
-loop-left-smaller c = omega arith
 
 pub loop-left-preserved : goal.loop-left-preserved
 loop-left-preserved c =

@@ -3,6 +3,3 @@ use Rattle.image.proofs.given.search_tag.Given as goal
 
 abbrev pub invariant-loop-left : goal.invariant-loop-left
 invariant-loop-left l = Searching l.image l.tag l.count l.low l.left
-
-abbrev pub decreases-loop-left : goal.decreases-loop-left
-decreases-loop-left l = l.left

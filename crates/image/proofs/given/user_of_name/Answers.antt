@@ -1,5 +1,5 @@
 use Prim.Native.Nat.{ℕ, ◌^◌, ◌≤◌, ◌<◌, zero-le}
-use mathlib.Core.Path.{ap}
+use mathlib.Core.Path.{◌≡◌, ap}
 use mathlib.Core.List.{List}
 use native.Mathlib.Nat.{sub-zero}
 use native.Mathlib.Omega.{arith}
@@ -47,13 +47,6 @@ next_record-here-requires c =
     let shaped = c.shape_of-shape.ensures in
     (shaped.roomy, (c.loop-u.invariant.1.0, walk_inside _ c.requires _ shaped (omega arith) _ (omega (arith, c.loop-u.invariant.0))))
 
-pub overflow_add-u : goal.overflow_add-u
-overflow_add-u c = omega arith
-
-pub loop-u-smaller : goal.loop-u-smaller
-loop-u-smaller c =
-    omega (arith, c.loop-u.invariant.0)
-
 pub loop-u-preserved : goal.loop-u-preserved
 loop-u-preserved c =
     let less : c.loop-u.u < users c.args.image.now = omega (arith, c.loop-u.invariant.0) in (
@@ -66,4 +59,5 @@ loop-u-preserved c =
 
 pub returns : goal.returns
 returns c =
-    loop-end _ _ _ _ (omega (arith, c.loop-u.invariant.0)) c.loop-u.invariant.1.1
+    let done : c.loop-u.u ≡ c.shape_of-shape.result.count = omega arith in
+    rw (← done) (loop-end _ _ _ _ (omega (arith, c.loop-u.invariant.0)) c.loop-u.invariant.1.1)

@@ -17,6 +17,3 @@ abbrev pub invariant-loop-u : goal.invariant-loop-u
 invariant-loop-u l =
     (l.shape.count ≡ users l.image)
     × (Standing l.shape l.u l.here × (first_where (named l.image l.name) (users l.image - l.u) l.u ≡ user_of_name l.image l.name))
-
-abbrev pub decreases-loop-u : goal.decreases-loop-u
-decreases-loop-u l = users l.image - l.u

@@ -1,25 +1,17 @@
-use mathlib.Core.Path.{sym, ap, ◌∙◌}
-use borrow.Author.Tests.{not-true, not-false}
-use Rattle.image.specs.Faults.{is_sound}
-use Rattle.image.proofs.KindFaults.{components-first, labels-first, users-last}
+use Rattle.refusals.proofs.Passed.{err-passed}
+use Rattle.image.proofs.KindFaults.{kinds-in-turn}
 use Rattle.image.proofs.inspect.contents_fault.Goals as goal
 
-pub returns-then-not-is_sound : goal.returns-then-not-is_sound
-returns-then-not-is_sound c =
-    let fault = c.kind_fault-components.ensures in
-    fault ∙ sym (components-first _ (ap is_sound (sym fault) ∙ sym c.is_sound.ensures ∙ c.if-not-is_sound.true))
+pub returns-in_err-kind_fault : goal.returns-in_err-kind_fault
+returns-in_err-kind_fault c =
+    rw (kinds-in-turn c.args.image.now, ← c.kind_fault.ensures, c.in_err-kind_fault.was) (err-passed _ c.from_residual.ensures.1)
 
-pub returns-then-not-is_sound-2 : goal.returns-then-not-is_sound-2
-returns-then-not-is_sound-2 c =
-    let fault = c.kind_fault-labels.ensures in
-    let first = c.kind_fault-components.ensures in
-    let sound = ap is_sound (sym first) ∙ sym c.is_sound.ensures ∙ c.if-not-is_sound.false in
-    fault ∙ sym (labels-first _ sound (ap is_sound (sym fault) ∙ sym c.is_sound-2.ensures ∙ c.if-not-is_sound-2.true))
+pub returns-in_err-kind_fault-2 : goal.returns-in_err-kind_fault-2
+returns-in_err-kind_fault-2 c =
+    rw (kinds-in-turn c.args.image.now, ← c.kind_fault.ensures, c.in_ok-kind_fault.was, ← c.kind_fault-2.ensures, c.in_err-kind_fault-2.was)
+    (err-passed _ c.from_residual-in_err-kind_fault-2.ensures.1)
 
 pub returns : goal.returns
 returns c =
-    let fault = c.kind_fault-labels.ensures in
-    let first = c.kind_fault-components.ensures in
-    let sound = ap is_sound (sym first) ∙ sym c.is_sound.ensures ∙ c.if-not-is_sound.false in
-    c.kind_fault.ensures
-    ∙ sym (users-last _ sound (ap is_sound (sym fault) ∙ sym c.is_sound-2.ensures ∙ c.if-not-is_sound-2.false))
+    rw (kinds-in-turn c.args.image.now, ← c.kind_fault.ensures, c.in_ok-kind_fault.was, ← c.kind_fault-2.ensures, c.in_ok-kind_fault-2.was)
+    c.kind_fault-3.ensures

@@ -1,8 +1,8 @@
 use Prim.Native.Nat.{◌≤◌, ◌<◌}
-use mathlib.Core.Path.{◌≡◌, refl, sym, ◌∙◌, ap₂}
+use mathlib.Core.Path.{◌≡◌, sym, ◌∙◌, ap₂}
 use mathlib.Core.Bool.{◌&&◌}
 use native.Mathlib.Omega.{arith}
-use borrow.Author.Tests.{lt-ltb, le-ltb, not-true, not-false}
+use borrow.Author.Tests.{lt-ltb, le-ltb}
 use Rattle.fields.proofs.Both.{both_left, both_right}
 use Rattle.blocks.specs.Blocks.{block_count, first_bad_block}
 use Rattle.blocks.proofs.Meaning.{length-means}
@@ -16,7 +16,7 @@ use Rattle.image.proofs.inspect.first_fault.Goals as goal
 
 pub returns-then-not-length_ok : goal.returns-then-not-length_ok
 unfolding fault_of found_fault
-returns-then-not-length_ok c = tells-fault (rw (found-lowest _, sym c.length_ok.ensures ∙ c.if-not-length_ok.true)) refl
+returns-then-not-length_ok c = tells-fault (rw (found-lowest _, sym c.length_ok.ensures ∙ c.if-not-length_ok.true))
 
 pub first_bad_block-bad-requires : goal.first_bad_block-bad-requires
 first_bad_block-bad-requires c = (length-means _ (sym c.length_ok.ensures ∙ c.if-not-length_ok.false)).whole
@@ -33,7 +33,6 @@ returns-then-bad-image c =
       lt-ltb _ _ h,
       c.first_bad_block-bad.ensures,
     ))
-    refl
 
 pub header_ok-requires : goal.header_ok-requires
 header_ok-requires c =
@@ -59,7 +58,6 @@ returns-then-not-header_ok-fit_ok c =
       le-ltb _ _ h,
       both ∙ c.if-not-header_ok-fit_ok.true,
     ))
-    refl
 
 pub counted_fault-requires : goal.counted_fault-requires
 counted_fault-requires c =

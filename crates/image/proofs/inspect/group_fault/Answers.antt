@@ -1,42 +1,36 @@
 use Prim.Native.Nat.{◌≤◌, ◌<◌}
-use mathlib.Core.Path.{refl, ap}
+use mathlib.Core.Path.{refl}
 use native.Mathlib.Omega.{arith}
 use borrow.Author.Tests.{lt-ltb, le-ltb}
 use Rattle.header.specs.Layout.{groups, users}
 use Rattle.header.proofs.Inside.{header-inside}
 use Rattle.hierarchy.specs.Below.{first_ring, first_bad_below}
-use Rattle.image.specs.Faults.{is_sound}
 use Rattle.image.proofs.Tables.{tells-fault}
 use Rattle.image.proofs.inspect.group_fault.Goals as goal
 
--- src/inspect.rt:75:12
 pub groups-requires : goal.groups-requires
 groups-requires c = header-inside _ c.requires.fitted
 
--- src/inspect.rt:76:9
 pub returns-then-g-groups : goal.returns-then-g-groups
 returns-then-g-groups c =
     let im = c.args.image.now in
     let h : first_ring im < groups im = omega (arith, c.first_ring-g.ensures.ring) in
-    tells-fault (rw (lt-ltb _ _ h, c.first_ring-g.ensures.ring)) refl
+    tells-fault (rw (lt-ltb _ _ h, c.first_ring-g.ensures.ring))
 
 pub first_bad_below-u-requires : goal.first_bad_below-u-requires
 first_bad_below-u-requires c =
     (c.requires, (c.first_ring-g.ensures.filled (omega arith), refl))
 
--- src/inspect.rt:79:12
 pub users-requires : goal.users-requires
 users-requires c = header-inside _ c.requires.fitted
 
--- src/inspect.rt:80:9
 pub returns-then-u-users : goal.returns-then-u-users
 returns-then-u-users c =
     let im = c.args.image.now in
     let g : groups im ≤ first_ring im = omega (arith, c.first_ring-g.ensures.ring) in
     let h : first_bad_below im < users im = omega (arith, c.first_bad_below-u.ensures) in
-    tells-fault (rw (le-ltb _ _ g, lt-ltb _ _ h, c.below_fault.ensures, c.first_bad_below-u.ensures)) (ap is_sound c.below_fault.ensures)
+    tells-fault (rw (le-ltb _ _ g, lt-ltb _ _ h, c.below_fault.ensures, c.first_bad_below-u.ensures))
 
--- src/inspect.rt:70:1
 pub returns : goal.returns
 returns c =
     let im = c.args.image.now in

@@ -40,14 +40,14 @@ read_names-slice_bounds-find_by-start t c = omega arith
 pub read_names-slice_bounds-find_by-end : goal.read_names-slice_bounds-find_by-end
 read_names-slice_bounds-find_by-end t c = omega arith
 
-pub read_names-find_by-found-requires : goal.read_names-find_by-found-requires
-read_names-find_by-found-requires t c = let p = c.requires in (p.0, p.1.0)
+pub read_names-find_by-requires : goal.read_names-find_by-requires
+read_names-find_by-requires t c = let p = c.requires in (p.0, p.1.0)
 
 pub read_names-returns-in_default : goal.read_names-returns-in_default
 read_names-returns-in_default t c =
     record {
       words_after = list-unknown _ _ _ _ _ _ c.requires.1.1.0 c.mark_from-end.ensures.0 c.mark_from-end.ensures.1.1
-          (sym c.find_by-found.ensures ∙ c.in_default.is);
+          (sym c.find_by.ensures ∙ c.in_default.is);
       words_len = c.requires.1.1.1;
     }
 
@@ -61,14 +61,14 @@ read_names-bounds-words-place t c =
       arith,
       p.1.1.1,
       words-room _ _ _ _ _ c.args.words.now p.1.1.0 c.mark_from-end.ensures.0 c.mark_from-end.ensures.1.1 _
-          (sym c.find_by-found.ensures ∙ c.in-At.is) (accepted-counted _ p.0) p.1.1.1,
+          (sym c.find_by.ensures ∙ c.in-Some.is) (accepted-counted _ p.0) p.1.1.1,
     )
 
 pub read_names-returns-then-has : goal.read_names-returns-then-has
 read_names-returns-then-has t c =
     record {
       words_after = words-repeated _ _ _ _ _ _ c.requires.1.1.0 c.mark_from-end.ensures.0 c.mark_from-end.ensures.1.1 _
-          (sym c.find_by-found.ensures ∙ c.in-At.is) (sym c.has.ensures ∙ c.if-has.true);
+          (sym c.find_by.ensures ∙ c.in-Some.is) (sym c.has.ensures ∙ c.if-has.true);
       words_len = c.requires.1.1.1;
     }
 
@@ -85,7 +85,7 @@ read_names-bounds-words-place-2 t c =
       arith,
       p.1.1.1,
       words-room _ _ _ _ _ c.args.words.now p.1.1.0 c.mark_from-end.ensures.0 c.mark_from-end.ensures.1.1 _
-          (sym c.find_by-found.ensures ∙ c.in-At.is) (accepted-counted _ p.0) p.1.1.1,
+          (sym c.find_by.ensures ∙ c.in-Some.is) (accepted-counted _ p.0) p.1.1.1,
     )
 
 pub read_names-after_name-requires : goal.read_names-after_name-requires
@@ -98,6 +98,6 @@ read_names-returns t c =
     let p = c.requires in record {
       words_after = c.after_name.ensures.words_after
           ∙ words-next _ _ _ _ _ c.args.words.now p.1.1.0 c.mark_from-end.ensures.0 c.mark_from-end.ensures.1.1 _
-          (sym c.find_by-found.ensures ∙ c.in-At.is) (accepted-counted _ p.0) p.1.1.1 (sym c.has.ensures ∙ c.if-has.false) _ c.with.ensures;
+          (sym c.find_by.ensures ∙ c.in-Some.is) (accepted-counted _ p.0) p.1.1.1 (sym c.has.ensures ∙ c.if-has.false) _ c.with.ensures;
       words_len = c.after_name.ensures.words_len;
     }

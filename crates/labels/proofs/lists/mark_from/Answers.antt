@@ -1,6 +1,5 @@
 use mathlib.Core.Path.{refl, sym, ◌∙◌}
 use native.Mathlib.Omega.{arith}
-use borrow.Author.Tests.{not-true, not-false}
 use Rattle.fields.proofs.Scan.{bad-from}
 use Rattle.labels.specs.Lists.{lacks_at}
 use Rattle.labels.proofs.PartEnds.{ends-inside}

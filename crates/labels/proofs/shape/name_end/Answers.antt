@@ -1,6 +1,5 @@
 use mathlib.Core.Path.{refl, sym, ◌∙◌}
 use native.Mathlib.Omega.{arith}
-use borrow.Author.Tests.{not-true, not-false}
 use Rattle.fields.proofs.Everywhere.{everywhere-skip}
 use Rattle.labels.proofs.PartEnds.{ends-search}
 use Rattle.labels.proofs.shape.name_end.Goals as goal

@@ -2,7 +2,6 @@ use Prim.Native.Nat.{ℕ, ◌+◌, ◌-◌, ◌*◌, ◌<◌, min}
 use mathlib.Core.Path.{◌≡◌, subst, ◌∙◌}
 use native.Mathlib.Nat.{sub-zero}
 use native.Mathlib.Omega.{arith}
-use borrow.Author.Tests.{not-true, not-false}
 use Rattle.fields.proofs.Laws.{part_length}
 use Rattle.header.specs.declared.layout.Kind.TheVariants.{Label}
 use Rattle.header.specs.Layout.{labels, Standing}

@@ -1,8 +1,6 @@
-use Prim.Native.Nat.{ℕ, ◌^◌, ◌<◌}
+use Prim.Native.Nat.{◌^◌, ◌<◌}
 use mathlib.Core.Path.{refl, sym, ◌∙◌}
-use lib.Dec.{lit<}
-use lib.ListN.{length}
-use Rattle.buffers.proofs.Stored.{stored, stored-long, stored-room, stored-whole}
+use Rattle.buffers.proofs.Stored.{stored-long, stored-whole}
 use Rattle.maps.proofs.InWords.{eight_bytes, bytes-eight}
 use Rattle.maps.proofs.making.put_bytes.Goals as goal
 

@@ -1,7 +1,6 @@
 use Prim.Native.Nat.{◌%◌, ◌≤◌}
 use mathlib.Core.Path.{sym, ◌∙◌}
 use native.Mathlib.Omega.{arith}
-use borrow.Author.Tests.{not-true, not-false}
 use lib.Pow.{pow_mono, pow_pos}
 use Rattle.sets.specs.Sets.{all_below}
 use Rattle.maps.proofs.EveryLabel.{whole-differs, whole-full, whole-last}

@@ -13,7 +13,7 @@ use Rattle.header.specs.declared.layout.Shape.{Shape}
 use Rattle.header.specs.Layout.{record_size, record_offset, labels, Shaped, Standing}
 use Rattle.header.proofs.Inside.{slot-below, record-upto}
 use Rattle.labels.specs.Label.{record_label}
-use Rattle.access.specs.Rights.{Rights, rights_of}
+use Rattle.access.specs.Rights.{rights_of}
 use Rattle.access.specs.Verdicts.{reads_label}
 use Rattle.maps.specs.Map.{reads_record}
 use Rattle.maps.proofs.Bits.{word-upto}

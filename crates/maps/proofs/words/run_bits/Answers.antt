@@ -1,6 +1,5 @@
 use Prim.Native.Nat.{ℕ, ◌+◌, ◌≤◌}
 use mathlib.Core.Path.{refl, sym, ap, ◌∙◌}
-use mathlib.Core.Bool.{Bool}
 use mathlib.Core.List.{List}
 use native.Mathlib.Nat.{mul-zero, mul-suc}
 use native.Mathlib.Numerals.{add-one}
@@ -8,14 +7,12 @@ use native.Mathlib.Omega.{arith}
 use lib.ListN.{length}
 use Rattle.sets.specs.Sets.{one, union, collect}
 use Rattle.sets.proofs.Has.{collect-put, collect-pass}
-use Rattle.header.specs.declared.edition.Edition.{Edition}
 use Rattle.header.specs.declared.layout.Kind.TheVariants.{Label}
 use Rattle.header.proofs.Editions.{size-least}
-use Rattle.records.specs.Rules.{run_record}
 use Rattle.records.proofs.Rooms.{label-room}
 use Rattle.records.proofs.Running.{Turn, among, room, part-is, part-long}
 use Rattle.labels.specs.Label.{record_label}
-use Rattle.access.specs.Rights.{Rights, rights_of}
+use Rattle.access.specs.Rights.{rights_of}
 use Rattle.access.specs.Verdicts.{reads_label}
 use Rattle.maps.proofs.Runs.{run-ended}
 use Rattle.maps.proofs.words.run_bits.Invariants.{told}

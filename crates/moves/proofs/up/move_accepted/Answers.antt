@@ -1,3 +1,5 @@
+use Rattle.std.proofs.Common.{Err}
+use Rattle.refusals.specs.Answers.{Amount}
 use Prim.Native.Nat.{ℕ}
 use mathlib.Core.Path.{◌≡◌, sym, ap, ◌∙◌}
 use mathlib.Core.Bool.{true, false}
@@ -6,8 +8,6 @@ use borrow.Author.Tests.{eq-eqb, ne_eqb}
 use lib.ListN.{length}
 use Rattle.refusals.specs.declared.Refusal.TheVariants.{CompaccessHolders, MoveLimits}
 use Rattle.header.proofs.Inside.{header-inside}
-use Rattle.buffers.specs.declared.answers.Filled.{Filled}
-use Rattle.buffers.specs.declared.answers.Filled.TheVariants as filled
 use Rattle.moves.specs.declared.target.Move.TheVariants.{Up}
 use Rattle.moves.specs.Moved.{new_image}
 use Rattle.moves.specs.Holders.{holders}
@@ -17,13 +17,13 @@ use Rattle.moves.proofs.up.move_accepted.Goals as goal
 
 -- ---- the answer
 module _ (im b : List ℕ) where
-  answer-limits : move_limits_rule im ≡ false → (filled.Refused MoveLimits, b) ≡ move_accepted im b
+  answer-limits : move_limits_rule im ≡ false → (Err MoveLimits, b) ≡ move_accepted im b
   answer-limits e = rw e
 
-  answer-held : (n : ℕ) → n ≡ length (holders im) → move_limits_rule im ≡ true → (n ≡ 0 → ⊥) → (filled.Refused (CompaccessHolders n), b) ≡ move_accepted im b
-  answer-held n is e some = rw (e, ne_eqb (length (holders im)) 0 (λ q. some (is ∙ q))) (ap (λ (k : ℕ). (filled.Refused (CompaccessHolders k), b)) is)
+  answer-held : (n : ℕ) → n ≡ length (holders im) → move_limits_rule im ≡ true → (n ≡ 0 → ⊥) → (Err (CompaccessHolders n), b) ≡ move_accepted im b
+  answer-held n is e some = rw (e, ne_eqb (length (holders im)) 0 (λ q. some (is ∙ q))) (ap (λ (k : ℕ). (Err (CompaccessHolders k), b)) is)
 
-  answer-written : (n : ℕ) → n ≡ length (holders im) → move_limits_rule im ≡ true → n ≡ 0 → {answer : Filled × List ℕ}
+  answer-written : (n : ℕ) → n ≡ length (holders im) → move_limits_rule im ≡ true → n ≡ 0 → {answer : Amount × List ℕ}
       → answer ≡ written_to b (new_image Up im) → answer ≡ move_accepted im b
   answer-written n is e none q = rw (e, eq-eqb (length (holders im)) 0 (sym is ∙ none)) q
 

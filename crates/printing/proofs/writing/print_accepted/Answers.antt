@@ -1,5 +1,4 @@
 use mathlib.Core.Path.{sym, ◌∙◌}
-use borrow.Author.Tests.{not-true, not-false}
 use Rattle.image.proofs.Accepted.{accepted-counted}
 use Rattle.printing.proofs.Answered.{answer-lacks, answer-room, answer-done}
 use Rattle.printing.proofs.writing.print_accepted.Goals as goal
@@ -18,12 +17,15 @@ returns-then-buffer-text_length c =
     answer-room _ _ _ (sym c.label_exists.ensures ∙ c.if-not-label_exists.false)
     (rw (← c.text_length.ensures) c.if-buffer-text_length.true)
 
-pub write_text-length-requires : goal.write_text-length-requires
-write_text-length-requires c =
-    record { accepted = (c.requires, sym c.label_exists.ensures ∙ c.if-not-label_exists.false); label_in_bounds = rw (← c.text_length.ensures) c.if-buffer-text_length.false }
+pub write_text-requires : goal.write_text-requires
+write_text-requires c =
+    record {
+      accepted = (c.requires, sym c.label_exists.ensures ∙ c.if-not-label_exists.false);
+      label_in_bounds = rw (← c.text_length.ensures) c.if-buffer-text_length.false;
+    }
 
 pub returns : goal.returns
 returns c =
     answer-done _ _ _ (sym c.label_exists.ensures ∙ c.if-not-label_exists.false)
     (rw (← c.text_length.ensures) c.if-buffer-text_length.false)
-    c.write_text-length.ensures
+    c.write_text.ensures

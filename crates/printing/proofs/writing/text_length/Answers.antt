@@ -1,4 +1,5 @@
-use mathlib.Core.Path.{sym, ◌∙◌}
+use mathlib.Core.Path.{sym, ap, ◌∙◌}
+use lib.ListN.{length}
 use Rattle.printing.proofs.Whole.{has-level, told, length-level, length-first, length_both}
 use Rattle.printing.proofs.writing.text_length.Goals as goal
 
@@ -17,11 +18,11 @@ returns-then-is_empty-2 c =
     length-first _ _ c.name_of-level.ensures.0
     (told c.is_empty.ensures c.is_empty-2.ensures c.if-is_empty.false)
     (sym c.is_empty-3.ensures ∙ c.if-is_empty-2.true)
-    c.compartments_length.ensures.0
+    (c.length.ensures.0 ∙ ap length c.compartments.ensures)
 
 pub returns : goal.returns
 returns c =
     length_both _ _ c.name_of-level.ensures.0
     (sym c.is_empty-3.ensures ∙ c.if-is_empty-2.false)
-    c.compartments_length.ensures.0
-    c.groups_length.ensures.0
+    (c.length.ensures.0 ∙ ap length c.compartments.ensures)
+    (c.length-2.ensures.0 ∙ ap length c.groups.ensures)

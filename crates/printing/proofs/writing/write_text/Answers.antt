@@ -1,6 +1,4 @@
-use mathlib.Core.Path.{◌≡◌, sym, ◌∙◌}
-use mathlib.Core.Bool.{false, ◌&&◌}
-use Rattle.sets.specs.Sets.{empty}
+use mathlib.Core.Path.{sym, ◌∙◌}
 use Rattle.labels.specs.Label.{marks_of}
 use Rattle.printing.proofs.Whole.{has-level, told, room-level, room-first, room-second, written-level, written-first, written_both}
 use Rattle.printing.proofs.writing.write_text.Goals as goal
@@ -19,28 +17,28 @@ returns-then-is_empty c =
     written-level _ _ _ _ c.name_of-name.ensures.0 c.requires.label_in_bounds
     (told c.is_empty.ensures c.is_empty-2.ensures c.if-is_empty.true) c.put-level.ensures
 
-pub write_compartments-first-requires : goal.write_compartments-first-requires
-write_compartments-first-requires c =
-    let some-list : (empty (marks_of c.args.label).groups && empty (marks_of c.args.label).compartments) ≡ false = told c.is_empty.ensures c.is_empty-2.ensures c.if-is_empty.false in
-    record { accepted = c.requires.accepted.0; set_in_bounds = room-first _ _ _ _ c.name_of-name.ensures.0 c.requires.label_in_bounds some-list c.put-level.ensures }
+pub write-first-requires : goal.write-first-requires
+write-first-requires c =
+    rw c.compartments.ensures
+    (room-first _ _ _ _ c.name_of-name.ensures.0 c.requires.label_in_bounds
+    (told c.is_empty.ensures c.is_empty-2.ensures c.if-is_empty.false) c.put-level.ensures)
 
 pub returns-then-is_empty-2 : goal.returns-then-is_empty-2
 returns-then-is_empty-2 c =
-    let some-list : (empty (marks_of c.args.label).groups && empty (marks_of c.args.label).compartments) ≡ false = told c.is_empty.ensures c.is_empty-2.ensures c.if-is_empty.false in
-    written-first _ _ _ _ c.name_of-name.ensures.0 c.requires.label_in_bounds some-list c.put-level.ensures
-    c.write_compartments-first.ensures (sym c.is_empty-3.ensures ∙ c.if-is_empty-2.true)
+    written-first _ _ _ _ c.name_of-name.ensures.0 c.requires.label_in_bounds
+    (told c.is_empty.ensures c.is_empty-2.ensures c.if-is_empty.false) c.put-level.ensures
+    (rw c.compartments.ensures at c.write-first.ensures) (sym c.is_empty-3.ensures ∙ c.if-is_empty-2.true)
 
-pub write_groups-requires : goal.write_groups-requires
-write_groups-requires c =
-    let some-list : (empty (marks_of c.args.label).groups && empty (marks_of c.args.label).compartments) ≡ false = told c.is_empty.ensures c.is_empty-2.ensures c.if-is_empty.false in
-    record {
-      accepted = c.requires.accepted.0;
-      set_in_bounds = room-second _ _ _ _ c.name_of-name.ensures.0 c.requires.label_in_bounds some-list c.put-level.ensures
-          c.write_compartments-first.ensures (sym c.is_empty-3.ensures ∙ c.if-is_empty-2.false);
-    }
+pub write-requires : goal.write-requires
+write-requires c =
+    rw c.groups.ensures
+    (room-second _ _ _ _ c.name_of-name.ensures.0 c.requires.label_in_bounds
+    (told c.is_empty.ensures c.is_empty-2.ensures c.if-is_empty.false) c.put-level.ensures
+    (rw c.compartments.ensures at c.write-first.ensures) (sym c.is_empty-3.ensures ∙ c.if-is_empty-2.false))
 
 pub returns : goal.returns
 returns c =
-    let some-list : (empty (marks_of c.args.label).groups && empty (marks_of c.args.label).compartments) ≡ false = told c.is_empty.ensures c.is_empty-2.ensures c.if-is_empty.false in
-    written_both _ _ _ _ c.name_of-name.ensures.0 c.requires.label_in_bounds some-list c.put-level.ensures
-    c.write_compartments-first.ensures (sym c.is_empty-3.ensures ∙ c.if-is_empty-2.false) c.write_groups.ensures
+    written_both _ _ _ _ c.name_of-name.ensures.0 c.requires.label_in_bounds
+    (told c.is_empty.ensures c.is_empty-2.ensures c.if-is_empty.false) c.put-level.ensures
+    (rw c.compartments.ensures at c.write-first.ensures) (sym c.is_empty-3.ensures ∙ c.if-is_empty-2.false)
+    (rw c.groups.ensures at c.write.ensures)

@@ -1,5 +1,4 @@
-use Rattle.std.proofs.Common.{◌≡◌, ℕ, ◌+◌, ◌-◌, ◌*◌, ◌/◌, ◌%◌, ◌<◌, ◌≤◌, List, length, take, drop, sym, ap, ◌∙◌, subst, add-zero, arith}
-use native.Mathlib.Nat.{sub-zero}
+use Rattle.std.proofs.Common.{◌≡◌, ℕ, ◌+◌, ◌-◌, ◌*◌, ◌/◌, ◌<◌, ◌≤◌, List, length, take, drop, ap, ◌∙◌, subst, arith}
 use Rattle.fields.specs.Bytes.{AreBytes}
 use Rattle.fields.specs.Scan.{first_bad}
 use Rattle.fields.proofs.Scan.{loop-end, part-bad, part-good, bad-upto}
@@ -9,7 +8,7 @@ use Rattle.header.specs.Layout.{class_at}
 use Rattle.records.specs.declared.component_run.Asked.{Asked}
 use Rattle.records.specs.ComponentRuns.{asked_of, lowest_form, run_asked, ClassUpto}
 use Rattle.records.specs.Rules.{class_start, run_before, run_rule}
-use Rattle.records.proofs.ComponentRuns.{run-whole, upto-taken}
+use Rattle.records.proofs.ComponentRuns.{upto-taken}
 use Rattle.records.proofs.ComponentTests.{low_first, class-bad}
 use Rattle.records.proofs.component_run.first_bad_component.Goals as goal
 
@@ -24,37 +23,6 @@ module _ (n : Counts) (k : ℕ) (previous run : List ℕ) (j left r low : ℕ) (
       let inside : 40 * (j + r) ≤ length run = omega (arith, class.upto) in
       rw (is, upto-taken run j (j + r))
       (class-bad n k previous run j (j + r) low upto inside (λ i a b. class.same i a (omega arith)) first bytes)
-
-pub loop-j-init : goal.loop-j-init
-loop-j-init c =
-    let a = c.args in (
-      omega arith,
-      (
-        (λ h. c.lowest_form-low.ensures ∙ ap (λ (i : ℕ). lowest_form a.counts i a.previous.now) (sym (add-zero a.k))),
-        rw sub-zero,
-      ),
-    )
-
-pub overflow_add-i : goal.overflow_add-i
-overflow_add-i c =
-    omega (arith, c.requires.1.1, c.loop-j-test.true)
-
-pub overflow_add-to : goal.overflow_add-to
-overflow_add-to c = omega (arith, c.class_left.ensures.upto, c.loop-j-test.true)
-
-pub overflow_mul-to : goal.overflow_mul-to
-overflow_mul-to c = omega (arith, c.class_left.ensures.upto, c.loop-j-test.true)
-
-pub slice_bounds-first_bad_in_class-end : goal.slice_bounds-first_bad_in_class-end
-slice_bounds-first_bad_in_class-end c = omega (arith, c.class_left.ensures.upto, c.loop-j-test.true)
-
-pub first_bad_in_class-requires : goal.first_bad_in_class-requires
-first_bad_in_class-requires c =
-    let l = c.loop-j in
-    let a = c.args in
-    let to : ℕ = l.j + c.class_left.result in
-    let upto : 40 * l.j + 40 * (to - l.j) ≤ length a.run.now = omega (arith, c.class_left.ensures.upto, c.loop-j-test.true) in
-    ap (λ (s : List ℕ). length s % 40) (upto-taken a.run.now l.j to) ∙ run-whole _ _ _ upto
 
 pub overflow_add-bad : goal.overflow_add-bad
 overflow_add-bad c =
@@ -83,10 +51,6 @@ returns-then-bad-to c =
     let low : l.j ≤ to = omega arith in
     let high : to ≤ length a.run.now / 40 = omega (arith, c.class_left.ensures.upto, c.loop-j-test.true) in
     part-bad _ _ _ _ _ _ low high l.invariant.1.1 found c.if-bad-to.true
-
-pub loop-j-smaller : goal.loop-j-smaller
-loop-j-smaller c =
-    omega (arith, c.class_left.ensures.more, c.loop-j-test.true)
 
 pub loop-j-preserved : goal.loop-j-preserved
 loop-j-preserved c =

@@ -3,7 +3,7 @@ use Rattle.fields.specs.Names.{in_letters}
 use Rattle.fields.specs.Scan.{first_bad}
 use Rattle.fields.proofs.Scan.{bad-upto}
 use Rattle.records.specs.Rules.{other_name, others_named}
-use Rattle.records.proofs.ComponentRuns.{block_inside, block-whole, block-found}
+use Rattle.records.proofs.ComponentRuns.{block_inside, block-found}
 use Rattle.records.proofs.components.first_in_block.Goals as goal
 
 pub overflow_add-end : goal.overflow_add-end
@@ -15,11 +15,6 @@ pub slice_bounds-first_in_run-end : goal.slice_bounds-first_in_run-end
 slice_bounds-first_in_run-end c =
     let p = c.requires in
     omega (arith, block_inside _ _ _ _ p.0 p.1.0 p.1.1.0 p.1.1.1)
-
-pub first_in_run-requires : goal.first_in_run-requires
-first_in_run-requires c =
-    let p = c.requires in
-    block-whole _ _ _ _ p.0 p.1.0 p.1.1.0 p.1.1.1
 
 pub overflow_add-result : goal.overflow_add-result
 overflow_add-result c =

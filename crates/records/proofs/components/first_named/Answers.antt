@@ -1,8 +1,8 @@
-use Rattle.std.proofs.Common.{◌≡◌, ℕ, ◌+◌, ◌<◌, ◌≤◌, sym, refl, ap, subst, arith}
+use Rattle.std.proofs.Common.{◌≡◌, ℕ, ◌+◌, ◌<◌, ◌≤◌, sym, subst, arith}
 use Rattle.fields.proofs.Scan.{loop-end, part-bad, part-good}
 use Rattle.header.specs.declared.layout.Kind.TheVariants.{Component}
 use Rattle.header.specs.declared.layout.Shape.{Shape}
-use Rattle.header.specs.Layout.{count_of, shape_of, Standing}
+use Rattle.header.specs.Layout.{shape_of, Standing}
 use Rattle.header.proofs.Inside.{header-inside, record-upto}
 use Rattle.records.proofs.components.first_named.Goals as goal
 
@@ -14,29 +14,11 @@ record_at-here-requires c =
     let s = c.shape_of-shape.ensures in
     (s.roomy, rw s.is (omega (arith, record-upto _ c.requires.0 Component c.args.start (omega arith))))
 
-pub loop-from-init : goal.loop-from-init
-loop-from-init c =
-    let s = c.shape_of-shape.ensures in
-    (omega arith, ((λ h. subst (λ (x : Shape). Standing x c.args.start c.record_at-here.result) s.is c.record_at-here.ensures), refl))
-
-pub overflow_add-from : goal.overflow_add-from
-overflow_add-from c =
-    let l = c.loop-from in
-    let stand = l.invariant.1.0 c.loop-from-test.true in
-    let s = c.shape_of-shape.ensures in
-    let n : c.shape_of-shape.result.count ≡ count_of c.args.image.now Component = ap (λ (x : Shape). x.count) s.is in
-    omega (arith, stand.more, s.few)
-
-pub first_in_block-j-requires : goal.first_in_block-j-requires
-first_in_block-j-requires c =
-    let stand = c.loop-from.invariant.1.0 c.loop-from-test.true in
-    (c.requires.0, (omega arith, (omega arith, record { begins = stand.begins; upto = omega (arith, stand.more) })))
-
 pub returns-then-j-to : goal.returns-then-j-to
 returns-then-j-to c =
     let a = c.args in
     let l = c.loop-from in
-    let to = c.lower-to.result in
+    let to = c.min-to.result in
     let low : l.from ≤ to = omega arith in
     let high : to ≤ a.end = omega arith in
     part-bad _ _ _ _ _ _ low high l.invariant.1.1 c.first_in_block-j.ensures c.if-j-to.true
@@ -53,17 +35,12 @@ next_block-here-requires c =
       ),
     )
 
-pub loop-from-smaller : goal.loop-from-smaller
-loop-from-smaller c =
-    let stand = c.loop-from.invariant.1.0 c.loop-from-test.true in
-    omega (arith, stand.more)
-
 pub loop-from-preserved : goal.loop-from-preserved
 loop-from-preserved c =
     let l = c.loop-from in
     let a = c.args in
     let im = a.image.now in
-    let to = c.lower-to.result in
+    let to = c.min-to.result in
     let low : l.from ≤ to = omega arith in
     let high : to ≤ a.end = omega arith in
     let here = c.next_block-here.result in

@@ -22,13 +22,7 @@ other_length rec name l t =
     let g : length (part field 1 (byte_at field 0)) ≡ min (byte_at field 0) (length field - 1) = simp (length-take, length-drop) in
     same_length _ _ (λ e. d (omega (arith, e, g, b, f)))
 
-pub overflow_cast-n : goal.overflow_cast-n
-overflow_cast-n c = omega (arith, c.type_inv.rec 1)
-
 pub returns-then-n-name : goal.returns-then-n-name
 returns-then-n-name c =
     let name = in_letters c.args.letters c.args.name.now in
     other_length c.args.rec.now name c.requires (rw (in-letters-length c.args.letters c.args.name.now) c.if-n-name.true)
-
-pub returns : goal.returns
-returns c = rw (c.same_in.ensures, c.name_in.ensures)

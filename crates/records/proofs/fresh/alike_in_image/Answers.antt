@@ -1,12 +1,12 @@
-use Rattle.std.proofs.Common.{◌≡◌, ℕ, ◌+◌, ◌-◌, ◌<◌, ◌≤◌, not, sym, refl, ap, ◌∙◌, subst, arith}
+use Rattle.std.proofs.Common.{◌≡◌, ℕ, ◌+◌, ◌-◌, ◌<◌, ◌≤◌, not, ap, ◌∙◌, subst, arith}
 use Rattle.fields.specs.Scan.{first_bad}
 use Rattle.fields.proofs.Scan.{loop-end, part-bad, part-good, bad-upto}
 use Rattle.header.specs.declared.layout.Kind.TheVariants.{Component}
 use Rattle.header.specs.declared.layout.Shape.{Shape}
-use Rattle.header.specs.Layout.{count_of, shape_of, record_at, Standing, OneBlock}
+use Rattle.header.specs.Layout.{shape_of, record_at, Standing, OneBlock}
 use Rattle.header.proofs.Inside.{header-inside, record-upto}
 use Rattle.records.specs.Fresh.{alike}
-use Rattle.records.proofs.ComponentRuns.{block_inside, block-whole, block-found}
+use Rattle.records.proofs.ComponentRuns.{block_inside, block-found}
 use Rattle.records.proofs.fresh.alike_in_image.Goals as goal
 
 pub shape_of-shape-requires : goal.shape_of-shape-requires
@@ -17,32 +17,11 @@ record_at-here-requires c =
     let s = c.shape_of-shape.ensures in
     (s.roomy, rw s.is (omega (arith, record-upto _ c.requires.0 Component c.args.start (omega arith))))
 
-pub loop-from-init : goal.loop-from-init
-loop-from-init c =
-    let s = c.shape_of-shape.ensures in
-    (omega arith, ((λ h. subst (λ (x : Shape). Standing x c.args.start c.record_at-here.result) s.is c.record_at-here.ensures), refl))
-
-pub overflow_add-from : goal.overflow_add-from
-overflow_add-from c =
-    let l = c.loop-from in
-    let stand = l.invariant.1.0 c.loop-from-test.true in
-    let s = c.shape_of-shape.ensures in
-    let n : c.shape_of-shape.result.count ≡ count_of c.args.image.now Component = ap (λ (x : Shape). x.count) s.is in
-    omega (arith, stand.more, s.few)
-
-pub overflow_mul-last : goal.overflow_mul-last
-overflow_mul-last c =
-    let l = c.loop-from in
-    let stand = l.invariant.1.0 c.loop-from-test.true in
-    let block : OneBlock c.args.image.now Component l.here.at l.from c.lower-to.result =
-    record { begins = stand.begins; upto = omega (arith, stand.more) } in
-    omega (arith, block_inside _ _ _ _ c.requires.0 (omega arith) (omega (arith, stand.more)) block)
-
 pub overflow_add-last : goal.overflow_add-last
 overflow_add-last c =
     let l = c.loop-from in
     let stand = l.invariant.1.0 c.loop-from-test.true in
-    let block : OneBlock c.args.image.now Component l.here.at l.from c.lower-to.result =
+    let block : OneBlock c.args.image.now Component l.here.at l.from c.min-to.result =
     record { begins = stand.begins; upto = omega (arith, stand.more) } in
     omega (arith, block_inside _ _ _ _ c.requires.0 (omega arith) (omega (arith, stand.more)) block)
 
@@ -50,75 +29,50 @@ pub slice_bounds-first_alike-end : goal.slice_bounds-first_alike-end
 slice_bounds-first_alike-end c =
     let l = c.loop-from in
     let stand = l.invariant.1.0 c.loop-from-test.true in
-    let block : OneBlock c.args.image.now Component l.here.at l.from c.lower-to.result =
+    let block : OneBlock c.args.image.now Component l.here.at l.from c.min-to.result =
     record { begins = stand.begins; upto = omega (arith, stand.more) } in
     omega (arith, block_inside _ _ _ _ c.requires.0 (omega arith) (omega (arith, stand.more)) block)
-
-pub first_alike-requires : goal.first_alike-requires
-first_alike-requires c =
-    let l = c.loop-from in
-    let stand = l.invariant.1.0 c.loop-from-test.true in
-    let block : OneBlock c.args.image.now Component l.here.at l.from c.lower-to.result =
-    record { begins = stand.begins; upto = omega (arith, stand.more) } in
-    block-whole _ _ _ _ c.requires.0 (omega arith) (omega (arith, stand.more)) block
 
 pub overflow_add-j : goal.overflow_add-j
 overflow_add-j c =
     let l = c.loop-from in
     let stand = l.invariant.1.0 c.loop-from-test.true in
-    let block : OneBlock c.args.image.now Component l.here.at l.from c.lower-to.result =
+    let block : OneBlock c.args.image.now Component l.here.at l.from c.min-to.result =
     record { begins = stand.begins; upto = omega (arith, stand.more) } in
     let a = c.args in
     let alike_rule = λ (j : ℕ). not (alike a.field (record_at a.image.now Component j)) in
-    let found : l.from + c.first_alike.result ≡ first_bad alike_rule (c.lower-to.result - l.from) l.from =
+    let found : l.from + c.first_alike.result ≡ first_bad alike_rule (c.min-to.result - l.from) l.from =
     ap (λ (k : ℕ). l.from + k) c.first_alike.ensures
     ∙ block-found _ _ _ _ c.requires.0 (omega arith) (omega (arith, stand.more)) block (λ rec. not (alike a.field rec)) in
-    omega (arith, found, bad-upto alike_rule (c.lower-to.result - l.from) l.from)
+    omega (arith, found, bad-upto alike_rule (c.min-to.result - l.from) l.from)
 
 pub returns-then-j-to : goal.returns-then-j-to
 returns-then-j-to c =
     let l = c.loop-from in
     let stand = l.invariant.1.0 c.loop-from-test.true in
-    let block : OneBlock c.args.image.now Component l.here.at l.from c.lower-to.result =
+    let block : OneBlock c.args.image.now Component l.here.at l.from c.min-to.result =
     record { begins = stand.begins; upto = omega (arith, stand.more) } in
     let a = c.args in
     let alike_rule = λ (j : ℕ). not (alike a.field (record_at a.image.now Component j)) in
-    let found : l.from + c.first_alike.result ≡ first_bad alike_rule (c.lower-to.result - l.from) l.from =
+    let found : l.from + c.first_alike.result ≡ first_bad alike_rule (c.min-to.result - l.from) l.from =
     ap (λ (k : ℕ). l.from + k) c.first_alike.ensures
     ∙ block-found _ _ _ _ c.requires.0 (omega arith) (omega (arith, stand.more)) block (λ rec. not (alike a.field rec)) in
-    let low : l.from ≤ c.lower-to.result = omega arith in
-    let high : c.lower-to.result ≤ a.end = omega arith in
+    let low : l.from ≤ c.min-to.result = omega arith in
+    let high : c.min-to.result ≤ a.end = omega arith in
     part-bad _ _ _ _ _ _ low high l.invariant.1.1 found c.if-j-to.true
-
-pub next_block-here-requires : goal.next_block-here-requires
-next_block-here-requires c =
-    let l = c.loop-from in
-    let s = c.shape_of-shape.ensures in
-    let stand = l.invariant.1.0 c.loop-from-test.true in (
-      s.roomy,
-      (
-        subst (λ (x : Shape). Standing x l.from l.here) (sym s.is) stand,
-        rw s.is (omega (arith, record-upto _ c.requires.0 Component l.from (omega arith))),
-      ),
-    )
-
-pub loop-from-smaller : goal.loop-from-smaller
-loop-from-smaller c =
-    let stand = c.loop-from.invariant.1.0 c.loop-from-test.true in
-    omega (arith, stand.more)
 
 pub loop-from-preserved : goal.loop-from-preserved
 loop-from-preserved c =
     let l = c.loop-from in
     let stand = l.invariant.1.0 c.loop-from-test.true in
-    let block : OneBlock c.args.image.now Component l.here.at l.from c.lower-to.result =
+    let block : OneBlock c.args.image.now Component l.here.at l.from c.min-to.result =
     record { begins = stand.begins; upto = omega (arith, stand.more) } in
     let a = c.args in
     let alike_rule = λ (j : ℕ). not (alike a.field (record_at a.image.now Component j)) in
-    let found : l.from + c.first_alike.result ≡ first_bad alike_rule (c.lower-to.result - l.from) l.from =
+    let found : l.from + c.first_alike.result ≡ first_bad alike_rule (c.min-to.result - l.from) l.from =
     ap (λ (k : ℕ). l.from + k) c.first_alike.ensures
     ∙ block-found _ _ _ _ c.requires.0 (omega arith) (omega (arith, stand.more)) block (λ rec. not (alike a.field rec)) in
-    let to = c.lower-to.result in
+    let to = c.min-to.result in
     let low : l.from ≤ to = omega arith in
     let high : to ≤ a.end = omega arith in
     let here = c.next_block-here.result in

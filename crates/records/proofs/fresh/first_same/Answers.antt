@@ -9,7 +9,7 @@ use Rattle.records.specs.declared.fresh.Field.{Field}
 use Rattle.records.specs.Fields.{component_name_field, component_name}
 use Rattle.records.specs.Fresh.{field_of, alike, NamesKept}
 use Rattle.records.specs.Rules.{record_in, run_record, run_records, other_name}
-use Rattle.records.proofs.ComponentRuns.{run-whole, run_inside, upto-taken, part-bad}
+use Rattle.records.proofs.ComponentRuns.{run_inside, upto-taken, part-bad}
 use Rattle.records.proofs.NameWords.{search-same}
 use Rattle.records.proofs.Parts.{listed}
 use Rattle.records.proofs.fresh.first_same.Goals as goal
@@ -60,14 +60,6 @@ slice_bounds-first_alike-end c =
     let is = c.in-Run.is in
     let inside = run_inside c.args.records.now c.args.start c.args.end p.1.1 (rw is at p.0) (rw is at p.1.0) in
     omega (arith, inside)
-
-pub first_alike-requires : goal.first_alike-requires
-first_alike-requires c =
-    let p = c.requires.whole in
-    let is = c.in-Run.is in
-    let inside = run_inside c.args.records.now c.args.start c.args.end p.1.1 (rw is at p.0) (rw is at p.1.0) in
-    let a = c.args in
-    ap (λ (s : List ℕ). length s % 40) (upto-taken a.records.now a.start a.end) ∙ run-whole _ _ _ inside
 
 pub overflow_add-result : goal.overflow_add-result
 overflow_add-result c =

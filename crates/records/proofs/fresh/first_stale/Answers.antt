@@ -1,48 +1,11 @@
-use Rattle.std.proofs.Common.{◌≡◌, ℕ, ◌+◌, ◌-◌, ◌<◌, ◌≤◌, refl, ◌∙◌, arith}
+use Rattle.std.proofs.Common.{◌≡◌, ℕ, ◌+◌, ◌-◌, ◌<◌, ◌≤◌, ◌∙◌, arith}
 use Rattle.fields.specs.Scan.{first_bad}
 use Rattle.fields.proofs.Scan.{loop-end, part-bad, part-good, bad-upto}
 use Rattle.header.specs.declared.layout.Kind.TheVariants.{Component}
 use Rattle.records.specs.Rules.{fresh_rule}
 use Rattle.records.specs.Fresh.{components_in}
-use Rattle.records.proofs.Marks.{class-marked, class-fresh, part_room, part-holds}
+use Rattle.records.proofs.Marks.{class-marked, class-fresh, part-holds}
 use Rattle.records.proofs.fresh.first_stale.Goals as goal
-
-pub loop-i-init : goal.loop-i-init
-loop-i-init c =
-    record { low = omega arith; upto = c.requires.whole.1.0; marks = c.requires.names_kept.1; left = refl }
-
-pub overflow_add-end : goal.overflow_add-end
-overflow_add-end c = omega (arith, c.class_left.ensures.upto, c.loop-i-test.true)
-
-pub overflow_sub-part : goal.overflow_sub-part
-overflow_sub-part c = omega (arith, c.loop-i.invariant.low)
-
-pub overflow_mul-part : goal.overflow_mul-part
-overflow_mul-part c =
-    let l = c.loop-i in
-    let class = c.class_left.ensures in
-    let end : ℕ = l.i + c.class_left.result in
-    let upto : end ≤ c.args.to = omega (arith, class.upto, c.loop-i-test.true) in
-    omega (arith, part_room c.requires.holds_from l.i end l.invariant.low (omega (arith, class.more)) upto)
-
-pub overflow_sub-part-in-loop-i : goal.overflow_sub-part-in-loop-i
-overflow_sub-part-in-loop-i c = omega (arith, c.loop-i.invariant.low)
-
-pub overflow_mul-part-in-loop-i : goal.overflow_mul-part-in-loop-i
-overflow_mul-part-in-loop-i c =
-    let l = c.loop-i in
-    let class = c.class_left.ensures in
-    let end : ℕ = l.i + c.class_left.result in
-    let upto : end ≤ c.args.to = omega (arith, class.upto, c.loop-i-test.true) in
-    omega (arith, part_room c.requires.holds_from l.i end l.invariant.low (omega (arith, class.more)) upto)
-
-pub slice_bounds-part-end : goal.slice_bounds-part-end
-slice_bounds-part-end c =
-    let l = c.loop-i in
-    let class = c.class_left.ensures in
-    let end : ℕ = l.i + c.class_left.result in
-    let upto : end ≤ c.args.to = omega (arith, class.upto, c.loop-i-test.true) in
-    part_room c.requires.holds_from l.i end l.invariant.low (omega (arith, class.more)) upto
 
 pub stale_in_class-bad-requires : goal.stale_in_class-bad-requires
 stale_in_class-bad-requires c =
@@ -73,9 +36,6 @@ returns-then-bad-end c =
       value = part-bad _ _ _ _ _ _ (omega arith) upto l.invariant.left found c.if-bad-end.true;
       marked = λ w. absurd (omega (arith, c.if-bad-end.true, upto, w));
     }
-
-pub loop-i-smaller : goal.loop-i-smaller
-loop-i-smaller c = omega (arith, c.class_left.ensures.more, c.loop-i-test.true)
 
 pub loop-i-preserved : goal.loop-i-preserved
 loop-i-preserved c =

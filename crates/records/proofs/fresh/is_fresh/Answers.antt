@@ -1,4 +1,4 @@
-use Rattle.std.proofs.Common.{ℕ, ◌-◌, List, sym, ap, ◌∙◌, arith}
+use Rattle.std.proofs.Common.{ℕ, ◌-◌, List, sym, ap, ◌∙◌}
 use Rattle.fields.specs.Scan.{first_bad}
 use Rattle.records.specs.Fields.{component_name}
 use Rattle.records.specs.Rules.{record_in, other_name}
@@ -14,15 +14,6 @@ returns-then-not-mark c =
     record {
       value = sym (new-unmarked _ _ _ _ c.requires.whole.1.0 c.requires.names_kept.0 c.requires.names_kept.1 unset);
       marked_from = marked_next _ _ _ _ _ c.requires.names_kept.1 (rw is at c.mark.ensures.marked_too);
-    }
-
-pub first_same-requires : goal.first_same-requires
-first_same-requires c =
-    let named = c.requires.names_kept.0.each c.args.i (omega arith) in
-    record {
-      whole = (c.requires.whole.0, (omega arith, c.requires.whole.1.0));
-      in_bounds = (omega arith, rw c.requires.rec_value.0 named);
-      names_kept = record { each = λ j h. c.requires.names_kept.0.each j (omega arith) };
     }
 
 pub returns : goal.returns

@@ -6,13 +6,6 @@ use Rattle.sets.specs.Words.{word_of}
 use Rattle.records.proofs.SetWords.{one_word, four-words}
 use Rattle.records.proofs.group_sets.groups_exist.Goals as goal
 
-pub number8-requires : goal.number8-requires
-number8-requires c = rw c.in-One.is at c.requires
-
--- in edition 2 there is room for all four words
-pub number8-requires-in-Two : goal.number8-requires-in-Two
-number8-requires-in-Two c = omega (arith, rw c.in-Two.is at c.requires)
-
 pub returns-then-not-within : goal.returns-then-not-within
 returns-then-not-within c =
     let a = c.args in
@@ -20,9 +13,6 @@ returns-then-not-within c =
     let first : word a.k 0 ≡ false = cc in
     let words = four-words a.rec.now (λ k. omega (arith, c.type_inv.rec k)) (places_of a.all) a.k in
     rw (c.in-Two.is, ← words, first)
-
-pub number8-requires-in-Two-2 : goal.number8-requires-in-Two-2
-number8-requires-in-Two-2 c = omega (arith, rw c.in-Two.is at c.requires)
 
 pub returns-then-not-within-2 : goal.returns-then-not-within-2
 returns-then-not-within-2 c =
@@ -33,9 +23,6 @@ returns-then-not-within-2 c =
     let words = four-words a.rec.now (λ k. omega (arith, c.type_inv.rec k)) (places_of a.all) a.k in
     rw (c.in-Two.is, ← words, first, second)
 
-pub number8-requires-in-Two-3 : goal.number8-requires-in-Two-3
-number8-requires-in-Two-3 c = omega (arith, rw c.in-Two.is at c.requires)
-
 pub returns-then-not-within-3 : goal.returns-then-not-within-3
 returns-then-not-within-3 c =
     let a = c.args in
@@ -45,9 +32,6 @@ returns-then-not-within-3 c =
     let third : word (a.k + 8 + 8) 2 ≡ false = cc in
     let words = four-words a.rec.now (λ k. omega (arith, c.type_inv.rec k)) (places_of a.all) a.k in
     rw (c.in-Two.is, ← words, first, second, third)
-
-pub number8-requires-in-Two-4 : goal.number8-requires-in-Two-4
-number8-requires-in-Two-4 c = omega (arith, rw c.in-Two.is at c.requires)
 
 pub returns-in-One : goal.returns-in-One
 returns-in-One c =

@@ -27,14 +27,6 @@ first_stale-requires c =
       names_kept = (c.requires.names_kept.0 is, rw c.requires.fitted.1.0 (c.requires.names_kept.1.marks is));
     }
 
-pub returns-in-Component : goal.returns-in-Component
-returns-in-Component c =
-    let is = c.in-Component.is in
-    record {
-      value = rw is c.first_stale.ensures.value;
-      passed = λ e. record { names = c.requires.names_kept.0; marks = λ k. rw c.requires.fitted.1.0 at (c.first_stale.ensures.marked e) };
-    }
-
 pub returns-in-Label : goal.returns-in-Label
 returns-in-Label c =
     let is = c.in-Label.is in

@@ -8,10 +8,6 @@ overflow_add-unused c =
     let h = held_by _ _ _ c.requires.held_value c.requires.counted.1.0 c.requires.counted.1.1 in
     omega (arith, h.within, block_inside _ _ c.requires.counted.0.fitted c.requires.counted.1.1)
 
-pub overflow_cast-result : goal.overflow_cast-result
-overflow_cast-result c =
-    omega (arith, c.type_inv.image (512 * c.args.b + 1))
-
 pub overflow_sub-result : goal.overflow_sub-result
 overflow_sub-result c =
     (held_by _ _ _ c.requires.held_value c.requires.counted.1.0 c.requires.counted.1.1).ordered

@@ -17,11 +17,6 @@ overflow_add-at c =
     let p = c.requires in
     omega (arith, (of-needed _ _ _ p.1.1).0, before-room _ _ _ _ p.1.0 p.1.1 p.0)
 
-pub overflow_mul-at-2 : goal.overflow_mul-at-2
-overflow_mul-at-2 c =
-    let p = c.requires in
-    omega (arith, (of-needed _ _ _ p.1.1).0, before-room _ _ _ _ p.1.0 p.1.1 p.0)
-
 pub overflow_add-at-2 : goal.overflow_add-at-2
 overflow_add-at-2 c =
     let p = c.requires in

@@ -1,9 +1,5 @@
-use Rattle.std.proofs.Common.{◌-◌}
 use Rattle.records.proofs.PassedLabels.{Passing}
 use Rattle.records.proofs.label_blocks.fine_label_blocks.Given as goal
 
 abbrev pub invariant-loop-k : goal.invariant-loop-k
-invariant-loop-k l = Passing l.image l.shape l.at l.k l.last
-
-abbrev pub decreases-loop-k : goal.decreases-loop-k
-decreases-loop-k l = l.full - l.k
+invariant-loop-k l = Passing l.image l.shape l.k l.last

@@ -1,20 +1,11 @@
-use Rattle.std.proofs.Common.{◌+◌, ◌*◌, not, ◌&&◌, eqb, leb, sym, refl, ap, ◌∙◌, arith, eqb-true, leb-true}
+use Rattle.std.proofs.Common.{◌+◌, ◌*◌, not, ◌&&◌, eqb, leb, sym, ap, ◌∙◌, arith, eqb-true, leb-true}
 use native.Mathlib.Nat.{add-sub_cancel_left}
 use borrow.Author.Tests.{not-false}
 use Rattle.fields.proofs.Both.{parts}
 use Rattle.sets.specs.Groups.{places_of}
 use Rattle.sets.specs.Sets.{within}
-use Rattle.records.proofs.FineLabels.{neither, full-whole, fine-holds}
+use Rattle.records.proofs.FineLabels.{neither, fine-holds}
 use Rattle.records.proofs.label_blocks.last_of_block.Goals as goal
-
-pub returns-then-number2-head : goal.returns-then-number2-head
-returns-then-number2-head c = λ some. absurd (some refl)
-
-pub gather_by-all-requires : goal.gather_by-all-requires
-gather_by-all-requires c =
-    let a = c.args in
-    let p = c.requires.size_value in
-    rw (add-sub_cancel_left, ← p.0) (full-whole a.existing.counts a.shape p.1.0 p.0 a.block.now p.1.1)
 
 pub returns-then-exist-all : goal.returns-then-exist-all
 returns-then-exist-all c =
@@ -34,6 +25,3 @@ returns-then-exist-all c =
     (sym (c.within.ensures ∙ ap (within found.compartments) e.compartments) ∙ each.0)
     (sym (c.within-2.ensures ∙ ap (within (places_of found.groups)) e.groups) ∙ each.1)
     (leb-true found.last 99999999 exist.1)
-
-pub returns-else-exist-all : goal.returns-else-exist-all
-returns-else-exist-all c = λ some. absurd (some refl)

@@ -6,11 +6,6 @@ use Rattle.records.specs.LabelRuns.{run_after, tag_limited, TagsRise}
 use Rattle.records.proofs.LabelTests.{searched, passed-inside, passed-rise}
 use Rattle.records.proofs.label_run.first_bad_label.Goals as goal
 
-pub first_wrong-n-requires : goal.first_wrong-n-requires
-first_wrong-n-requires c =
-    let whole_run : length c.args.run.now % c.size-size.result ≡ 0 = rw c.size-size.ensures c.requires.edition_len.0 in
-    record { exist = c.requires.exist; size_value = (c.size-size.ensures, whole_run) }
-
 pub first_above-requires : goal.first_above-requires
 first_above-requires c =
     let whole_run : length c.args.run.now % c.size-size.result ≡ 0 = rw c.size-size.ensures c.requires.edition_len.0 in

@@ -1,9 +1,8 @@
-use Rattle.std.proofs.Common.{◌≡◌, true, false, ltb, ap, ◌∙◌, arith, le-ltb, lt-ltb}
+use Rattle.std.proofs.Common.{◌≡◌, true, false, ltb, ap, ◌∙◌, le-ltb, lt-ltb}
 use Rattle.fields.specs.Bytes.{number4}
 use Rattle.sets.specs.Sets.{within, all_below}
 use Rattle.records.specs.Fields.{tag_of, label_compartments}
 use Rattle.records.specs.LabelRuns.{label_after}
-use Rattle.records.proofs.Rooms.{label-room}
 use Rattle.records.proofs.label_run.label_ok.Goals as goal
 
 pub returns-then-number4-before : goal.returns-then-number4-before
@@ -29,10 +28,6 @@ returns-then-not-within c =
     lt-ltb _ _ (rw c.number4-2.ensures at c.if-levels-number4.false) in
     let exist : within (label_compartments a.rec.now) (all_below a.existing.counts.compartments) ≡ false = cc in
     rw (higher, levelled, exist)
-
-pub groups_exist-requires : goal.groups_exist-requires
-groups_exist-requires c =
-    omega (arith, c.requires.rec_len.0, label-room c.args.existing.counts.edition)
 
 pub returns : goal.returns
 unfolding label_after

@@ -1,101 +1,45 @@
-use Rattle.std.proofs.Common.{◌≡◌, ◌%◌, ◌≤◌, length, sym, ◌∙◌, arith}
+use Rattle.std.proofs.Common.{◌≡◌, ℕ, ◌+◌, ◌-◌, ◌*◌, ◌/◌, ◌%◌, ◌<◌, ◌≤◌, Bool, cond, ltb, List, length, take, drop, sym, refl, ◌∙◌, arith}
+use Rattle.fields.specs.Bytes.{part}
+use Rattle.fields.proofs.Scan.{loop-bad, loop-good}
+use Rattle.header.specs.declared.counts.Counts.{Counts}
 use Rattle.header.specs.declared.layout.Kind.TheVariants.{User}
+use Rattle.header.specs.Layout.{record_size}
 use Rattle.header.proofs.Editions.{size-least}
-use Rattle.records.specs.Rules.{run_rule}
-use Rattle.records.proofs.Running.{turn_of, resized, places-few, room, part-is, part-long, walk_start, walk-next, walk-bad, walk_end, before-is, before-long, run-rule}
+use Rattle.records.specs.Rules.{after_rule, run_before, run_rule}
+use Rattle.records.proofs.Running.{Turn, turn-at, part-is, ended, resized, before-is, run-rule}
 use Rattle.records.proofs.user_run.first_bad_user.Goals as goal
 
-pub loop-at-init : goal.loop-at-init
-loop-at-init c = walk_start _ _ _
+-- the turn at place j; `before` is the record before it, as code finds it
+module _ (n : Counts) (size j : ℕ) (run : List ℕ) (is : size ≡ record_size n.edition User) (whole : length run % record_size n.edition User ≡ 0)
+    (less : j < length run / size) where
+  least : 128 ≤ size
+  least = rw is (size-least n.edition User)
 
-pub overflow_add-rec : goal.overflow_add-rec
-overflow_add-rec c =
-    let least : 128 ≤ c.size-size.result = rw c.size-size.ensures (size-least c.args.existing.counts.edition User) in
-    let whole_run : length c.args.run.now % c.size-size.result ≡ 0 = rw c.size-size.ensures c.requires.exist.1 in
-    let turn_at = turn_of c.loop-at.invariant (omega (arith, least)) whole_run c.loop-at-test.true in
-    omega (arith, room turn_at)
+  turn : Turn size run (size * j) j
+  turn = turn-at size run j (omega (arith, least)) (rw is whole) less
 
-pub slice_bounds-rec-end : goal.slice_bounds-rec-end
-slice_bounds-rec-end c =
-    let least : 128 ≤ c.size-size.result = rw c.size-size.ensures (size-least c.args.existing.counts.edition User) in
-    let whole_run : length c.args.run.now % c.size-size.result ≡ 0 = rw c.size-size.ensures c.requires.exist.1 in
-    let turn_at = turn_of c.loop-at.invariant (omega (arith, least)) whole_run c.loop-at-test.true in
-    omega (arith, room turn_at)
+  module _ (k : ℕ) (previous before : List ℕ) (found : before ≡ cond (ltb (size * j) size) previous (part run (size * j - size) size)) where
+    before-run : before ≡ run_before size previous run j
+    before-run = found ∙ before-is size previous run (size * j) j (omega (arith, least)) refl
 
-pub record_before-before-requires : goal.record_before-before-requires
-record_before-before-requires c = c.loop-at.invariant.inside
-
-pub overflow_add-k : goal.overflow_add-k
-overflow_add-k c =
-    let least : 128 ≤ c.size-size.result = rw c.size-size.ensures (size-least c.args.existing.counts.edition User) in
-    let whole_run : length c.args.run.now % c.size-size.result ≡ 0 = rw c.size-size.ensures c.requires.exist.1 in
-    let turn_at = turn_of c.loop-at.invariant (omega (arith, least)) whole_run c.loop-at-test.true in
-    let l = c.loop-at in
-    omega (arith, c.requires.in_bounds.1, places-few turn_at)
-
-pub user_ok-requires : goal.user_ok-requires
-user_ok-requires c =
-    let least : 128 ≤ c.size-size.result = rw c.size-size.ensures (size-least c.args.existing.counts.edition User) in
-    let whole_run : length c.args.run.now % c.size-size.result ≡ 0 = rw c.size-size.ensures c.requires.exist.1 in
-    let turn_at = turn_of c.loop-at.invariant (omega (arith, least)) whole_run c.loop-at-test.true in
-    let l = c.loop-at in
-    let a = c.args in
-    let size = c.size-size.result in
-    let is = c.record_before-before.ensures ∙ before-is size _ _ _ _ (omega (arith, least)) l.invariant.stands in
-    let long = before-long size 128 a.previous.now a.run.now l.j least c.requires.in_bounds.0 (rw (← l.invariant.stands) l.invariant.inside) in
-    let full = part-long turn_at in
-    record { exist = (c.requires.exist.0, (full ∙ c.size-size.ensures, rw full least)); in_bounds = rw is long }
+    asked : (answer : Bool) → answer ≡ after_rule User n (k + j) before (take (size * j + size - size * j) (drop (size * j) run))
+        → answer ≡ run_rule User n k previous run j
+    asked answer e = e ∙ run-rule User n size k j previous run before _ is before-run (part-is turn)
 
 pub returns-then-not-user_ok : goal.returns-then-not-user_ok
 returns-then-not-user_ok c =
-    let least : 128 ≤ c.size-size.result = rw c.size-size.ensures (size-least c.args.existing.counts.edition User) in
-    let whole_run : length c.args.run.now % c.size-size.result ≡ 0 = rw c.size-size.ensures c.requires.exist.1 in
-    let turn_at = turn_of c.loop-at.invariant (omega (arith, least)) whole_run c.loop-at-test.true in
-    let rule-asked : let a = c.args in c.user_ok.result ≡ run_rule User a.existing.counts a.k a.previous.now a.run.now c.loop-at.j = (
-    let l = c.loop-at in
-    let size = c.size-size.result in
-    let before = c.record_before-before.ensures ∙ before-is size _ _ _ _ (omega (arith, least)) l.invariant.stands in
-    c.user_ok.ensures ∙ run-rule User _ size _ l.j _ _ _ _ c.size-size.ensures before (part-is turn_at)
-    ) in
-    resized _ _ _ _ _ c.size-size.ensures
-    (walk-bad turn_at _ c.loop-at.invariant.left (sym rule-asked ∙ c.if-not-user_ok.true))
+    let n = c.args.existing.counts in
+    let size = c.size-size.ensures in
+    let more = c.loop-j-test.true in
+    let e = asked n _ _ _ size c.requires.exist.1 more c.args.k _ _ c.record_before-before.ensures _ c.user_ok.ensures in
+    resized _ _ _ _ _ size (loop-bad _ _ _ _ more c.loop-j.invariant (sym e ∙ c.if-not-user_ok.true))
 
-pub overflow_add-at : goal.overflow_add-at
-overflow_add-at c =
-    let least : 128 ≤ c.size-size.result = rw c.size-size.ensures (size-least c.args.existing.counts.edition User) in
-    let whole_run : length c.args.run.now % c.size-size.result ≡ 0 = rw c.size-size.ensures c.requires.exist.1 in
-    let turn_at = turn_of c.loop-at.invariant (omega (arith, least)) whole_run c.loop-at-test.true in
-    omega (arith, room turn_at)
-
-pub overflow_add-j : goal.overflow_add-j
-overflow_add-j c =
-    let least : 128 ≤ c.size-size.result = rw c.size-size.ensures (size-least c.args.existing.counts.edition User) in
-    let whole_run : length c.args.run.now % c.size-size.result ≡ 0 = rw c.size-size.ensures c.requires.exist.1 in
-    let turn_at = turn_of c.loop-at.invariant (omega (arith, least)) whole_run c.loop-at-test.true in
-    omega (arith, places-few turn_at)
-
-pub loop-at-smaller : goal.loop-at-smaller
-loop-at-smaller c =
-    let least : 128 ≤ c.size-size.result = rw c.size-size.ensures (size-least c.args.existing.counts.edition User) in
-    omega (arith, c.loop-at-test.true, least)
-
-pub loop-at-preserved : goal.loop-at-preserved
-loop-at-preserved c =
-    let least : 128 ≤ c.size-size.result = rw c.size-size.ensures (size-least c.args.existing.counts.edition User) in
-    let whole_run : length c.args.run.now % c.size-size.result ≡ 0 = rw c.size-size.ensures c.requires.exist.1 in
-    let turn_at = turn_of c.loop-at.invariant (omega (arith, least)) whole_run c.loop-at-test.true in
-    let rule-asked : let a = c.args in c.user_ok.result ≡ run_rule User a.existing.counts a.k a.previous.now a.run.now c.loop-at.j = (
-    let l = c.loop-at in
-    let size = c.size-size.result in
-    let before = c.record_before-before.ensures ∙ before-is size _ _ _ _ (omega (arith, least)) l.invariant.stands in
-    c.user_ok.ensures ∙ run-rule User _ size _ l.j _ _ _ _ c.size-size.ensures before (part-is turn_at)
-    ) in
-    walk-next turn_at _ c.loop-at.invariant.left (sym rule-asked ∙ c.if-not-user_ok.false)
+pub loop-j-preserved : goal.loop-j-preserved
+loop-j-preserved c =
+    let n = c.args.existing.counts in
+    let more = c.loop-j-test.true in
+    let e = asked n _ _ _ c.size-size.ensures c.requires.exist.1 more c.args.k _ _ c.record_before-before.ensures _ c.user_ok.ensures in
+    loop-good _ _ _ _ more c.loop-j.invariant (sym e ∙ c.if-not-user_ok.false)
 
 pub returns : goal.returns
-returns c =
-    let least : 128 ≤ c.size-size.result = rw c.size-size.ensures (size-least c.args.existing.counts.edition User) in
-    let whole_run : length c.args.run.now % c.size-size.result ≡ 0 = rw c.size-size.ensures c.requires.exist.1 in
-    let l = c.loop-at in
-    resized _ _ _ _ _ c.size-size.ensures
-    (walk_end _ _ c.args.run.now l.at l.j (omega (arith, least)) whole_run l.invariant c.loop-at-test.false)
+returns c = resized _ _ _ _ _ c.size-size.ensures (ended _ _ _ _ (omega arith) c.loop-j.invariant)

@@ -1,18 +1,9 @@
-use Rattle.std.proofs.Common.{◌≡◌, ℕ, Bool, true, false, length, ap, ◌∙◌, arith}
+use Rattle.std.proofs.Common.{◌≡◌, ℕ, Bool, true, false, ap, ◌∙◌, arith}
 use Rattle.sets.specs.Groups.{places_of}
 use Rattle.sets.specs.Words.{word_of}
 use Rattle.records.specs.Users.{four_within}
 use Rattle.records.proofs.SetWords.{user-words-one, user-words-two}
 use Rattle.records.proofs.users.groups_ok.Goals as goal
-
-pub words_exist-requires : goal.words_exist-requires
-words_exist-requires c = (omega (arith, c.requires.1.1), omega arith)
-
--- a record of edition 2 has room for all words
-pub words_exist-requires-in-Two : goal.words_exist-requires-in-Two
-words_exist-requires-in-Two c =
-    let long : length c.args.rec.now ≡ 200 = rw c.in-Two.is at c.requires.1.0 in
-    (omega arith, omega arith)
 
 pub returns-then-not-words_exist : goal.returns-then-not-words_exist
 returns-then-not-words_exist c =
@@ -21,11 +12,6 @@ returns-then-not-words_exist c =
     let first : word 72 0 ≡ false = cc in
     let words = user-words-two a.rec.now (λ k. omega (arith, c.type_inv.rec k)) _ _ c.requires.0.groups in
     rw (c.in-Two.is, ← words, first)
-
-pub words_exist-requires-in-Two-2 : goal.words_exist-requires-in-Two-2
-words_exist-requires-in-Two-2 c =
-    let long : length c.args.rec.now ≡ 200 = rw c.in-Two.is at c.requires.1.0 in
-    (omega arith, omega arith)
 
 pub returns-then-not-words_exist-2 : goal.returns-then-not-words_exist-2
 returns-then-not-words_exist-2 c =
@@ -36,11 +22,6 @@ returns-then-not-words_exist-2 c =
     let words = user-words-two a.rec.now (λ k. omega (arith, c.type_inv.rec k)) _ _ c.requires.0.groups in
     rw (c.in-Two.is, ← words, first, second)
 
-pub words_exist-requires-in-Two-3 : goal.words_exist-requires-in-Two-3
-words_exist-requires-in-Two-3 c =
-    let long : length c.args.rec.now ≡ 200 = rw c.in-Two.is at c.requires.1.0 in
-    (omega arith, omega arith)
-
 pub returns-then-not-words_exist-3 : goal.returns-then-not-words_exist-3
 returns-then-not-words_exist-3 c =
     let a = c.args in
@@ -50,11 +31,6 @@ returns-then-not-words_exist-3 c =
     let third : word 88 2 ≡ false = cc in
     let words = user-words-two a.rec.now (λ k. omega (arith, c.type_inv.rec k)) _ _ c.requires.0.groups in
     rw (c.in-Two.is, ← words, first, second, third)
-
-pub words_exist-requires-in-Two-4 : goal.words_exist-requires-in-Two-4
-words_exist-requires-in-Two-4 c =
-    let long : length c.args.rec.now ≡ 200 = rw c.in-Two.is at c.requires.1.0 in
-    (omega arith, omega arith)
 
 pub returns-in-One : goal.returns-in-One
 returns-in-One c =

@@ -1,8 +1,5 @@
-use Prim.Native.Nat.{ℕ, ◌<◌}
 use mathlib.Core.Path.{refl}
-use lib.Dec.{lit<}
-use lib.ListN.{length}
-use Rattle.buffers.proofs.Stored.{stored, stored-long, stored-room, stored-whole}
+use Rattle.buffers.proofs.Stored.{stored-whole}
 use Rattle.rows.specs.Words.{word_bytes}
 use Rattle.rows.proofs.copying.put_word.Goals as goal
 

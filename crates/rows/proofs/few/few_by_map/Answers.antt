@@ -1,6 +1,6 @@
 use mathlib.Core.Path.{sym, ◌∙◌}
 use native.Mathlib.Omega.{arith}
-use borrow.Author.Tests.{leb-true, not-true, not-false}
+use borrow.Author.Tests.{leb-true}
 use Rattle.rows.specs.Run.{run_rows}
 use Rattle.rows.specs.Mapped.{row_mapped}
 use Rattle.rows.proofs.Standing.{rows-wide}

@@ -3,7 +3,7 @@ use mathlib.Core.Bool.{false}
 use mathlib.Core.List.{List}
 use Prim.Native.Nat.{ℕ}
 use native.Mathlib.Omega.{arith}
-use borrow.Author.Tests.{leb-true, not-true, not-false}
+use borrow.Author.Tests.{leb-true}
 use Rattle.rows.specs.Run.{kept, run_rows}
 use Rattle.rows.specs.Mapped.{row_mapped}
 use Rattle.rows.specs.Reading.{handed_out}

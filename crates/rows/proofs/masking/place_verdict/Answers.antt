@@ -1,5 +1,3 @@
-use mathlib.Core.Path.{sym, ◌∙◌}
-use mathlib.Core.Bool.{true, false}
 use native.Mathlib.Omega.{arith}
 use Rattle.rows.proofs.Answered.{place_none, place_inside, place-asked}
 use Rattle.rows.proofs.masking.place_verdict.Goals as goal
@@ -25,10 +23,5 @@ slice_bounds-is_readable-end c =
     let inside = place_inside a.run.now a.width a.place c.if-run-width.false in
     omega (arith, c.row_offset-at.ensures)
 
-pub returns-then-is_readable : goal.returns-then-is_readable
-returns-then-is_readable c =
-    place-asked _ _ _ _ _ c.if-run-width.false _ c.row_offset-at.ensures true (sym c.if-is_readable.true ∙ c.is_readable.ensures)
-
-pub returns-else-is_readable : goal.returns-else-is_readable
-returns-else-is_readable c =
-    place-asked _ _ _ _ _ c.if-run-width.false _ c.row_offset-at.ensures false (sym c.if-is_readable.false ∙ c.is_readable.ensures)
+pub returns : goal.returns
+returns c = place-asked _ _ _ _ _ c.if-run-width.false _ c.row_offset-at.ensures _ c.is_readable.ensures

@@ -1,6 +1,5 @@
 use mathlib.Core.Path.{refl, sym, ◌∙◌}
 use native.Mathlib.Omega.{arith}
-use borrow.Author.Tests.{not-false}
 use Rattle.image.proofs.Accepted.{accepted-counted}
 use Rattle.access.specs.Rights.{rights_of}
 use Rattle.maps.proofs.Bits.{map-at-most}

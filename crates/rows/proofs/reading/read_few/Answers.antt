@@ -1,6 +1,6 @@
 use mathlib.Core.Path.{sym, ◌∙◌}
 use native.Mathlib.Omega.{arith}
-use borrow.Author.Tests.{leb-true, not-true, not-false}
+use borrow.Author.Tests.{leb-true}
 use Rattle.access.specs.Rights.{rights_of}
 use Rattle.rows.specs.Run.{run_rows}
 use Rattle.rows.specs.Table.{row_readable}

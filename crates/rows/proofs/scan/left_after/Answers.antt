@@ -1,5 +1,4 @@
 use native.Mathlib.Omega.{arith}
-use borrow.Author.Tests.{not-true, not-false}
 use Rattle.rows.proofs.scan.left_after.Goals as goal
 
 pub returns-then-not-readable : goal.returns-then-not-readable

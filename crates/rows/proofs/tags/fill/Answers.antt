@@ -2,7 +2,6 @@ use Prim.Native.Nat.{◌+◌, ◌≤◌, ◌<◌}
 use mathlib.Core.Path.{◌≡◌, sym, ap, subst, ◌∙◌}
 use mathlib.Core.Bool.{false≢true}
 use native.Mathlib.Omega.{arith}
-use borrow.Author.Tests.{not-false}
 use Rattle.header.specs.declared.layout.Kind.TheVariants.{Label}
 use Rattle.header.specs.declared.layout.Shape.{Shape}
 use Rattle.header.specs.Layout.{labels, label_record}

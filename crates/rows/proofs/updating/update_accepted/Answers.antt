@@ -1,6 +1,5 @@
 use mathlib.Core.Path.{sym, ap, ◌∙◌}
 use native.Mathlib.Omega.{arith}
-use borrow.Author.Tests.{not-true, not-false}
 use Rattle.access.specs.Rights.{rights_of}
 use Rattle.rows.specs.Table.{row_writable}
 use Rattle.rows.proofs.Held.{table-means, held-means}

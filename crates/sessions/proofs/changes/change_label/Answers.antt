@@ -1,15 +1,17 @@
-use Rattle.sessions.specs.Changes.{label_change}
+use Rattle.std.proofs.lemmas.Result.{err_from_is_err_and}
 use Rattle.image.proofs.Accepted.{accepted-counted}
+use Rattle.sessions.specs.Changes.{label_change}
 use Rattle.sessions.proofs.changes.change_label.Goals as goal
 
 pub put_label-requires : goal.put_label-requires
-put_label-requires c =
-    (accepted-counted _ c.requires.0, c.requires.1)
+put_label-requires c = (accepted-counted _ c.requires.0, c.requires.1)
 
-pub returns-in-Done : goal.returns-in-Done
+pub returns-in_err-new : goal.returns-in_err-new
 unfolding label_change
-returns-in-Done c = rw (← c.read_text-read.ensures, c.in-Done.is) c.put_label.ensures
+returns-in_err-new c =
+    let p = err_from_is_err_and c.from_residual.result c.from_residual.ensures.1 in
+    rw (p.1, p.2, ← c.read_text.ensures, c.in_err-new.was)
 
-pub returns-in-Refused : goal.returns-in-Refused
+pub returns : goal.returns
 unfolding label_change
-returns-in-Refused c = rw (← c.read_text-read.ensures, c.in-Refused.is) c.text_refused.ensures
+returns c = rw (← c.read_text.ensures, c.in_ok-new.was) c.put_label.ensures

@@ -19,26 +19,26 @@ rights_at-view-requires c =
     let acc = c.requires.0 in
     (accepted-counted _ acc, (c.requires.1, omega arith))
 
-pub session_label_answer-label_answer-requires : goal.session_label_answer-label_answer-requires
-session_label_answer-label_answer-requires c =
+pub session_label_answer-requires : goal.session_label_answer-requires
+session_label_answer-requires c =
     let acc = c.requires.0 in
     ((accepted-counted _ acc, (c.requires.1, omega arith)), c.rights_at-view.ensures)
 
 pub returns-in_default : goal.returns-in_default
 returns-in_default c =
     let here : c.args.session.user < users c.args.image.now = omega arith in
-    label-refused _ _ c.requires.0 here _ c.session_label_answer-label_answer.ensures _ c.in_default.is
+    label-refused _ _ c.requires.0 here _ c.session_label_answer.ensures _ c.in_default.is
 
-pub returns-in_default-row_answer : goal.returns-in_default-row_answer
-returns-in_default-row_answer c =
+pub returns-in_default-row_label_answer : goal.returns-in_default-row_label_answer
+returns-in_default-row_label_answer c =
     let here : c.args.session.user < users c.args.image.now = omega arith in
-    row-refused _ _ c.requires.0 here _ c.session_label_answer-label_answer.ensures c.in-Accepted.is
-    _ c.rights_at-view.ensures _ c.row_label_answer-row_answer.ensures _ c.in_default-row_answer.is
+    row-refused _ _ c.requires.0 here _ c.session_label_answer.ensures c.in-Ok.is
+    _ c.rights_at-view.ensures _ c.row_label_answer.ensures _ c.in_default-row_label_answer.is
 
 pub returns : goal.returns
 returns c =
     let here : c.args.session.user < users c.args.image.now = omega arith in (
-      row-accepted _ _ c.requires.0 here _ c.session_label_answer-label_answer.ensures c.in-Accepted.is
-          _ c.rights_at-view.ensures _ c.row_label_answer-row_answer.ensures c.in-Accepted-row_answer.is,
+      row-accepted _ _ c.requires.0 here _ c.session_label_answer.ensures c.in-Ok.is
+          _ c.rights_at-view.ensures _ c.row_label_answer.ensures c.in-Ok-row_label_answer.is,
       (c.requires.1, c.rights_at-view.ensures),
     )

@@ -49,12 +49,12 @@ returns-then-buffer-shape c =
     answer-room _ (flatten (records_of c.args.image.now c.args.kind)) _
     (long c.args.image.now c.args.kind _ c.requires.fitted c.shape_of-shape.ensures) c.if-buffer-shape.true
 
-pub put_records-length-requires : goal.put_records-length-requires
-put_records-length-requires c =
+pub put_records-requires : goal.put_records-requires
+put_records-requires c =
     let e = long c.args.image.now c.args.kind _ c.requires.fitted c.shape_of-shape.ensures in
     (c.requires, omega (arith, e, c.if-buffer-shape.false))
 
 pub returns : goal.returns
 returns c =
     let e = long c.args.image.now c.args.kind _ c.requires.fitted c.shape_of-shape.ensures in
-    answer-done _ _ _ e c.if-buffer-shape.false c.put_records-length.ensures
+    answer-done _ _ _ e c.if-buffer-shape.false c.put_records.ensures

@@ -1,29 +1,24 @@
+use Prim.Native.Nat.{◌+◌, ◌≤◌}
+use mathlib.Core.Path.{◌≡◌}
 use native.Mathlib.Omega.{arith}
 use Rattle.writing.proofs.Ended.{zeros-start, zeros-turn, zeros-end}
 use Rattle.writing.proofs.block.put_zeros.Goals as goal
 
-pub overflow_add-end : goal.overflow_add-end
-overflow_add-end c = omega arith
-
 pub loop-i-init : goal.loop-i-init
-loop-i-init c = (omega arith, (omega arith, zeros-start _ _ _))
+loop-i-init c = zeros-start _ _ _
 
 pub bounds-buffer-i : goal.bounds-buffer-i
-bounds-buffer-i c = omega arith
-
-pub overflow_add-i : goal.overflow_add-i
-overflow_add-i c = omega arith
-
-pub loop-i-smaller : goal.loop-i-smaller
-loop-i-smaller c = omega arith
+bounds-buffer-i c = omega (arith, c.loop-i.invariant.long)
 
 pub loop-i-preserved : goal.loop-i-preserved
 loop-i-preserved c =
-    let inv = c.loop-i.invariant in
-    (omega arith, (omega arith, zeros-turn _ _ _ _ _ c.requires inv.0 c.loop-i-test.true inv.1.1))
+    let low : c.args.at ≤ c.loop-i.i = omega arith in
+    zeros-turn _ _ _ _ _ c.requires low c.loop-i-test.true c.loop-i.invariant
 
 pub shape_of-buffer : goal.shape_of-buffer
-shape_of-buffer c = c.loop-i.invariant.1.1.long
+shape_of-buffer c = c.loop-i.invariant.long
 
 pub returns : goal.returns
-returns c = zeros-end _ _ _ _ _ c.loop-i-test.false c.loop-i.invariant.1.1
+returns c =
+    let end : c.loop-i.i ≡ c.args.at + c.args.n = omega arith in
+    rw end at (zeros-end _ _ _ _ _ c.loop-i-test.false c.loop-i.invariant)

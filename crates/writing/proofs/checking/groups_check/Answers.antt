@@ -1,3 +1,4 @@
+use Rattle.std.proofs.Common.{Ok}
 use Prim.Native.Nat.{ℕ, ◌+◌, ◌/◌, ◌≤◌}
 use mathlib.Core.Path.{◌≡◌, refl, sym, ap, ◌∙◌, subst}
 use mathlib.Core.List.{List}
@@ -11,7 +12,6 @@ use Rattle.hierarchy.specs.Below.{forest_in}
 use Rattle.hierarchy.proofs.OrderTurns.{found-ring, found-parents, found-ordered}
 use Rattle.hierarchy.proofs.Rings.{ring-none}
 use Rattle.writing.specs.declared.answers.LentFault.TheVariants.{Record, Ring}
-use Rattle.writing.specs.declared.answers.LentCheck.TheVariants.{Sound}
 use Rattle.records.proofs.BlockRuns.{size-some}
 use Rattle.records.proofs.Parts.{run-count}
 use Rattle.writing.proofs.Totals.{counts-most}
@@ -77,7 +77,7 @@ returns-then-u-users c =
     c.fill.ensures c.put_order-g.ensures in
     let told = c.size.ensures in
     sym (told-after Ring _ _ n.groups refl found c.if-g-counts.false
-    ∙ told_here (Record User) Sound _ _ (count n users _ told) c.first_bad_user-u.ensures c.if-u-users.true)
+    ∙ told_here (Record User) (Ok tt) _ _ (count n users _ told) c.first_bad_user-u.ensures c.if-u-users.true)
 
 pub returns : goal.returns
 returns c =
@@ -89,4 +89,4 @@ returns c =
     c.fill.ensures c.put_order-g.ensures in
     let told = c.size.ensures in
     sym (told-after Ring _ _ n.groups refl found c.if-g-counts.false
-    ∙ told-after (Record User) Sound _ _ (count n users _ told) c.first_bad_user-u.ensures c.if-u-users.false)
+    ∙ told-after (Record User) (Ok tt) _ _ (count n users _ told) c.first_bad_user-u.ensures c.if-u-users.false)

@@ -16,15 +16,6 @@ loop-i-init c = (omega arith, rw (sub-zero, zero-add))
 pub names_class-requires : goal.names_class-requires
 names_class-requires c = omega (arith, c.loop-i-test.true)
 
-pub overflow_add-held : goal.overflow_add-held
-overflow_add-held c = omega arith
-
-pub overflow_add-i : goal.overflow_add-i
-overflow_add-i c = omega arith
-
-pub loop-i-smaller : goal.loop-i-smaller
-loop-i-smaller c = omega arith
-
 pub loop-i-preserved : goal.loop-i-preserved
 loop-i-preserved c =
     let inv = c.loop-i.invariant in

@@ -18,6 +18,3 @@ invariant-loop-i l =
     (l.held ≤ l.i)
     × (l.held + length (places_where (named l.components l.class) (l.count - l.i) l.i)
     ≡ length (places_where (named l.components l.class) l.count 0))
-
-abbrev pub decreases-loop-i : goal.decreases-loop-i
-decreases-loop-i l = l.count - l.i

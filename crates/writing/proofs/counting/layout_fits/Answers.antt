@@ -13,12 +13,12 @@ pub whole-requires-3 : goal.whole-requires-3
 whole-requires-3 c =
     rw c.size-user_size.ensures (size-some c.edition_named-named.result User)
 
-pub nonzero_div-users : goal.nonzero_div-users
-nonzero_div-users c =
+pub nonzero_div-lent : goal.nonzero_div-lent
+nonzero_div-lent c =
     rw c.size-user_size.ensures (size-some c.edition_named-named.result User)
 
-pub nonzero_div-labels : goal.nonzero_div-labels
-nonzero_div-labels c =
+pub nonzero_div-lent-2 : goal.nonzero_div-lent-2
+nonzero_div-lent-2 c =
     rw c.size-label_size.ensures (size-some c.edition_named-named.result Label)
 
 pub returns : goal.returns
@@ -37,6 +37,6 @@ returns c =
       c.size-user_size.ensures,
       c.size-label_size.ensures,
       c.edition_named-named.ensures,
-      run-count (record_size e User) a.users.now,
-      run-count (record_size e Label) a.labels.now,
+      run-count (record_size e User) a.lent.users.now,
+      run-count (record_size e Label) a.lent.labels.now,
     )

@@ -10,36 +10,15 @@ use Rattle.hierarchy.proofs.Steps.{stored-length, stored_more}
 use Rattle.writing.proofs.groups.fill_places.Goals as goal
 
 pub loop-g-init : goal.loop-g-init
-loop-g-init c = (omega arith, (c.requires.1.1, below_none _))
-
-pub overflow_cast-places : goal.overflow_cast-places
-overflow_cast-places c = omega arith
-
-pub overflow_cast-places-in-loop-g : goal.overflow_cast-places-in-loop-g
-overflow_cast-places-in-loop-g c = omega arith
-
-pub overflow_mul-places-in-loop-g : goal.overflow_mul-places-in-loop-g
-overflow_mul-places-in-loop-g c = omega arith
-
-pub overflow_add-places : goal.overflow_add-places
-overflow_add-places c = omega arith
+loop-g-init c = (c.requires.1.1, below_none _)
 
 pub bounds-places-g-in-loop-g : goal.bounds-places-g-in-loop-g
 bounds-places-g-in-loop-g c =
-    rw length-set (omega (arith, c.loop-g.invariant.1.0, c.requires.1.0, c.loop-g-test.true))
-
-pub overflow_mul-places : goal.overflow_mul-places
-overflow_mul-places c = omega arith
+    rw length-set (omega (arith, c.loop-g.invariant.0, c.requires.1.0, c.loop-g-test.true))
 
 pub bounds-places-g : goal.bounds-places-g
 bounds-places-g c =
-    omega (arith, c.loop-g.invariant.1.0, c.requires.1.0, c.loop-g-test.true)
-
-pub overflow_add-g : goal.overflow_add-g
-overflow_add-g c = omega arith
-
-pub loop-g-smaller : goal.loop-g-smaller
-loop-g-smaller c = omega arith
+    omega (arith, c.loop-g.invariant.0, c.requires.1.0, c.loop-g-test.true)
 
 pub loop-g-preserved : goal.loop-g-preserved
 unfolding parent_in class_first
@@ -47,10 +26,10 @@ loop-g-preserved c =
     let a = c.args in
     let g = c.loop-g.g in
     let places = c.loop-g.places in
-    let inv = c.loop-g.invariant.1 in
+    let inv = c.loop-g.invariant in
     let l : 2 * g + 1 < length places = omega (arith, inv.0, c.requires.1.0, c.loop-g-test.true) in
     let more = stored_more (parent_in a.counts (run_records 40 a.components.now)) places g _ l c.parent_at-parent.ensures.0 inv.1 in
-    (omega (arith, c.loop-g-test.true), (stored-length places g _ ∙ inv.0, more))
+    (stored-length places g _ ∙ inv.0, more)
 
 pub returns : goal.returns
-returns c = λ g l. c.loop-g.invariant.1.1 g (omega arith)
+returns c = λ g l. c.loop-g.invariant.1 g (omega arith)

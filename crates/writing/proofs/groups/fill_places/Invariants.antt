@@ -1,4 +1,4 @@
-use Prim.Native.Nat.{ℕ, ◌-◌, ◌≤◌, ◌<◌}
+use Prim.Native.Nat.{ℕ, ◌<◌}
 use mathlib.Core.Path.{◌≡◌}
 use lib.ListN.{length}
 use Rattle.records.specs.Rules.{run_records}
@@ -8,8 +8,5 @@ use Rattle.writing.proofs.groups.fill_places.Given as goal
 
 abbrev pub invariant-loop-g : goal.invariant-loop-g
 invariant-loop-g l =
-    (l.g ≤ l.counts.groups) × ((length l.places ≡ table_length)
-    × ((k : ℕ) → k < l.g → parent_by l.places k ≡ parent_in l.counts (run_records 40 l.components) k))
-
-abbrev pub decreases-loop-g : goal.decreases-loop-g
-decreases-loop-g l = l.counts.groups - l.g
+    (length l.places ≡ table_length)
+    × ((k : ℕ) → k < l.g → parent_by l.places k ≡ parent_in l.fn.counts (run_records 40 l.components) k)

@@ -60,19 +60,19 @@ nonzero_div-user_count c =
 pub blocks_for-label_place-requires : goal.blocks_for-label_place-requires
 blocks_for-label_place-requires c =
     let n = c.args.counts in
-    let bytes = bytes_by c.args.components.now c.args.labels.now c.args.users.now in
+    let bytes = bytes_by c.args.lent.components.now c.args.lent.labels.now c.args.lent.users.now in
     omega (arith, lent-counted n bytes Component, few-components n _ _ (lent-limited n bytes c.requires.limited) (records n bytes) c.requires.fits)
 
 pub blocks_for-requires : goal.blocks_for-requires
 blocks_for-requires c =
     let n = c.args.counts in
-    let bytes = bytes_by c.args.components.now c.args.labels.now c.args.users.now in
+    let bytes = bytes_by c.args.lent.components.now c.args.lent.labels.now c.args.lent.users.now in
     omega (arith, lent-told n bytes Label c.size.ensures, few-labels n _ _ (lent-limited n bytes c.requires.limited))
 
 pub put_header-head-requires : goal.put_header-head-requires
 put_header-head-requires c =
     let n = c.args.counts in
-    let bytes = bytes_by c.args.components.now c.args.labels.now c.args.users.now in
+    let bytes = bytes_by c.args.lent.components.now c.args.lent.labels.now c.args.lent.users.now in
     let limited = lent-limited n bytes c.requires.limited in
     let u = few-users n _ _ limited in
     let l = few-labels n _ _ limited in
@@ -88,7 +88,7 @@ put_header-head-requires c =
 pub put_kind-component_end-requires : goal.put_kind-component_end-requires
 put_kind-component_end-requires c =
     let n = c.args.counts in
-    let bytes = bytes_by c.args.components.now c.args.labels.now c.args.users.now in
+    let bytes = bytes_by c.args.lent.components.now c.args.lent.labels.now c.args.lent.users.now in
     let header = header-written n bytes c.size-2.ensures c.size.ensures c.put_header-head.ensures in
     let room = components-room n (records n bytes) c.requires.fits.sizes c.requires.users_in_bounds header in
     let few = few-components n _ _ (lent-limited n bytes c.requires.limited) (records n bytes) c.requires.fits in
@@ -97,7 +97,7 @@ put_kind-component_end-requires c =
 pub put_kind-label_end-requires : goal.put_kind-label_end-requires
 put_kind-label_end-requires c =
     let n = c.args.counts in
-    let bytes = bytes_by c.args.components.now c.args.labels.now c.args.users.now in
+    let bytes = bytes_by c.args.lent.components.now c.args.lent.labels.now c.args.lent.users.now in
     let header = header-written n bytes c.size-2.ensures c.size.ensures c.put_header-head.ensures in
     let components = written_same (laid n bytes Component 1 refl) c.put_kind-component_end.ensures in
     let room = labels-room n (records n bytes) c.requires.fits.sizes c.requires.users_in_bounds header components in
@@ -113,7 +113,7 @@ put_kind-label_end-requires c =
 pub put_kind-requires : goal.put_kind-requires
 put_kind-requires c =
     let n = c.args.counts in
-    let bytes = bytes_by c.args.components.now c.args.labels.now c.args.users.now in
+    let bytes = bytes_by c.args.lent.components.now c.args.lent.labels.now c.args.lent.users.now in
     let header = header-written n bytes c.size-2.ensures c.size.ensures c.put_header-head.ensures in
     let components = written_same (laid n bytes Component 1 refl) c.put_kind-component_end.ensures in
     let labels = written_same (laid n bytes Label _ (label-place n bytes c.blocks_for-label_place.ensures.0)) c.put_kind-label_end.ensures in
@@ -130,7 +130,7 @@ put_kind-requires c =
 pub returns : goal.returns
 returns c =
     let n = c.args.counts in
-    let bytes = bytes_by c.args.components.now c.args.labels.now c.args.users.now in
+    let bytes = bytes_by c.args.lent.components.now c.args.lent.labels.now c.args.lent.users.now in
     let header = header-written n bytes c.size-2.ensures c.size.ensures c.put_header-head.ensures in
     let components = written_same (laid n bytes Component 1 refl) c.put_kind-component_end.ensures in
     let labels = written_same (laid n bytes Label _ (label-place n bytes c.blocks_for-label_place.ensures.0)) c.put_kind-label_end.ensures in

@@ -49,7 +49,7 @@ nonzero_div-user_count c =
 pub length_for-requires : goal.length_for-requires
 length_for-requires c =
     let n = c.args.counts in
-    let bytes = bytes_by c.args.components.now c.args.labels.now c.args.users.now in
+    let bytes = bytes_by c.args.lent.components.now c.args.lent.labels.now c.args.lent.users.now in
     let l = lent-limited n bytes c.requires.limited in (
       omega (arith, lent-counted n bytes Component, few-components n _ _ l (lent_records n.edition bytes) c.requires.fits),
       (
@@ -61,20 +61,20 @@ length_for-requires c =
 pub returns-then-buffer-length_for : goal.returns-then-buffer-length_for
 returns-then-buffer-length_for c =
     let n = c.args.counts in
-    let bytes = bytes_by c.args.components.now c.args.labels.now c.args.users.now in
+    let bytes = bytes_by c.args.lent.components.now c.args.lent.labels.now c.args.lent.users.now in
     let long = image-long n bytes c.size.ensures c.size-2.ensures c.requires.fits c.length_for.ensures in
     answer-room _ (image_of n (lent_records n.edition bytes)) _ long c.if-buffer-length_for.true
 
-pub put_image-length-requires : goal.put_image-length-requires
-put_image-length-requires c =
+pub put_image-requires : goal.put_image-requires
+put_image-requires c =
     let n = c.args.counts in
-    let bytes = bytes_by c.args.components.now c.args.labels.now c.args.users.now in
+    let bytes = bytes_by c.args.lent.components.now c.args.lent.labels.now c.args.lent.users.now in
     let long = image-long n bytes c.size.ensures c.size-2.ensures c.requires.fits c.length_for.ensures in
     record { fits = c.requires.fits; limited = c.requires.limited; users_in_bounds = omega (arith, long, c.if-buffer-length_for.false) }
 
 pub returns : goal.returns
 returns c =
     let n = c.args.counts in
-    let bytes = bytes_by c.args.components.now c.args.labels.now c.args.users.now in
+    let bytes = bytes_by c.args.lent.components.now c.args.lent.labels.now c.args.lent.users.now in
     let long = image-long n bytes c.size.ensures c.size-2.ensures c.requires.fits c.length_for.ensures in
-    answer-done _ _ _ long c.if-buffer-length_for.false c.put_image-length.ensures
+    answer-done _ _ _ long c.if-buffer-length_for.false c.put_image.ensures

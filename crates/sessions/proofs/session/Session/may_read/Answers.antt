@@ -1,16 +1,20 @@
+use Rattle.refusals.proofs.Passed.{err-passed}
 use Rattle.sessions.specs.Asking.{may_read_of}
 use Rattle.sessions.proofs.Accepting.{lent-accepted, lent_at, lent-refused}
 use Rattle.sessions.proofs.session.Session.may_read.Goals as goal
 
 pub may_read-requires : goal.may_read-requires
-may_read-requires c = lent-accepted _ _ (lent_at _ _ _ _ _ c.in-At.is c.lent_rights-found.ensures).0
+may_read-requires c =
+    let g = lent_at _ _ _ _ _ c.in_ok-view.was c.lent_rights.ensures in
+    lent-accepted _ _ g.0
 
-pub returns-in-At : goal.returns-in-At
+pub returns-in_err-view : goal.returns-in_err-view
 unfolding may_read_of
-returns-in-At c =
-    let g = lent_at _ _ _ _ _ c.in-At.is c.lent_rights-found.ensures in
-    rw (g.0, ← g.1.1, ← c.may_read.ensures) c.verdict_of.ensures
+returns-in_err-view c =
+    rw (err-passed _ c.from_residual.ensures.1, lent-refused _ _ _ _ _ c.in_err-view.was c.lent_rights.ensures)
 
-pub returns-in-Refused : goal.returns-in-Refused
+pub returns : goal.returns
 unfolding may_read_of
-returns-in-Refused c = rw (lent-refused _ _ _ _ _ c.in-Refused.is c.lent_rights-found.ensures)
+returns c =
+    let g = lent_at _ _ _ _ _ c.in_ok-view.was c.lent_rights.ensures in
+    rw (g.0, ← g.1.1, ← c.may_read.ensures)

@@ -1,4 +1,0 @@
-use Rattle.records.proofs.users.compartments_in.Goals as goal
-
-pub returns : goal.returns
-returns c = rw (c.number8.ensures, c.number8-2.ensures, c.number8-3.ensures, c.number8-4.ensures)
