@@ -9,12 +9,10 @@ fn put_short(text: &[u8], buffer: &mut [u8], at: usize) -> usize
     requires { at + length text.now ≤ length buffer.old }
     ensures { Written buffer.old at text.now buffer.new result }
 {
-    let mut i = 0;
-    while i < text.len() {
+    for i in 0..text.len() {
         buffer[at + i] = text[i];
-        i += 1;
     }
-    at + i
+    at + text.len()
 }
 
 // Writes the text over the buffer's bytes from `at` on, and tells where it ends.

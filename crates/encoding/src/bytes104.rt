@@ -16,10 +16,8 @@ pub fn session_bytes(session: Session) -> [u8; 104]
     let mut b = [0u8; 104];
     b[0] = session.user;
     b[1] = session.user;
-    let label = label_bytes(session.label);
-    let row = label_bytes(session.row);
-    b[8..56].copy_from_slice(&label);
-    b[56..104].copy_from_slice(&row);
+    b[8..56].copy_from_slice(&label_bytes(session.label));
+    b[56..104].copy_from_slice(&label_bytes(session.row));
     b
 }
 

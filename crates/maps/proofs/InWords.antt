@@ -3,7 +3,7 @@ use Prim.Native.Nat.{ℕ, zero, suc, ◌+◌, ◌-◌, ◌*◌, ◌/◌, ◌%◌
 use mathlib.Core.Path.{◌≡◌, refl, sym, ap, ap₂, ◌∙◌, fun_ext}
 use mathlib.Core.Bool.{Bool, true, false, cond, ◌&&◌}
 use mathlib.Core.List.{List, [], ◌∷◌}
-use native.Mathlib.Nat.{zero-add, add-suc, div-div-eq-div-mul, mod-eq_of_lt}
+use native.Mathlib.Nat.{zero-add, add-suc, div-div-eq-div-mul}
 use native.Mathlib.Omega.{arith}
 use native.Mathlib.Numerals.{add-one}
 use borrow.Author.Tests.{eq-eqb, ne_eqb, eqb-true}
@@ -72,24 +72,15 @@ module _ (s : List ℕ) (n w i r : ℕ) (long : length s ≡ n) (inv : same_byte
 abbrev pub eight_bytes : ℕ → List ℕ
 eight_bytes w =
     w % 256 ∷ w / 256 % 256 ∷ w / 65536 % 256 ∷ w / 16777216 % 256 ∷ w / 4294967296 % 256 ∷ w / 1099511627776 % 256 ∷ w / 281474976710656 % 256
-    ∷ w / 72057594037927936 ∷ []
+    ∷ w / 72057594037927936 % 256 ∷ []
+
+pub bytes-eight : (w : ℕ) → bytes_of 8 w ≡ eight_bytes w
+unfolding bytes_of
+bytes-eight w =
+    let next : (m n : ℕ) → w / m / n ≡ w / (m * n) = div-div-eq-div-mul w in
+    rw (next 256 256, next 65536 256, next 16777216 256, next 4294967296 256, next 1099511627776 256, next 281474976710656 256)
 
 module _ (w : ℕ) (word : w < 2 ^ 64) where
-  pub bytes-eight : bytes_of 8 w ≡ eight_bytes w
-  unfolding bytes_of
-  bytes-eight =
-      let next : (m n : ℕ) → w / m / n ≡ w / (m * n) = div-div-eq-div-mul w in
-      let top : w / 72057594037927936 < 256 = omega arith in
-      rw (
-        next 256 256,
-        next 65536 256,
-        next 16777216 256,
-        next 4294967296 256,
-        next 1099511627776 256,
-        next 281474976710656 256,
-        mod-eq_of_lt top,
-      )
-
   -- they are the number again
   bytes_back : number8 (bytes_of 8 w) 0 ≡ w
   unfolding bytes_of number8 number4 number2

@@ -60,12 +60,6 @@ module _ (f : ℕ → Bool) (i : ℕ) where
       ∙ or_shifted_r (collect (λ j. f (i + j)) n) i (collect f i) (collect-below f i)
       ∙ omega (arith, collect-after n)
 
--- ---- the end of a run of l bytes
-pub run-ended : (size l at i : ℕ) → 1 ≤ size → at ≡ size * i → at ≤ l → l ≤ at → i ≡ l / size
-run-ended size l at i some is low high =
-    let end : l ≡ size * i = omega arith in
-    sym (ap (λ (m : ℕ). m / size) end ∙ mul-div_right i some)
-
 -- ---- n label records from place p on, within one block
 pub record Run (im : List ℕ) (shape : Shape) (p n : ℕ) : Type 0 where
   pub fitted : Fitted im

@@ -15,19 +15,17 @@ use header::edition::edition_of;
 use header::layout::Kind;
 use header::{layout, walk};
 
-// One byte after the other.
+// One byte after the other, as `put_each` writes them. A closure for the one line in which the two loops differ would be no plainer than two loops.
 fn are_each(w: u64, n: usize, bits: &[u8]) -> bool
     requires { length bits.now ≡ n }
     ensures { result ≡ same_bytes bits.now (bytes_of n w) }
 {
     let mut rest = w;
-    let mut i = 0;
-    while i < n {
+    for i in 0..n {
         if bits[i] != (rest % 256) as u8 {
             return false;
         }
         rest = rest / 256;
-        i += 1;
     }
     true
 }
@@ -43,7 +41,8 @@ fn are_bytes(w: u64, n: usize, bits: &[u8]) -> bool
     are_each(w, n, bits)
 }
 
-// Are those `count` bytes, as many as the map has, the map? The first word that differs ends the walk.
+// Are those `count` bytes, as many as the map has, the map? The first word that differs ends the walk. The walk is that of `put_asked`. The two stay apart:
+// a walk for both would take a closure that may stop it, a buffer that one of them lends, and a result that only the other has; no plainer than this loop.
 pub(crate) fn judge_asked(image: &[u8], view: View, count: usize, bits: &[u8]) -> bool
     requires counted { Counted image.now × (length bits.now ≡ count) }
     requires count_value { count ≡ map_length image.now }
@@ -52,17 +51,14 @@ pub(crate) fn judge_asked(image: &[u8], view: View, count: usize, bits: &[u8]) -
     let shape = layout::shape_of(image, Kind::Label);
     let edition = edition_of(image);
     let mut here = walk::record_at(shape, 0);
-    let mut k = 0;
-    let mut at = 0;
-    while at < count {
+    for k in 0..(count + 7) / 8 {
         let word = map_word(image, view, shape, edition, k, here);
+        let at = 8 * k;
         let end = lower(count, at + 8);
         if !are_bytes(word.bits, end - at, &bits[at..end]) {
             return false;
         }
         here = word.next;
-        k += 1;
-        at = end;
     }
     true
 }

@@ -20,11 +20,9 @@ fn put_each(w: u64, n: usize, to: &mut [u8])
     ensures { to.new ≡ bytes_of n w }
 {
     let mut rest = w;
-    let mut i = 0;
-    while i < n {
+    for i in 0..n {
         to[i] = (rest % 256) as u8;
         rest = rest / 256;
-        i += 1;
     }
 }
 
@@ -34,14 +32,7 @@ fn put_bytes(w: u64, n: usize, to: &mut [u8])
     ensures { to.new ≡ bytes_of n w }
 {
     if n == 8 {
-        to[0] = (w % 256) as u8;
-        to[1] = (w / 256 % 256) as u8;
-        to[2] = (w / 65536 % 256) as u8;
-        to[3] = (w / 16777216 % 256) as u8;
-        to[4] = (w / 4294967296 % 256) as u8;
-        to[5] = (w / 1099511627776 % 256) as u8;
-        to[6] = (w / 281474976710656 % 256) as u8;
-        to[7] = (w / 72057594037927936) as u8;
+        to.copy_from_slice(&w.to_le_bytes());
         return;
     }
     put_each(w, n, to)
@@ -56,15 +47,12 @@ pub(crate) fn put_asked(image: &[u8], view: View, count: usize, buffer: &mut [u8
     let shape = layout::shape_of(image, Kind::Label);
     let edition = edition_of(image);
     let mut here = walk::record_at(shape, 0);
-    let mut k = 0;
-    let mut at = 0;
-    while at < count {
+    for k in 0..(count + 7) / 8 {
         let word = map_word(image, view, shape, edition, k, here);
+        let at = 8 * k;
         let end = lower(count, at + 8);
         put_bytes(word.bits, end - at, &mut buffer[at..end]);
         here = word.next;
-        k += 1;
-        at = end;
     }
     count
 }

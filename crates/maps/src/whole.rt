@@ -15,16 +15,14 @@ pub(crate) fn put_whole(labels: usize, count: usize, buffer: &mut [u8]) -> usize
 {
     let full = labels / 8;
     let left = labels % 8;
-    let mut k = 0;
-    while k < full {
+    for k in 0..full {
         buffer[k] = 255;
-        k += 1;
     }
     if left == 0 {
         return count;
     }
     let last = word::all_below(left) as u8;
-    buffer[k] = last;
+    buffer[full] = last;
     count
 }
 
@@ -33,10 +31,8 @@ fn all_set(bits: &[u8]) -> bool
     ensures { result ≡ all_set bits.now }
 {
     let mut seen: u8 = 255;
-    let mut i = 0;
-    while i < bits.len() {
-        seen = seen & bits[i];
-        i += 1;
+    for byte in bits {
+        seen = seen & *byte;
     }
     seen == 255
 }

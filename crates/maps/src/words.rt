@@ -26,22 +26,16 @@ pub struct Word {
     pub next: RecordAt,
 }
 
-// Bit i tells whether the label of the run's record i may be read. The records of a block stand one right after the other, so that nothing but the
-// offset goes on from one to the next.
+// Bit i tells whether the label of the run's record i may be read. The records of a block stand one right after the other.
 fn run_bits(view: View, edition: Edition, size: usize, run: &[u8]) -> u64
     requires { (size ≡ record_size edition Label) × ((length run.now % size ≡ 0) × (length run.now / size ≤ 64)) }
     ensures { result ≡ collect (λ i. reads_label (rights_of view) (record_label edition (part run.now (size * i) size))) (length run.now / size) }
 {
     let mut set = 0u64;
-    let mut i = 0;
-    let mut at = 0;
-    while at < run.len() {
-        let end = at + size;
-        if reads_record(view, edition, &run[at..end]) {
+    for (i, record) in run.chunks_exact(size).enumerate() {
+        if reads_record(view, edition, record) {
             set = word::with(set, i);
         }
-        at = end;
-        i += 1;
     }
     set
 }
@@ -80,6 +74,7 @@ pub(crate) fn map_word(
     let mut here = start;
     let mut bits = 0u64;
     let mut i = 0;
+    // `while`: a run is as long as its block allows, so that i moves by what is found.
     while i < count {
         let n = lower(count - i, here.left);
         let at = here.at;

@@ -1,11 +1,11 @@
 -- The first eight bytes of a row as one number, and the row written from it. Assumes nothing.
 use Prim.Native.Nat.{ℕ, zero, suc, ◌+◌, ◌-◌, ◌*◌, ◌/◌, ◌%◌, ◌≤◌, ◌<◌}
-use mathlib.Core.Path.{◌≡◌, refl, sym, ap, ◌∙◌}
+use mathlib.Core.Path.{◌≡◌, refl, sym, ap, subst, ◌∙◌}
 use mathlib.Core.List.{List, [], ◌∷◌, ◌++◌}
 use native.Mathlib.Nat.{mod-eq_of_lt, le_trans, le_of_eq}
 use native.Mathlib.Omega.{arith}
 use lib.ListN.{length, take, drop, get_or}
-use lib.Seq.{length-take-le, get_or-drop}
+use lib.Seq.{take-append_seam, drop-append_seam, length-take-le, get_or-drop}
 use Rattle.fields.specs.Bytes.{AreBytes, number2, number4, number8}
 use Rattle.sets.proofs.EachWord.{each}
 use Rattle.buffers.specs.Pasting.{pasted}
@@ -20,8 +20,15 @@ take-bytes (suc n) [] bytes k = omega arith
 take-bytes (suc n) (x ∷ s) bytes zero = bytes 0
 take-bytes (suc n) (x ∷ s) bytes (suc k) = take-bytes n s (λ j. bytes (suc j)) k
 
-pub part_bytes : (s : List ℕ) → AreBytes s → (i n : ℕ) → AreBytes (take n (drop i s))
-part_bytes s bytes i n = take-bytes n (drop i s) (λ k. rw get_or-drop (bytes (i + k)))
+-- what is cut in two stays bytes
+pub front-bytes : (rest row later : List ℕ) → rest ≡ row ++ later → AreBytes rest → AreBytes row
+front-bytes rest row later e b =
+    subst (λ (s : List ℕ). AreBytes s) (take-append_seam row later) (take-bytes (length row) (row ++ later) (subst (λ (s : List ℕ). AreBytes s) e b))
+
+pub back-bytes : (rest row later : List ℕ) → rest ≡ row ++ later → AreBytes rest → AreBytes later
+back-bytes rest row later e b =
+    let whole = subst (λ (s : List ℕ). AreBytes s) e b in
+    subst (λ (s : List ℕ). AreBytes s) (drop-append_seam row later) (λ k. rw get_or-drop (whole (length row + k)))
 
 -- the first n bytes, one by one
 first-each : (n : ℕ) (s : List ℕ) → n ≤ length s → take n s ≡ each (λ k. get_or s k 0) n
@@ -71,7 +78,7 @@ module _ (s : List ℕ) (bytes : AreBytes s) where
   word-bytes long = digits _ _ _ _ _ _ _ _ (bytes 0) (bytes 1) (bytes 2) (bytes 3) (bytes 4) (bytes 5) (bytes 6) (bytes 7) ∙ sym (first-each 8 s long)
 
 -- ---- a row of eight bytes or more, of which the number is written first
-pub begun-word : (b₀ : List ℕ) (at : ℕ) (text : List ℕ) → at + length text ≤ length b₀ → 8 ≤ length text → AreBytes text
+begun-word : (b₀ : List ℕ) (at : ℕ) (text : List ℕ) → at + length text ≤ length b₀ → 8 ≤ length text → AreBytes text
     → (first : ℕ) → first ≡ number8 text 0 → (word after : List ℕ) → word ≡ word_bytes first
     → after ≡ take at b₀ ++ (word ++ drop (at + 8 - at) (drop at b₀)) → Begun b₀ at text after 8
 begun-word b₀ at text room long bytes first is word after e left =
@@ -79,6 +86,10 @@ begun-word b₀ at text room long bytes first is word after e left =
     let written : after ≡ pasted b₀ at (take 8 text) = left ∙ part-put text 0 8 long b₀ at word same in
     let l : length (take 8 text) ≡ 8 = length-take-le 8 text long in
     record { long = ap length written ∙ pasted_length b₀ at (take 8 text) (omega arith); bytes = written }
+
+pub first-stands : {b₀ : List ℕ} {at : ℕ} {text : List ℕ} {first : ℕ} {word : List ℕ} → (8 ≤ length text) × (at + length text ≤ length b₀) → AreBytes text
+    → first ≡ number8 text 0 → word ≡ word_bytes first → Begun b₀ at text (take at b₀ ++ (word ++ drop (at + 8 - at) (drop at b₀))) 8
+first-stands inside bytes is e = begun-word _ _ _ inside.1 inside.0 bytes _ is _ _ e refl
 
 -- the bytes stand up to a place from `last` to `end`: a part from the one to the other is all that is missing
 pub record Nearly (b₀ : List ℕ) (at : ℕ) (text b : List ℕ) (last end : ℕ) : Type 0 where

@@ -2,11 +2,12 @@
 
 #![tactic(auto)]
 
+mod by_slots;
 mod copying;
-mod few;
 mod mapped;
 mod masking;
 mod offsets;
+mod readable;
 mod reading;
 mod run;
 mod scan;

@@ -5,8 +5,8 @@ ghost use Rattle.rows.specs.Run.{run_rows};
 ghost use Rattle.rows.specs.Masked.{place_verdict};
 ghost use Rattle.rows.specs.Scan.{Usable};
 
+use crate::readable::is_readable;
 use crate::run::row_offset;
-use crate::scan::is_readable;
 use access::rights::View;
 use refusals::Refusal;
 

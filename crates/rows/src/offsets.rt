@@ -6,9 +6,10 @@ ghost use Rattle.rows.specs.Run.{IsRun, row_offset, offset_of, run_rows};
 ghost use Rattle.rows.specs.Table.{row_readable};
 ghost use Rattle.rows.specs.Scan.{Usable};
 
-use crate::mapped::nth_mapped;
+use crate::by_slots::Held;
+use crate::readable::Readable;
 use crate::run::row_offset;
-use crate::scan::nth_readable;
+use crate::scan::nth_kept;
 use crate::slots::COUNT;
 use crate::tags::fill;
 use access::rights::View;
@@ -38,9 +39,9 @@ fn nth_of_many(image: &[u8], view: View, run: &[u8], width: usize, n: usize) -> 
     let end = put_map(image, view, &mut made);
     let mut slots = [0u32; COUNT];
     if !fill(image, &made[0..end], &mut slots) {
-        return nth_readable(image, view, run, width, n);
+        return nth_kept(&Readable { image, view }, run, width, n);
     }
-    nth_mapped(&slots, run, width, n)
+    nth_kept(&Held { slots: &slots }, run, width, n)
 }
 
 // The run's length where there is none. Whoever sees rows of unknown tags sees every row; a map pays from some hundreds of rows on.
@@ -52,7 +53,7 @@ pub fn nth_offset(image: &[u8], view: View, run: &[u8], width: usize, n: usize) 
         return nth_of_all(run, width, n);
     }
     if n < 256 {
-        return nth_readable(image, view, run, width, n);
+        return nth_kept(&Readable { image, view }, run, width, n);
     }
     nth_of_many(image, view, run, width, n)
 }

@@ -1,48 +1,20 @@
 // Reading the rows of the run that an accepted table holds.
-ghost use Rattle.std.specs.Prelude.{◌≡◌, leb, length, true};
+ghost use Rattle.std.specs.Prelude.{◌≡◌, true};
 ghost use Rattle.access.specs.Rights.{rights_of};
 ghost use Rattle.maps.specs.Map.{map_rule};
 ghost use Rattle.rows.specs.Run.{IsRun, kept, run_rows};
 ghost use Rattle.rows.specs.Table.{row_readable};
 ghost use Rattle.rows.specs.Reading.{handed_out};
-ghost use Rattle.rows.specs.Scan.{kept_bytes, Usable};
+ghost use Rattle.rows.specs.Scan.{Usable};
 
-use crate::mapped::read_by_map;
-use crate::scan::{copy_readable, readable_length};
+use crate::mapped::{Mapped, read_by_map};
+use crate::readable::Readable;
+use crate::scan::read_kept;
 use access::rights::View;
 use access::verdicts::unknown_read;
 use buffers::given::put_table;
 use maps::given::put_map;
 use refusals::Refusal;
-
-// Do that many bytes hold the readable rows? Where they hold the whole run, nothing has to be counted.
-fn has_room(image: &[u8], view: View, run: &[u8], width: usize, room: usize) -> bool
-    requires { Usable image.now run.now width }
-    ensures { result ≡ leb (length (kept_bytes (row_readable image.now (rights_of view)) run.now width)) room }
-{
-    if run.len() <= room {
-        return true;
-    }
-    readable_length(image, view, run, width) <= room
-}
-
-// A verdict is asked of each row.
-fn read_few(
-    image: &[u8],
-    view: View,
-    run: &[u8],
-    width: usize,
-    buffer: &mut [u8],
-) -> Result<usize, Refusal>
-    requires { Usable image.now run.now width }
-    ensures { (result, buffer.new) ≡ handed_out (kept (row_readable image.now (rights_of view)) (run_rows run.now width)) buffer.old }
-{
-    if !has_room(image, view, run, width, buffer.len()) {
-        return Err(Refusal::Room);
-    }
-    let end = copy_readable(image, view, run, width, buffer);
-    Ok(end / width)
-}
 
 // Every row is handed out.
 fn read_whole(run: &[u8], width: usize, buffer: &mut [u8]) -> Result<usize, Refusal>
@@ -71,7 +43,12 @@ pub fn read_judged(
     if unknown_read(image, view) {
         return read_whole(run, width, buffer);
     }
-    read_by_map(image, bits, false, run, width, buffer)
+    let mapped = Mapped {
+        image,
+        bits,
+        unknown: false,
+    };
+    read_by_map(&mapped, run, width, buffer)
 }
 
 // A verdict is asked of each label once, as a map of the session. By it, the read is the same.
@@ -90,7 +67,7 @@ fn read_many(
     read_judged(image, view, &made[0..end], run, width, buffer)
 }
 
-// 13 where the readable rows are longer than the buffer: then no byte is written. A map pays from some hundreds of rows on.
+// A verdict is asked of each row. A map pays from some hundreds of rows on.
 pub fn read_accepted(
     image: &[u8],
     view: View,
@@ -105,7 +82,7 @@ pub fn read_accepted(
         return read_whole(run, width, buffer);
     }
     if run.len() / width < 256 {
-        return read_few(image, view, run, width, buffer);
+        return read_kept(&Readable { image, view }, run, width, buffer);
     }
     read_many(image, view, run, width, buffer)
 }

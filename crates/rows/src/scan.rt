@@ -1,116 +1,78 @@
-// Rows of a run, one after the other.
-ghost use Rattle.std.specs.Prelude.{◌+◌, ◌-◌, ◌≤◌, ◌≡◌, cond, length};
-ghost use Rattle.image.specs.Check.{IsAccepted};
-ghost use Rattle.access.specs.Rights.{rights_of};
-ghost use Rattle.buffers.specs.Pasting.{Written};
-ghost use Rattle.rows.specs.Run.{offset_of, run_rows};
-ghost use Rattle.rows.specs.Table.{row_readable, row_writable};
-ghost use Rattle.rows.specs.Scan.{row_bytes, kept_bytes, Usable};
+// Rows of a run one after the other, for any test of a row. Each function is compiled apart for each test.
+ghost use Rattle.std.specs.Prelude.{◌≤◌, ◌≡◌, ℕ, Bool, List, leb, length};
+ghost use Rattle.rows.specs.Run.{IsRun, kept, offset_of, run_rows};
+ghost use Rattle.rows.specs.Reading.{handed_out};
+ghost use Rattle.rows.specs.Scan.{kept_bytes};
 
-use access::rights::View;
-use access::verdicts;
-use buffers::given::put;
-use fields::numbers::number4;
-use image::given::label_of_tag;
+use crate::copying::copy_kept;
+use refusals::Refusal;
 
-// The row's tag decides.
-#[inline(always)]
-pub fn is_readable(image: &[u8], view: View, row: &[u8]) -> bool
-    requires { IsAccepted image.now × (4 ≤ length row.now) }
-    ensures { result ≡ row_readable image.now (rights_of view) row.now }
-{
-    verdicts::reads_at(image, view, label_of_tag(image, number4(row, 0)))
+// Which rows count: a row has at least its tag.
+pub trait RowTest {
+    ghost passes: { Self → List ℕ → Bool };
+
+    fn passes(&self, row: &[u8]) -> bool
+        requires { 4 ≤ length row.now }
+        ensures { result ≡ passes self.now row.now };
 }
 
-pub fn is_writable(image: &[u8], view: View, row: &[u8]) -> bool
-    requires { IsAccepted image.now × (4 ≤ length row.now) }
-    ensures { result ≡ row_writable image.now (rights_of view) row.now }
-{
-    verdicts::may_write(image, view, number4(row, 0))
-}
-
-// How many bytes a row adds to a read.
-fn row_length(image: &[u8], view: View, row: &[u8]) -> usize
-    requires { IsAccepted image.now × (4 ≤ length row.now) }
-    ensures { result ≡ length (row_bytes (row_readable image.now (rights_of view)) row.now) }
-{
-    if is_readable(image, view, row) {
-        return row.len();
-    }
-    0
-}
-
-// How many bytes the readable rows have.
-pub fn readable_length(image: &[u8], view: View, run: &[u8], width: usize) -> usize
-    requires { Usable image.now run.now width }
-    ensures { result ≡ length (kept_bytes (row_readable image.now (rights_of view)) run.now width) }
+// How many bytes the rows have that pass.
+fn kept_length<T: RowTest>(test: &T, run: &[u8], width: usize) -> usize
+    requires { IsRun run.now width }
+    ensures { result ≡ length (kept_bytes (T.passes test.now) run.now width) }
 {
     let mut n = 0;
-    let mut at = 0;
-    while at < run.len() {
-        let end = at + width;
-        n += row_length(image, view, &run[at..end]);
-        at = end;
+    for row in run.chunks_exact(width) {
+        if test.passes(row) {
+            n += width;
+        }
     }
     n
 }
 
-// Writes what a row adds to a read over the buffer's bytes from `at` on, and tells where it ends.
-fn copy_row(image: &[u8], view: View, row: &[u8], buffer: &mut [u8], at: usize) -> usize
-    requires accepted { IsAccepted image.now × (4 ≤ length row.now) }
-    requires row_in_bounds { at + length (row_bytes (row_readable image.now (rights_of view)) row.now) ≤ length buffer.old }
-    ensures { Written buffer.old at (row_bytes (row_readable image.now (rights_of view)) row.now) buffer.new result }
+// Do that many bytes hold these rows? Where they hold the whole run, nothing has to be counted.
+pub fn kept_fits<T: RowTest>(test: &T, run: &[u8], width: usize, room: usize) -> bool
+    requires { IsRun run.now width }
+    ensures { result ≡ leb (length (kept_bytes (T.passes test.now) run.now width)) room }
 {
-    if is_readable(image, view, row) {
-        return put(row, buffer, at);
+    if run.len() <= room {
+        return true;
     }
-    at
+    kept_length(test, run, width) <= room
 }
 
-// Writes the readable rows to the front of the buffer, and tells where they end.
-pub fn copy_readable(image: &[u8], view: View, run: &[u8], width: usize, buffer: &mut [u8]) -> usize
-    requires usable { Usable image.now run.now width }
-    requires width_in_bounds { length (kept_bytes (row_readable image.now (rights_of view)) run.now width) ≤ length buffer.old }
-    ensures { Written buffer.old 0 (kept_bytes (row_readable image.now (rights_of view)) run.now width) buffer.new result }
-{
-    let mut to = 0;
-    let mut at = 0;
-    while at < run.len() {
-        let end = at + width;
-        to = copy_row(image, view, &run[at..end], buffer, to);
-        at = end;
-    }
-    to
-}
-
-// How many readable rows are still to be passed after a row.
-fn left_after(left: usize, readable: bool) -> usize
-    ensures { result ≡ cond readable (left - 1) left }
-{
-    if !readable {
-        return left;
-    }
-    if left == 0 {
-        return 0;
-    }
-    left - 1
-}
-
-// The offset of the n-th readable row; the run's length where there is none.
-pub fn nth_readable(image: &[u8], view: View, run: &[u8], width: usize, n: usize) -> usize
-    requires { Usable image.now run.now width }
-    ensures { result ≡ offset_of (row_readable image.now (rights_of view)) n (run_rows run.now width) }
+// The offset of the n-th row that passes; the run's length where there is none.
+pub fn nth_kept<T: RowTest>(test: &T, run: &[u8], width: usize, n: usize) -> usize
+    requires { IsRun run.now width }
+    ensures { result ≡ offset_of (T.passes test.now) n (run_rows run.now width) }
 {
     let mut left = n;
     let mut at = 0;
-    while at < run.len() {
-        let end = at + width;
-        let readable = is_readable(image, view, &run[at..end]);
-        if readable & (left == 0) {
-            return at;
+    for row in run.chunks_exact(width) {
+        if test.passes(row) {
+            if left == 0 {
+                return at;
+            }
+            left -= 1;
         }
-        left = left_after(left, readable);
-        at = end;
+        at += width;
     }
     at
+}
+
+// 13 where these rows are longer than the buffer: then no byte is written.
+pub fn read_kept<T: RowTest>(
+    test: &T,
+    run: &[u8],
+    width: usize,
+    buffer: &mut [u8],
+) -> Result<usize, Refusal>
+    requires { IsRun run.now width }
+    ensures { (result, buffer.new) ≡ handed_out (kept (T.passes test.now) (run_rows run.now width)) buffer.old }
+{
+    if !kept_fits(test, run, width, buffer.len()) {
+        return Err(Refusal::Room);
+    }
+    let end = copy_kept(test, run, width, buffer);
+    Ok(end / width)
 }

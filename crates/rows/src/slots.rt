@@ -21,9 +21,7 @@ fn has_later(slots: &Slots, from: usize, tag: u32) -> bool
     requires { from ≤ 2880 }
     ensures { result ≡ held_from 95 slots.now from tag }
 {
-    let end = from + 95;
-    let mut slot = from;
-    while slot < end {
+    for slot in from..from + 95 {
         let entry = slots[slot];
         if entry == 0 {
             return false;
@@ -31,7 +29,6 @@ fn has_later(slots: &Slots, from: usize, tag: u32) -> bool
         if entry == tag {
             return true;
         }
-        slot += 1;
     }
     false
 }
@@ -56,14 +53,12 @@ pub fn add(slots: &mut Slots, tag: u32) -> bool
     requires { (0 < tag) × (length slots.old ≡ slot_count) }
     ensures { result ≡ true → Added tag slots.old slots.new }
 {
-    let mut slot = slot_of(tag);
-    let end = slot + 96;
-    while slot < end {
+    let own = slot_of(tag);
+    for slot in own..own + 96 {
         if slots[slot] == 0 {
             slots[slot] = tag;
             return true;
         }
-        slot += 1;
     }
     false
 }

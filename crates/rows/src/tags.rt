@@ -17,10 +17,8 @@ pub fn fill(image: &[u8], bits: &[u8], slots: &mut Slots) -> bool
     ensures { result ≡ true → Complete image.now bits.now slots.new }
 {
     let shape = layout::shape_of(image, Kind::Label);
-    let count = shape.count;
     let mut here = walk::record_at(shape, 0);
-    let mut p = 0;
-    while p < count {
+    for p in 0..shape.count {
         if bit_of(bits, p) {
             let tag = number4(
                 layout::placed_part(image, shape, Kind::Label, p, here.at),
@@ -31,7 +29,6 @@ pub fn fill(image: &[u8], bits: &[u8], slots: &mut Slots) -> bool
             }
         }
         here = walk::next_record(shape, here, p);
-        p += 1;
     }
     true
 }

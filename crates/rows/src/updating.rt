@@ -5,8 +5,8 @@ ghost use Rattle.rows.specs.Updating.{update_with};
 ghost use Rattle.rows.specs.Scan.{UsableTable};
 
 use crate::offsets::nth_offset;
+use crate::readable::is_writable;
 use crate::run::run_of;
-use crate::scan::is_writable;
 use access::rights::View;
 use buffers::given::put;
 use refusals::Refusal;

@@ -23,4 +23,6 @@ loop-i-preserved c =
     (omega arith, rw (← add_assoc c.args.at l.i 1) (left-turn _ _ _ _ _ _ l.invariant.1 _ _ next _ _ c.requires byte))
 
 pub returns : goal.returns
-returns c = left_end _ _ _ _ _ _ c.loop-i.invariant.1 (drop_of_length-le c.args.text.now c.loop-i-test.false)
+returns c =
+    let all : c.loop-i.i ≡ length c.args.text.now = omega arith in
+    rw all at (left_end _ _ _ _ _ _ c.loop-i.invariant.1 (drop_of_length-le c.args.text.now c.loop-i-test.false))

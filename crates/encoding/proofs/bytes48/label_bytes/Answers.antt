@@ -10,7 +10,7 @@ returns c =
     label_kept _ _ record { level = search rules; compartments = search rules; groups = places-below _ }
     (rw (
       c.copy_from_slice-2.ensures.after,
-      c.set_bytes-groups.ensures,
+      c.set_bytes.ensures,
       c.copy_from_slice.ensures.after,
-      c.word_bytes-compartments.ensures,
+      c.to_le_bytes.ensures,
     ))

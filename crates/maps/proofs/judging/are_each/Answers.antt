@@ -6,22 +6,10 @@ use Rattle.maps.proofs.judging.are_each.Goals as goal
 pub loop-i-init : goal.loop-i-init
 loop-i-init c = (omega arith, rw sub-zero)
 
-pub bounds-bits-i : goal.bounds-bits-i
-bounds-bits-i c = omega arith
-
-pub overflow_cast-rest : goal.overflow_cast-rest
-overflow_cast-rest c = omega arith
-
 pub returns-then-bits-i : goal.returns-then-bits-i
 returns-then-bits-i c =
     let l = c.loop-i in
     each-stop _ _ _ l.i l.rest c.requires l.invariant.1 c.loop-i-test.true c.if-bits-i.true
-
-pub overflow_add-i : goal.overflow_add-i
-overflow_add-i c = omega arith
-
-pub loop-i-smaller : goal.loop-i-smaller
-loop-i-smaller c = omega arith
 
 pub loop-i-preserved : goal.loop-i-preserved
 loop-i-preserved c =

@@ -7,6 +7,3 @@ use Rattle.maps.proofs.judging.are_each.Given as goal
 
 abbrev pub invariant-loop-i : goal.invariant-loop-i
 invariant-loop-i l = (l.i ≤ l.n) × (same_bytes (drop l.i l.bits) (bytes_of (l.n - l.i) l.rest) ≡ same_bytes l.bits (bytes_of l.n l.w))
-
-abbrev pub decreases-loop-i : goal.decreases-loop-i
-decreases-loop-i l = l.n - l.i

@@ -12,18 +12,6 @@ use Rattle.maps.proofs.making.put_each.Goals as goal
 pub loop-i-init : goal.loop-i-init
 loop-i-init c = (omega arith, left-start _ _ _ _ (rw sub-zero))
 
-pub overflow_cast-to : goal.overflow_cast-to
-overflow_cast-to c = omega arith
-
-pub bounds-to-i : goal.bounds-to-i
-bounds-to-i c = omega (arith, c.loop-i.invariant.1.long, c.requires, c.loop-i-test.true)
-
-pub overflow_add-i : goal.overflow_add-i
-overflow_add-i c = omega arith
-
-pub loop-i-smaller : goal.loop-i-smaller
-loop-i-smaller c = omega arith
-
 pub loop-i-preserved : goal.loop-i-preserved
 loop-i-preserved c =
     let l = c.loop-i in

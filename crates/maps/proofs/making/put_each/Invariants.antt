@@ -5,6 +5,3 @@ use Rattle.maps.proofs.making.put_each.Given as goal
 
 abbrev pub invariant-loop-i : goal.invariant-loop-i
 invariant-loop-i l = (l.i ≤ l.n) × Left l.initial.to 0 (bytes_of l.n l.w) l.to l.i (bytes_of (l.n - l.i) l.rest)
-
-abbrev pub decreases-loop-i : goal.decreases-loop-i
-decreases-loop-i l = l.n - l.i

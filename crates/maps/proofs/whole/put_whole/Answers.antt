@@ -26,16 +26,6 @@ pub loop-k-init : goal.loop-k-init
 unfolding whole_map
 loop-k-init c = (omega arith, left-start _ _ _ _ (rw sub-zero))
 
-pub bounds-buffer-k : goal.bounds-buffer-k
-bounds-buffer-k c =
-    omega (arith, c.loop-k.invariant.1.long, c.loop-k-test.true, c.requires.0, c.requires.1)
-
-pub overflow_add-k : goal.overflow_add-k
-overflow_add-k c = omega arith
-
-pub loop-k-smaller : goal.loop-k-smaller
-loop-k-smaller c = omega arith
-
 pub loop-k-preserved : goal.loop-k-preserved
 loop-k-preserved c =
     let l = c.loop-k in
@@ -57,9 +47,6 @@ returns-then-left-eq0 c =
     let done : (n + 7) / 8 ≤ l.k = omega (arith, c.requires.0) in
     subst (λ (r : ℕ). Written a.buffer.now 0 (whole_map n) l.buffer r) all (left_end _ _ _ _ _ _ l.invariant.1 (list-end _ _ _ done))
 
-pub all_below-last-requires : goal.all_below-last-requires
-all_below-last-requires c = omega arith
-
 pub overflow_cast-last : goal.overflow_cast-last
 unfolding all_below
 overflow_cast-last c =
@@ -67,14 +54,10 @@ overflow_cast-last c =
     let small : n % 8 ≤ 8 = omega arith in
     record { fits = omega (arith, c.all_below-last.ensures, pow_mono small, pow_pos (n % 8)) }
 
-pub bounds-buffer-k-2 : goal.bounds-buffer-k-2
-bounds-buffer-k-2 c =
-    omega (arith, c.loop-k.invariant.0, c.loop-k.invariant.1.long, c.if-left-eq0.false, c.requires.0, c.requires.1)
-
 pub shape_of-buffer : goal.shape_of-buffer
 shape_of-buffer c =
     let l = c.loop-k in
-    length-set l.buffer l.k c.all_below-last.result ∙ l.invariant.1.long
+    length-set l.buffer (c.args.labels / 8) c.all_below-last.result ∙ l.invariant.1.long
 
 pub returns : goal.returns
 returns c =
@@ -87,5 +70,5 @@ returns c =
     let room : (n + 7) / 8 ≤ length a.buffer.now = omega (arith, c.requires.0, c.requires.1) in
     let done : (n + 7) / 8 ≤ l.k + 1 = omega arith in
     let all : l.k + 1 ≡ a.count = omega (arith, c.requires.0) in
-    subst (λ (r : ℕ). Written a.buffer.now 0 (whole_map n) (set l.buffer l.k c.all_below-last.result) r) all
-    (left_end _ _ _ _ _ _ (turn n _ _ l.k _ room l.invariant.1 inside last) (list-end _ _ _ done))
+    let written = left_end _ _ _ _ _ _ (turn n _ _ l.k _ room l.invariant.1 inside last) (list-end _ _ _ done) in
+    rw (← full) (subst (λ (r : ℕ). Written a.buffer.now 0 (whole_map n) (set l.buffer l.k c.all_below-last.result) r) all written)

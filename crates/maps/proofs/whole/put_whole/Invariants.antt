@@ -11,6 +11,3 @@ rest n k = list_from (whole_byte n) ((n + 7) / 8 - k) k
 
 abbrev pub invariant-loop-k : goal.invariant-loop-k
 invariant-loop-k l = (l.k ≤ l.full) × Left l.initial.buffer 0 (whole_map l.labels) l.buffer l.k (rest l.labels l.k)
-
-abbrev pub decreases-loop-k : goal.decreases-loop-k
-decreases-loop-k l = l.full - l.k

@@ -10,7 +10,8 @@ use Rattle.sets.specs.Sets.{collect}
 use Rattle.header.specs.declared.edition.Edition.{Edition}
 use Rattle.header.specs.declared.layout.Kind.TheVariants.{Label}
 use Rattle.header.specs.declared.layout.Shape.{Shape}
-use Rattle.header.specs.Layout.{record_size, record_offset, labels, Shaped, Standing}
+use Rattle.header.specs.declared.walk.RecordAt.{RecordAt}
+use Rattle.header.specs.Layout.{record_size, record_offset, labels, Fitted, Shaped, Standing}
 use Rattle.header.proofs.Inside.{slot-below, record-upto}
 use Rattle.labels.specs.Label.{record_label}
 use Rattle.access.specs.Rights.{rights_of}
@@ -25,6 +26,18 @@ use Rattle.maps.proofs.words.map_word.Goals as goal
 count-is : {im : List ℕ} {shape : Shape} → Shaped im Label shape → shape.count ≡ labels im
 count-is s = ap (λ (x : Shape). x.count) s.is
 
+-- from the place where the walk stands, n records of its block
+run_of : {im : List ℕ} {shape : Shape} {here : RecordAt} {n count : ℕ} (k i : ℕ) → Fitted im → Shaped im Label shape → Standing shape (64 * k + i) here
+    → i < count → count ≡ min 64 (shape.count - 64 * k) → 64 * k < labels im → n ≡ min (count - i) here.left → Run im shape (64 * k + i) n
+run_of {shape = shape} k i fitted shaped stand more all some is =
+    record {
+      fitted = fitted;
+      shaped = shaped;
+      some = omega (arith, is, more, stand.more, slot-below shape shaped.roomy (64 * k + i));
+      near = omega (arith, is, stand.more);
+      among = omega (arith, is, count-is shaped, some, all, more);
+    }
+
 pub overflow_mul-first : goal.overflow_mul-first
 overflow_mul-first c =
     omega (arith, count-is c.requires.counted.1.0, c.requires.counted.1.0.few, c.requires.k_bound.0)
@@ -38,84 +51,34 @@ unfolding collect
 loop-i-init c =
     (omega arith, (rw add-zero c.requires.k_bound.1, refl))
 
-pub overflow_sub-count : goal.overflow_sub-count
-overflow_sub-count c = omega arith
-
 pub overflow_mul-end : goal.overflow_mul-end
 overflow_mul-end c =
-    let run_at : let a = c.args in Run a.image.now a.shape (64 * a.k + c.loop-i.i) c.lower-n.result = (
-    let l = c.loop-i in
-    let a = c.args in
-    let shaped = c.requires.counted.1.0 in
-    let stand = l.invariant.1.0 in
-    record {
-      fitted = c.requires.counted.0.fitted;
-      shaped = shaped;
-      some = omega (arith, c.lower-n.ensures, c.loop-i-test.true, stand.more, slot-below a.shape shaped.roomy (64 * a.k + l.i));
-      near = omega (arith, c.lower-n.ensures, stand.more);
-      among = omega (arith, c.lower-n.ensures, count-is shaped, c.requires.k_bound.0, c.lower-count.ensures, c.loop-i-test.true);
-    }
-    ) in
-    let run_end : let a = c.args in c.loop-i.here.at + a.shape.size * c.lower-n.result ≤ length a.image.now = omega (arith, run_fits run_at, c.loop-i.invariant.1.0.begins) in
+    let run_at = run_of c.args.k c.loop-i.i c.requires.counted.0.fitted c.requires.counted.1.0 c.loop-i.invariant.1.0 c.loop-i-test.true
+    c.lower-count.ensures c.requires.k_bound.0 c.lower-n.ensures in
+    let run_end : let a = c.args in c.loop-i.here.at + a.shape.size * c.lower-n.result ≤ length a.image.now =
+    omega (arith, run_fits run_at, c.loop-i.invariant.1.0.begins) in
     omega (arith, run_end)
 
 pub overflow_add-end : goal.overflow_add-end
 overflow_add-end c =
-    let run_at : let a = c.args in Run a.image.now a.shape (64 * a.k + c.loop-i.i) c.lower-n.result = (
-    let l = c.loop-i in
-    let a = c.args in
-    let shaped = c.requires.counted.1.0 in
-    let stand = l.invariant.1.0 in
-    record {
-      fitted = c.requires.counted.0.fitted;
-      shaped = shaped;
-      some = omega (arith, c.lower-n.ensures, c.loop-i-test.true, stand.more, slot-below a.shape shaped.roomy (64 * a.k + l.i));
-      near = omega (arith, c.lower-n.ensures, stand.more);
-      among = omega (arith, c.lower-n.ensures, count-is shaped, c.requires.k_bound.0, c.lower-count.ensures, c.loop-i-test.true);
-    }
-    ) in
-    let run_end : let a = c.args in c.loop-i.here.at + a.shape.size * c.lower-n.result ≤ length a.image.now = omega (arith, run_fits run_at, c.loop-i.invariant.1.0.begins) in
+    let run_at = run_of c.args.k c.loop-i.i c.requires.counted.0.fitted c.requires.counted.1.0 c.loop-i.invariant.1.0 c.loop-i-test.true
+    c.lower-count.ensures c.requires.k_bound.0 c.lower-n.ensures in
+    let run_end : let a = c.args in c.loop-i.here.at + a.shape.size * c.lower-n.result ≤ length a.image.now =
+    omega (arith, run_fits run_at, c.loop-i.invariant.1.0.begins) in
     omega (arith, run_end)
-
-pub slice_bounds-run_bits-count : goal.slice_bounds-run_bits-count
-slice_bounds-run_bits-count c = omega arith
-
-pub slice_bounds-run_bits-start : goal.slice_bounds-run_bits-start
-slice_bounds-run_bits-start c = omega arith
 
 pub slice_bounds-run_bits-end : goal.slice_bounds-run_bits-end
 slice_bounds-run_bits-end c =
-    let run_at : let a = c.args in Run a.image.now a.shape (64 * a.k + c.loop-i.i) c.lower-n.result = (
-    let l = c.loop-i in
-    let a = c.args in
-    let shaped = c.requires.counted.1.0 in
-    let stand = l.invariant.1.0 in
-    record {
-      fitted = c.requires.counted.0.fitted;
-      shaped = shaped;
-      some = omega (arith, c.lower-n.ensures, c.loop-i-test.true, stand.more, slot-below a.shape shaped.roomy (64 * a.k + l.i));
-      near = omega (arith, c.lower-n.ensures, stand.more);
-      among = omega (arith, c.lower-n.ensures, count-is shaped, c.requires.k_bound.0, c.lower-count.ensures, c.loop-i-test.true);
-    }
-    ) in
-    let run_end : let a = c.args in c.loop-i.here.at + a.shape.size * c.lower-n.result ≤ length a.image.now = omega (arith, run_fits run_at, c.loop-i.invariant.1.0.begins) in
+    let run_at = run_of c.args.k c.loop-i.i c.requires.counted.0.fitted c.requires.counted.1.0 c.loop-i.invariant.1.0 c.loop-i-test.true
+    c.lower-count.ensures c.requires.k_bound.0 c.lower-n.ensures in
+    let run_end : let a = c.args in c.loop-i.here.at + a.shape.size * c.lower-n.result ≤ length a.image.now =
+    omega (arith, run_fits run_at, c.loop-i.invariant.1.0.begins) in
     omega (arith, run_end)
 
 pub run_bits-run-requires : goal.run_bits-run-requires
 run_bits-run-requires c =
-    let run_at : let a = c.args in Run a.image.now a.shape (64 * a.k + c.loop-i.i) c.lower-n.result = (
-    let l = c.loop-i in
-    let a = c.args in
-    let shaped = c.requires.counted.1.0 in
-    let stand = l.invariant.1.0 in
-    record {
-      fitted = c.requires.counted.0.fitted;
-      shaped = shaped;
-      some = omega (arith, c.lower-n.ensures, c.loop-i-test.true, stand.more, slot-below a.shape shaped.roomy (64 * a.k + l.i));
-      near = omega (arith, c.lower-n.ensures, stand.more);
-      among = omega (arith, c.lower-n.ensures, count-is shaped, c.requires.k_bound.0, c.lower-count.ensures, c.loop-i-test.true);
-    }
-    ) in
+    let run_at = run_of c.args.k c.loop-i.i c.requires.counted.0.fitted c.requires.counted.1.0 c.loop-i.invariant.1.0 c.loop-i-test.true
+    c.lower-count.ensures c.requires.k_bound.0 c.lower-n.ensures in
     let run-within : c.loop-i.i + c.lower-n.result ≤ 64 = omega (arith, c.lower-n.ensures, c.lower-count.ensures, c.loop-i-test.true) in
     let run = run_at in
     let l = c.loop-i in
@@ -127,54 +90,21 @@ run_bits-run-requires c =
 
 pub overflow_shl-shifted : goal.overflow_shl-shifted
 overflow_shl-shifted c =
-    let run_at : let a = c.args in Run a.image.now a.shape (64 * a.k + c.loop-i.i) c.lower-n.result = (
-    let l = c.loop-i in
-    let a = c.args in
-    let shaped = c.requires.counted.1.0 in
-    let stand = l.invariant.1.0 in
-    record {
-      fitted = c.requires.counted.0.fitted;
-      shaped = shaped;
-      some = omega (arith, c.lower-n.ensures, c.loop-i-test.true, stand.more, slot-below a.shape shaped.roomy (64 * a.k + l.i));
-      near = omega (arith, c.lower-n.ensures, stand.more);
-      among = omega (arith, c.lower-n.ensures, count-is shaped, c.requires.k_bound.0, c.lower-count.ensures, c.loop-i-test.true);
-    }
-    ) in
+    let run_at = run_of c.args.k c.loop-i.i c.requires.counted.0.fitted c.requires.counted.1.0 c.loop-i.invariant.1.0 c.loop-i-test.true
+    c.lower-count.ensures c.requires.k_bound.0 c.lower-n.ensures in
     let run-within : c.loop-i.i + c.lower-n.result ≤ 64 = omega (arith, c.lower-n.ensures, c.lower-count.ensures, c.loop-i-test.true) in
     omega (arith, run-within, run_at.some)
 
 pub overflow_add-first : goal.overflow_add-first
 overflow_add-first c =
-    let run_at : let a = c.args in Run a.image.now a.shape (64 * a.k + c.loop-i.i) c.lower-n.result = (
-    let l = c.loop-i in
-    let a = c.args in
-    let shaped = c.requires.counted.1.0 in
-    let stand = l.invariant.1.0 in
-    record {
-      fitted = c.requires.counted.0.fitted;
-      shaped = shaped;
-      some = omega (arith, c.lower-n.ensures, c.loop-i-test.true, stand.more, slot-below a.shape shaped.roomy (64 * a.k + l.i));
-      near = omega (arith, c.lower-n.ensures, stand.more);
-      among = omega (arith, c.lower-n.ensures, count-is shaped, c.requires.k_bound.0, c.lower-count.ensures, c.loop-i-test.true);
-    }
-    ) in
+    let run_at = run_of c.args.k c.loop-i.i c.requires.counted.0.fitted c.requires.counted.1.0 c.loop-i.invariant.1.0 c.loop-i-test.true
+    c.lower-count.ensures c.requires.k_bound.0 c.lower-n.ensures in
     omega (arith, run_at.among, run_at.shaped.few, count-is run_at.shaped)
 
 pub forward-here-requires : goal.forward-here-requires
 forward-here-requires c =
-    let run_at : let a = c.args in Run a.image.now a.shape (64 * a.k + c.loop-i.i) c.lower-n.result = (
-    let l = c.loop-i in
-    let a = c.args in
-    let shaped = c.requires.counted.1.0 in
-    let stand = l.invariant.1.0 in
-    record {
-      fitted = c.requires.counted.0.fitted;
-      shaped = shaped;
-      some = omega (arith, c.lower-n.ensures, c.loop-i-test.true, stand.more, slot-below a.shape shaped.roomy (64 * a.k + l.i));
-      near = omega (arith, c.lower-n.ensures, stand.more);
-      among = omega (arith, c.lower-n.ensures, count-is shaped, c.requires.k_bound.0, c.lower-count.ensures, c.loop-i-test.true);
-    }
-    ) in
+    let run_at = run_of c.args.k c.loop-i.i c.requires.counted.0.fitted c.requires.counted.1.0 c.loop-i.invariant.1.0 c.loop-i-test.true
+    c.lower-count.ensures c.requires.k_bound.0 c.lower-n.ensures in
     let run = run_at in
     let l = c.loop-i in
     let a = c.args in
@@ -190,36 +120,14 @@ overflow_add-i c =
 
 pub loop-i-smaller : goal.loop-i-smaller
 loop-i-smaller c =
-    let run_at : let a = c.args in Run a.image.now a.shape (64 * a.k + c.loop-i.i) c.lower-n.result = (
-    let l = c.loop-i in
-    let a = c.args in
-    let shaped = c.requires.counted.1.0 in
-    let stand = l.invariant.1.0 in
-    record {
-      fitted = c.requires.counted.0.fitted;
-      shaped = shaped;
-      some = omega (arith, c.lower-n.ensures, c.loop-i-test.true, stand.more, slot-below a.shape shaped.roomy (64 * a.k + l.i));
-      near = omega (arith, c.lower-n.ensures, stand.more);
-      among = omega (arith, c.lower-n.ensures, count-is shaped, c.requires.k_bound.0, c.lower-count.ensures, c.loop-i-test.true);
-    }
-    ) in
+    let run_at = run_of c.args.k c.loop-i.i c.requires.counted.0.fitted c.requires.counted.1.0 c.loop-i.invariant.1.0 c.loop-i-test.true
+    c.lower-count.ensures c.requires.k_bound.0 c.lower-n.ensures in
     omega (arith, run_at.some, c.loop-i-test.true)
 
 pub loop-i-preserved : goal.loop-i-preserved
 loop-i-preserved c =
-    let run_at : let a = c.args in Run a.image.now a.shape (64 * a.k + c.loop-i.i) c.lower-n.result = (
-    let l = c.loop-i in
-    let a = c.args in
-    let shaped = c.requires.counted.1.0 in
-    let stand = l.invariant.1.0 in
-    record {
-      fitted = c.requires.counted.0.fitted;
-      shaped = shaped;
-      some = omega (arith, c.lower-n.ensures, c.loop-i-test.true, stand.more, slot-below a.shape shaped.roomy (64 * a.k + l.i));
-      near = omega (arith, c.lower-n.ensures, stand.more);
-      among = omega (arith, c.lower-n.ensures, count-is shaped, c.requires.k_bound.0, c.lower-count.ensures, c.loop-i-test.true);
-    }
-    ) in
+    let run_at = run_of c.args.k c.loop-i.i c.requires.counted.0.fitted c.requires.counted.1.0 c.loop-i.invariant.1.0 c.loop-i-test.true
+    c.lower-count.ensures c.requires.k_bound.0 c.lower-n.ensures in
     let run-within : c.loop-i.i + c.lower-n.result ≤ 64 = omega (arith, c.lower-n.ensures, c.lower-count.ensures, c.loop-i-test.true) in
     let run = run_at in
     let l = c.loop-i in

@@ -9,9 +9,13 @@ first-none : (a b : Bool) → (a || b) ≡ false → a ≡ false
 first-none true b e = absurd (true≢false e)
 first-none false b e = refl
 
+pub many_by_map-requires : goal.many_by_map-requires
+many_by_map-requires c = record { run = c.requires; unknown = first-none _ _ c.if-by-run.false }
+
 pub returns : goal.returns
 returns c =
     let a = c.args in
-    let hidden : a.unknown ≡ false = first-none _ _ c.if-unknown-run.false in
+    let m = a.by.now in
+    let hidden : m.unknown ≡ false = first-none _ _ c.if-by-run.false in
     c.many_by_map.ensures
-    ∙ ap (λ (u : Bool). handed_out (kept (row_mapped a.image.now a.bits.now u) (run_rows a.run.now a.width)) a.buffer.now) (sym hidden)
+    ∙ ap (λ (u : Bool). handed_out (kept (row_mapped m.image.now m.bits.now u) (run_rows a.run.now a.width)) a.buffer.now) (sym hidden)

@@ -26,4 +26,4 @@ returns c =
     let a = c.args in
     let complete = c.fill.ensures c.if-not-fill.false in
     let same = made-same _ _ c.requires.usable.accepted _ _ _ refl c.put_map-end.ensures _ (sym c.requires.view_value) in
-    c.nth_mapped.ensures ∙ offset-same _ _ (λ row. row-held _ _ _ complete row ∙ same row) a.n (run_rows a.run.now a.width)
+    c.nth_kept-2.ensures ∙ offset-same _ _ (λ row. row-held _ _ _ complete row ∙ same row) a.n (run_rows a.run.now a.width)

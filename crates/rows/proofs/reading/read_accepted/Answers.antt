@@ -14,9 +14,3 @@ returns-then-unknown_read c =
     let a = c.args in
     let all = every-kept a.image.now (rights_of a.view) (sym c.unknown_read.ensures ∙ c.if-unknown_read.true) in
     rw (all (run_rows a.run.now a.width)) c.read_whole.ensures
-
-pub returns-then-run-width-lt256 : goal.returns-then-run-width-lt256
-returns-then-run-width-lt256 c = c.read_few.ensures
-
-pub returns : goal.returns
-returns c = c.read_many.ensures

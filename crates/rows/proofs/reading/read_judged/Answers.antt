@@ -23,12 +23,10 @@ returns-then-unknown_read c =
     let all = every-kept a.image.now (rights_of a.view) (sym c.unknown_read.ensures ∙ c.if-unknown_read.true) in
     rw (all (run_rows a.run.now a.width)) c.read_whole.ensures
 
-pub read_by_map-requires : goal.read_by_map-requires
-read_by_map-requires c =
-    record {
-      mapping = record { accepted = c.requires.0.accepted; enough = rule-enough _ _ _ c.requires.1 };
-      whole = c.requires.0.whole;
-    }
+pub invariant_of-mapped : goal.invariant_of-mapped
+invariant_of-mapped c = record {
+  mapping = record { accepted = c.requires.0.accepted; enough = rule-enough _ _ _ c.requires.1 };
+}
 
 pub returns : goal.returns
 returns c =

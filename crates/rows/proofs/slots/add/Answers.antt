@@ -7,32 +7,17 @@ use Rattle.fields.proofs.Both.{below_or}
 use Rattle.rows.proofs.HeldTags.{added}
 use Rattle.rows.proofs.slots.add.Goals as goal
 
-pub overflow_add-end : goal.overflow_add-end
-overflow_add-end c = omega arith
-
 pub loop-slot-init : goal.loop-slot-init
 loop-slot-init c = (refl, (omega arith, (omega arith, λ k low high. absurd (omega arith))))
-
-pub offset_bounds-slots-slot : goal.offset_bounds-slots-slot
-offset_bounds-slots-slot c = omega arith
-
-pub offset_bounds-slots-slot-then-slots-slot-eq0 : goal.offset_bounds-slots-slot-then-slots-slot-eq0
-offset_bounds-slots-slot-then-slots-slot-eq0 c = omega arith
 
 pub returns-then-slots-slot-eq0 : goal.returns-then-slots-slot-eq0
 returns-then-slots-slot-eq0 c =
     let inv = c.loop-slot.invariant in
-    let own = c.slot_of-slot.ensures.0 in
+    let own = c.slot_of-own.ensures.0 in
     λ (yes : true ≡ true).
     rw inv.0
     (added _ _ _ (omega (arith, c.requires.1)) (rw inv.0 at c.if-slots-slot-eq0.true) c.requires.0 (rw (← own) inv.1.0)
     (rw (← own) c.loop-slot-test.true) (rw (← own) inv.1.1.1))
-
-pub overflow_add-slot : goal.overflow_add-slot
-overflow_add-slot c = omega arith
-
-pub loop-slot-smaller : goal.loop-slot-smaller
-loop-slot-smaller c = omega arith
 
 pub loop-slot-preserved : goal.loop-slot-preserved
 loop-slot-preserved c =

@@ -4,14 +4,8 @@ use native.Mathlib.Omega.{arith}
 use Rattle.rows.proofs.HeldTags.{held-free, search-found, search-on, search-end}
 use Rattle.rows.proofs.slots.has_later.Goals as goal
 
-pub overflow_add-end : goal.overflow_add-end
-overflow_add-end c = omega arith
-
 pub loop-slot-init : goal.loop-slot-init
 loop-slot-init c = (omega arith, rw add-sub_cancel_left)
-
-pub offset_bounds-slots-slot : goal.offset_bounds-slots-slot
-offset_bounds-slots-slot c = omega arith
 
 pub returns-then-entry-eq0 : goal.returns-then-entry-eq0
 returns-then-entry-eq0 c = sym (held-free _ _ _ _ c.if-entry-eq0.true) ∙ c.loop-slot.invariant.1
@@ -19,12 +13,6 @@ returns-then-entry-eq0 c = sym (held-free _ _ _ _ c.if-entry-eq0.true) ∙ c.loo
 pub returns-then-entry-tag : goal.returns-then-entry-tag
 returns-then-entry-tag c =
     sym (search-found _ _ _ _ c.loop-slot-test.true c.if-entry-eq0.false c.if-entry-tag.true) ∙ c.loop-slot.invariant.1
-
-pub overflow_add-slot : goal.overflow_add-slot
-overflow_add-slot c = omega arith
-
-pub loop-slot-smaller : goal.loop-slot-smaller
-loop-slot-smaller c = omega arith
 
 pub loop-slot-preserved : goal.loop-slot-preserved
 loop-slot-preserved c =

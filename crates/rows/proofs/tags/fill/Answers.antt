@@ -55,13 +55,6 @@ next_record-here-requires c =
     let inside : c.loop-p.p ≤ labels c.args.image.now = omega (arith, ap (λ (x : Shape). x.count) s.is, c.loop-p-test.true) in
     (s.roomy, (c.loop-p.invariant.1.0, rw s.is (omega (arith, record-upto _ fitted Label c.loop-p.p inside))))
 
-pub overflow_add-p : goal.overflow_add-p
-overflow_add-p c =
-    omega (arith, c.loop-p-test.true, c.shape_of-shape.ensures.few)
-
-pub loop-p-smaller : goal.loop-p-smaller
-loop-p-smaller c = omega (arith, c.loop-p-test.true)
-
 pub loop-p-preserved : goal.loop-p-preserved
 loop-p-preserved c =
     let im = c.args.image.now in
