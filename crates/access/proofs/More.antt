@@ -19,7 +19,10 @@ use Rattle.labels.specs.Label.{Marks, label_at}
 use Rattle.labels.specs.GroupTest.{group_test}
 use Rattle.access.specs.Rights.{Rights, with_privileges}
 use Rattle.records.specs.Fields.{place_of_read, place_of_full, place_of_compaccess}
-use Rattle.access.specs.Verdicts.{reads_all, writes_all, holds_compaccess, read_level_rule, read_groups_rule, read_compartments_rule, compaccess_reads, read_tests, write_level_rule, write_groups_rule, write_compartments_rule, tree_sets_rule, release_sets_rule, write_sets_rule, compaccess_writes, write_tests, reads_label, writes_label, known_tag, may_read, may_write}
+use Rattle.access.specs.Verdicts.{reads_all, writes_all, holds_compaccess, reads_label, writes_label, known_tag, may_read, may_write}
+use Rattle.access.specs.Verdicts.{read_level_rule, read_groups_rule, read_compartments_rule, compaccess_reads, read_tests}
+use Rattle.access.specs.Verdicts.{write_level_rule, write_groups_rule, write_compartments_rule, compaccess_writes, write_tests}
+use Rattle.access.specs.Verdicts.{tree_sets_rule, release_sets_rule, write_sets_rule}
 use Rattle.access.proofs.Tests.{unknown-mono, and_mono, or_mono, cond-mono}
 
 -- the second's groups pass the group test wherever the first's do: they reach more; in the release profile they are fewer
@@ -115,7 +118,9 @@ module _ (a b : Rights) (more : MoreWriting a b) (row : Marks) where
   unfolding write_tests compaccess_writes holds_compaccess
   writes_more =
       or_mono _ _ _ _ (and_mono _ _ _ _ write-level-more write-sets-more)
-      (and_mono _ _ _ _ (and_mono _ _ _ _ (and_mono _ _ _ _ (holds_more a b more.reading place_of_compaccess) write-level-more) (λ e. e)) write-compartment-more)
+      (and_mono _ _ _ _
+      (and_mono _ _ _ _ (and_mono _ _ _ _ (holds_more a b more.reading place_of_compaccess) write-level-more) (λ e. e))
+      write-compartment-more)
 
 -- ---- verdicts on a tag
 module _ (a b : Rights) where
@@ -175,7 +180,8 @@ module _ (a : Rights) where
   pub compaccess-held : holds_compaccess (with_compaccess a) ≡ true
   unfolding holds_compaccess
   compaccess-held =
-      within_has (one place_of_compaccess) (union a.privileges (one place_of_compaccess)) (within-union-right a.privileges (one place_of_compaccess)) place_of_compaccess
+      within_has (one place_of_compaccess) (union a.privileges (one place_of_compaccess))
+      (within-union-right a.privileges (one place_of_compaccess)) place_of_compaccess
       (one_has place_of_compaccess place_of_compaccess)
 
   pub compaccess-reads : (im : List ℕ) (tag : ℕ) → may_read im a tag ≡ true → may_read im (with_compaccess a) tag ≡ true

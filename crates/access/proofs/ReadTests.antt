@@ -4,7 +4,8 @@ use mathlib.Core.Bool.{Bool, true, false, not, ◌&&◌, ◌||◌}
 use Rattle.sets.specs.Sets.{empty}
 use Rattle.labels.specs.Label.{Marks}
 use Rattle.access.specs.Rights.{Rights}
-use Rattle.access.specs.Verdicts.{reads_all, holds_compaccess, read_level_rule, read_groups_rule, read_compartments_rule, compaccess_reads, read_tests, reads_label}
+use Rattle.access.specs.Verdicts.{reads_all, holds_compaccess, reads_label}
+use Rattle.access.specs.Verdicts.{read_level_rule, read_groups_rule, read_compartments_rule, compaccess_reads, read_tests}
 
 -- ---- `read_tests` by its parts: level, groups, compartments; COMPACCESS, some compartments
 abbrev tests : Bool → Bool → Bool → Bool → Bool → Bool

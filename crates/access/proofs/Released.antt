@@ -15,7 +15,8 @@ use Rattle.records.specs.Fields.{privileges}
 use Rattle.labels.specs.Label.{Marks, marks}
 use Rattle.labels.specs.GroupTest.{group_test}
 use Rattle.access.specs.Rights.{Rights, rights_at}
-use Rattle.access.specs.Verdicts.{reads_all, holds_compaccess, read_level_rule, read_groups_rule, read_compartments_rule, compaccess_reads, read_tests, reads_label, may_read}
+use Rattle.access.specs.Verdicts.{reads_all, holds_compaccess, reads_label, may_read}
+use Rattle.access.specs.Verdicts.{read_level_rule, read_groups_rule, read_compartments_rule, compaccess_reads, read_tests}
 use Rattle.access.proofs.Tests.{and_mono, or_mono}
 use Rattle.access.proofs.More.{MoreReading, may-read-more}
 

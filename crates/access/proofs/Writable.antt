@@ -19,7 +19,10 @@ use Rattle.labels.specs.Label.{Marks, label_at}
 use Rattle.labels.specs.GroupTest.{group_test}
 use Rattle.access.specs.Rights.{Rights, rights_at, write_compartments_of, write_groups_of}
 use Rattle.records.specs.Fields.{place_of_read, place_of_full}
-use Rattle.access.specs.Verdicts.{reads_all, writes_all, holds_compaccess, read_level_rule, read_groups_rule, read_compartments_rule, compaccess_reads, read_tests, write_level_rule, write_groups_rule, write_compartments_rule, tree_sets_rule, release_sets_rule, write_sets_rule, compaccess_writes, write_tests, reads_label, writes_label, known_tag, may_read, may_write}
+use Rattle.access.specs.Verdicts.{reads_all, writes_all, holds_compaccess, reads_label, writes_label, known_tag, may_read, may_write}
+use Rattle.access.specs.Verdicts.{read_level_rule, read_groups_rule, read_compartments_rule, compaccess_reads, read_tests}
+use Rattle.access.specs.Verdicts.{write_level_rule, write_groups_rule, write_compartments_rule, compaccess_writes, write_tests}
+use Rattle.access.specs.Verdicts.{tree_sets_rule, release_sets_rule, write_sets_rule}
 use Rattle.access.proofs.Tests.{unknown-mono, and_mono, or_mono, cond-mono}
 
 -- the write compartments lie inside the compartments of reading, and in the old profile the write groups inside what is reached

@@ -28,8 +28,7 @@ use sets::word;
 fn row_groups_ok(view: View, groups: Groups) -> bool
     ensures { result ≡ row_groups_rule (rights_of view) (places_of groups) }
 {
-    let profile = view.profile;
-    match profile {
+    match view.profile {
         Profile::Tree => groups.within(view.write_groups),
         Profile::Release => {
             groups.within(view.write_groups) & view.reached_groups.within(groups)
@@ -60,8 +59,7 @@ fn compartments_ok(rec: &[u8], set: u64) -> bool
     requires { 128 ≤ length rec.now }
     ensures { result ≡ within set (read_compartments rec.now) }
 {
-    let compartments = users::compartments_in(rec);
-    word::within(set, compartments.read)
+    word::within(set, users::compartments_in(rec).read)
 }
 
 // Do all these groups lie below the user's read groups? In the release profile: do they exist and contain the read groups?

@@ -31,6 +31,9 @@ pub fn reads_record(view: View, edition: Edition, rec: &[u8]) -> bool
     if holds_compaccess(view) & !word::is_empty(compartments) {
         return true;
     }
-    let profile = view.profile;
-    group_test::passes(profile, view.reached_groups, group_set(edition, rec, 16))
+    group_test::passes(
+        view.profile,
+        view.reached_groups,
+        group_set(edition, rec, 16),
+    )
 }

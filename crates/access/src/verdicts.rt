@@ -21,25 +21,32 @@ use labels::label::Label;
 use records::group_sets::group_set;
 use sets::word;
 
+// The places of the privileges in their set.
+const READ: usize = 0;
+
+const FULL: usize = 1;
+
+const COMPACCESS: usize = 2;
+
 // Is READ or FULL held?
 pub fn reads_all(view: View) -> bool
     ensures { result ≡ reads_all (rights_of view) }
 {
     let privileges = view.privileges as u64;
-    word::has(privileges, 0) | word::has(privileges, 1)
+    word::has(privileges, READ) | word::has(privileges, FULL)
 }
 
 // Is FULL held?
 fn writes_all(view: View) -> bool
     ensures { result ≡ writes_all (rights_of view) }
 {
-    word::has(view.privileges as u64, 1)
+    word::has(view.privileges as u64, FULL)
 }
 
 pub(crate) fn holds_compaccess(view: View) -> bool
     ensures { result ≡ holds_compaccess (rights_of view) }
 {
-    word::has(view.privileges as u64, 2)
+    word::has(view.privileges as u64, COMPACCESS)
 }
 
 // Row level ≤ session level: the minimum never stops reading.
@@ -53,8 +60,7 @@ fn read_level(view: View, row: Label) -> bool
 fn read_groups(view: View, row: Label) -> bool
     ensures { result ≡ read_groups_rule (rights_of view) (marks_of row) }
 {
-    let profile = view.profile;
-    group_test::passes(profile, view.reached_groups, row.groups)
+    group_test::passes(view.profile, view.reached_groups, row.groups)
 }
 
 // Is a row of that label readable by level, groups and compartments, or by COMPACCESS? Both ask for level and compartments.
@@ -87,11 +93,10 @@ pub fn reads_label(view: View, row: Label) -> bool
 fn tree_sets(view: View, row: Label) -> bool
     ensures { result ≡ tree_sets_rule (rights_of view) (marks_of row) }
 {
-    let groups = row.groups;
-    if groups.is_empty() {
+    if row.groups.is_empty() {
         return word::within(row.compartments, view.write_compartments);
     }
-    groups.meets(view.write_groups) & word::within(row.compartments, view.compartments)
+    row.groups.meets(view.write_groups) & word::within(row.compartments, view.compartments)
 }
 
 // The read test on groups and compartments, and write access to all the row's compartments.
@@ -107,8 +112,7 @@ fn release_sets(view: View, row: Label) -> bool
 fn write_sets(view: View, row: Label) -> bool
     ensures { result ≡ write_sets_rule (rights_of view) (marks_of row) }
 {
-    let profile = view.profile;
-    match profile {
+    match view.profile {
         Profile::Tree => tree_sets(view, row),
         Profile::Release => release_sets(view, row),
     }

@@ -17,7 +17,8 @@ use Rattle.image.specs.Check.{IsAccepted}
 use Rattle.image.proofs.Policy.{label_kept}
 use Rattle.labels.specs.Label.{Marks, label_at, label_exists}
 use Rattle.labels.specs.Text.{comma, colon, split}
-use Rattle.labels.specs.Parse.{class_count, place_of_name, Reading, read, unknown, repeated, read_names, read_list, groups_after, read_sets, read_parts, parse_of}
+use Rattle.labels.specs.Parse.{class_count, place_of_name, Reading, read, unknown, repeated}
+use Rattle.labels.specs.Parse.{read_names, read_list, groups_after, read_sets, read_parts, parse_of}
 use Rattle.labels.proofs.Tells.{refused-not-read, read-tells, then-read, text-parts, parsed-read}
 
 -- every component that the label names is one of the policy

@@ -25,7 +25,8 @@ took-nothing true p e = let z : ◌≡◌ {A = ℕ} 0 1 = cc in absurd (omega ar
 took-nothing false p e = refl
 
 module _ (im : List ℕ) (class : ℕ) (name : List ℕ) where
-  pub found_at : (p : ℕ) → found_of im class name ≡ Some p → (ltb (place_of_name im class name) (class_count im class) ≡ true) × (place_of_name im class name ≡ p)
+  pub found_at : (p : ℕ) → found_of im class name ≡ Some p
+      → (ltb (place_of_name im class name) (class_count im class) ≡ true) × (place_of_name im class name ≡ p)
   unfolding found_of
   found_at p e = took-place (ltb (place_of_name im class name) (class_count im class)) (place_of_name im class name) p e
 

@@ -22,7 +22,8 @@ use Rattle.labels.specs.declared.answers.Reason.{Reason}
 use Rattle.labels.specs.declared.answers.Reason.TheVariants.{Shape}
 use Rattle.labels.specs.Label.{Marks}
 use Rattle.labels.specs.Text.{comma, colon, split, onto, shape_of_parts, shape_rule}
-use Rattle.labels.specs.Parse.{class_count, place_of_name, Reading, read, refused, unknown, repeated, then_read, read_names, read_list, groups_after, read_sets, read_parts, read_text, Parsing, of_text, parse_of, refusal_of}
+use Rattle.labels.specs.Parse.{class_count, place_of_name, Reading, read, refused, unknown, repeated, then_read, Parsing, of_text, refusal_of}
+use Rattle.labels.specs.Parse.{read_names, read_list, groups_after, read_sets, read_parts, read_text, parse_of}
 use Rattle.labels.proofs.Reading.{has_parts, split_parts}
 
 -- the bytes of the parts and one more for each

@@ -54,6 +54,17 @@ until-within mark s i w n h inv some =
     let past = rw q at (until-past mark s i w (f - i) (omega arith) inv good) in
     until_stop mark s f w (omega arith) past (eqb-true _ _ (not-false _ (bad-at rule n i high)))
 
+-- so the first place from `at` on that does not lack the mark is where the search ends
+pub until-bad : (mark : ℕ) (s : List ℕ) (at : ℕ) → at ≤ length s → at + until_mark mark (drop at s) ≡ first_bad (lacks_at mark s) (length s - at) at
+until-bad mark s at h = go (everywhere (lacks_at mark s) (length s - at) at) refl
+  where
+    n : ℕ
+    n = length s - at
+
+    go : (t : Bool) → everywhere (lacks_at mark s) n at ≡ t → at + until_mark mark (drop at s) ≡ first_bad (lacks_at mark s) n at
+    go true e = sym (until-done mark s (at + n) _ (omega arith) (until-past mark s at _ n (omega arith) refl e)) ∙ sym (eqb-true _ _ e)
+    go false e = sym (until-within mark s at _ n (omega arith) refl e)
+
 -- ---- the first part ends at the first mark
 pub ltb-suc : (u n : ℕ) → ltb u n ≡ ltb (suc u) (suc n)
 ltb-suc u n = go (ltb u n) refl

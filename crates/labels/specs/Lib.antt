@@ -2,6 +2,7 @@
 pub mod Label
 pub mod GroupTest
 pub mod Text
+pub mod Tests
 pub mod Parse
 pub mod States
 pub mod Lists

@@ -26,20 +26,13 @@ fn letters4(name: &[u8], k: usize) -> u64
     requires { k + 4 ≤ length name.now }
     ensures { result < 4294967296 }
 {
-    (number4(name, k) & 522133279) as u64
-}
-
-// A place as a number of the machine's width.
-pub fn wide(place: u8) -> usize
-    ensures { result ≡ place }
-{
-    place as usize
+    u64::from(number4(name, k) & 522133279)
 }
 
 fn letter(x: u8) -> usize
     ensures { result < 32 }
 {
-    (x % 32) as usize
+    usize::from(x % 32)
 }
 
 // A sum of letters as a number below 1,021, by products, as a remainder by 1,021 takes longer. The sum's halves are added, so that every letter counts.
@@ -87,13 +80,11 @@ fn put(hints: &mut [u8], start: usize, place: u8)
     ensures { length hints.new ≡ length hints.old }
 {
     let last = start + 3;
-    let mut k = start;
-    while k < last {
+    for k in start..last {
         if hints[k] == 0 {
             hints[k] = place;
             return;
         }
-        k += 1;
     }
     hints[last] = place;
 }
@@ -106,14 +97,12 @@ fn fill_places(image: &[u8], class: u8, hints: &mut [u8])
     let first = layout::class_first(image, class);
     let shape = layout::shape_of(image, Kind::Component);
     let mut here = walk::record_at(shape, first);
-    let mut p = 0;
-    while p < count {
+    for p in 0..count {
         let i = first + p;
         let rec = layout::placed_part(image, shape, Kind::Component, i, here.at);
         let number = name_number(name_in(&rec[1..32]));
         put(hints, number, p as u8);
         here = walk::next_record(shape, here, i);
-        p += 1;
     }
 }
 

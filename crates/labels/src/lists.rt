@@ -9,41 +9,19 @@ ghost use Rattle.labels.specs.Lists.{until_mark, after_mark, names_of, list_of};
 use crate::answers::Reason;
 use crate::hints::{Hints, fill};
 use crate::names::find_by;
-use crate::scan::{mark_in_part, part_lacks};
+use crate::scan::{Lacks, first_stop};
 use sets::groups::Groups;
 use sets::word;
 
 // The words of the set of the places of names that are read.
 type Words = [u64; 4];
 
-// The same as `mark_from`, byte by byte, for the last bytes, which make no part.
-fn rest_mark(text: &[u8], at: usize, mark: u8) -> usize
-    requires { at ≤ length text.now }
-    ensures { (result ≡ at + until_mark mark (drop at text.now)) × ((at ≤ result) × (result ≤ length text.now)) }
-{
-    let mut i = at;
-    while i < text.len() {
-        if text[i] == mark {
-            return i;
-        }
-        i += 1;
-    }
-    i
-}
-
 // The first place from `at` on that holds the mark; the text's length where none does.
 pub fn mark_from(text: &[u8], at: usize, mark: u8) -> usize
     requires { at ≤ length text.now }
     ensures { (result ≡ at + until_mark mark (drop at text.now)) × ((at ≤ result) × (result ≤ length text.now)) }
 {
-    let mut i = at;
-    while 16 <= text.len() - i {
-        if !part_lacks(text, i, mark) {
-            return mark_in_part(text, i, mark);
-        }
-        i += 16;
-    }
-    rest_mark(text, i, mark)
+    first_stop(Lacks { mark }, text, at)
 }
 
 // A list is one name, or one name, a comma and a list. `words` have the names before this one. The leftmost name that is unknown or came before
@@ -61,7 +39,7 @@ fn read_names(
     ensures words_after { names_of result (joined words.new) ≡ read_names image.now class at (joined words.old) (split comma (drop at text.now)) }
     ensures words_len { length words.new ≡ 4 }
 {
-    let end = mark_from(text, at, 44);
+    let end = mark_from(text, at, b',');
     let Some(place) = find_by(image, class, hints, &text[at..end]) else {
         return Err(Reason::Unknown(at));
     };

@@ -8,7 +8,7 @@ ghost use Rattle.labels.specs.Parse.{matches, place_of_name};
 ghost use Rattle.labels.specs.Lists.{found_of};
 ghost use Rattle.labels.specs.Hints.{ToldOf};
 
-use crate::hints::{Hints, name_number, wide};
+use crate::hints::{Hints, name_number};
 use fields::folded::same_folded;
 use fields::names::Letters;
 use header::layout;
@@ -52,16 +52,14 @@ fn hinted(image: &[u8], class: u8, hints: &Hints, name: &[u8]) -> Option<usize>
 {
     let count = layout::class_count(image, class);
     let start = layout::class_first(image, class);
-    let mut k = name_number(name);
-    let end = k + 4;
-    while k < end {
-        let p = wide(hints[k]);
+    let number = name_number(name);
+    for place in &hints[number..number + 4] {
+        let p = usize::from(*place);
         if p < count {
             if is_named(image, start + p, name) {
                 return Some(p);
             }
         }
-        k += 1;
     }
     None
 }

@@ -31,7 +31,7 @@ fn read_groups(
         });
     }
     let at = end + 1;
-    let stop = mark_from(text, at, 58);
+    let stop = mark_from(text, at, b':');
     let groups = read_list(image, 3, &text[0..stop], at)?;
     Ok(Label {
         level,
@@ -53,7 +53,7 @@ fn read_sets(image: &[u8], text: &[u8], level: u8, end: usize) -> Result<Label, 
         });
     }
     let at = end + 1;
-    let stop = mark_from(text, at, 58);
+    let stop = mark_from(text, at, b':');
     let compartments = read_list(image, 2, &text[0..stop], at)?;
     read_groups(image, text, level, compartments.word(0), stop)
 }
@@ -64,7 +64,7 @@ pub fn read_parts(image: &[u8], text: &[u8]) -> Result<Label, Reason>
     ensures { read_of result ≡ read_parts image.now (split colon text.now) }
 {
     let hints = [0u8; 1024];
-    let end = mark_from(text, 0, 58);
+    let end = mark_from(text, 0, b':');
     let Some(level) = find_by(image, 1, &hints, &text[0..end]) else {
         return Err(Reason::Unknown(0));
     };

@@ -1,11 +1,10 @@
 // The shape of label text, read byte by byte.
-ghost use Rattle.std.specs.Prelude.{◌-◌, ◌≤◌, ◌≡◌, length};
-ghost use Rattle.fields.specs.Scan.{first_bad};
+ghost use Rattle.std.specs.Prelude.{◌≡◌};
 ghost use Rattle.labels.specs.Text.{shape_rule};
-ghost use Rattle.labels.specs.States.{text_byte_at, after_name_byte, after_comma, after_colon, after_byte, after_all, ends_well};
+ghost use Rattle.labels.specs.States.{after_name_byte, after_comma, after_colon, after_byte, after_all, ends_well};
 ghost use Rattle.labels.specs.declared.shape.State.TheVariants.{Start};
 
-use crate::scan::{part_in_text, stop_in_part, text_byte};
+use crate::scan::{InName, first_stop, text_byte};
 
 // How far a reading has come. A name begins at Start, Lists, FirstNext and Second; Level, First and InSecond stand inside one.
 #[derive(Clone, Copy)]
@@ -28,13 +27,9 @@ fn after_name_byte(state: State) -> State
     ensures { result ≡ after_name_byte state }
 {
     match state {
-        State::Start => State::Level,
-        State::Level => State::Level,
-        State::Lists => State::First,
-        State::First => State::First,
-        State::FirstNext => State::First,
-        State::Second => State::InSecond,
-        State::InSecond => State::InSecond,
+        State::Start | State::Level => State::Level,
+        State::Lists | State::First | State::FirstNext => State::First,
+        State::Second | State::InSecond => State::InSecond,
         State::Wrong => State::Wrong,
     }
 }
@@ -77,10 +72,10 @@ fn after_byte(state: State, x: u8) -> State
     if text_byte(x) {
         return after_name_byte(state);
     }
-    if x == 44 {
+    if x == b',' {
         return after_comma(state);
     }
-    if x == 58 {
+    if x == b':' {
         return after_colon(state);
     }
     State::Wrong
@@ -90,49 +85,10 @@ fn after_byte(state: State, x: u8) -> State
 fn ends_well(state: State) -> bool
     ensures { result ≡ ends_well state }
 {
-    match state {
-        State::Start => false,
-        State::Level => true,
-        State::Lists => false,
-        State::First => true,
-        State::FirstNext => false,
-        State::Second => false,
-        State::InSecond => true,
-        State::Wrong => false,
-    }
+    matches!(state, State::Level | State::First | State::InSecond)
 }
 
-// The same as `name_end`, byte by byte, for the last bytes, which make no part.
-fn rest_end(text: &[u8], at: usize) -> usize
-    requires { at ≤ length text.now }
-    ensures { result ≡ first_bad (text_byte_at text.now) (length text.now - at) at }
-{
-    let mut i = at;
-    while i < text.len() {
-        if !text_byte(text[i]) {
-            return i;
-        }
-        i += 1;
-    }
-    i
-}
-
-// The first place from `at` on whose byte is of no name; the text's length where there is none.
-fn name_end(text: &[u8], at: usize) -> usize
-    requires { at ≤ length text.now }
-    ensures { result ≡ first_bad (text_byte_at text.now) (length text.now - at) at }
-{
-    let mut i = at;
-    while 16 <= text.len() - i {
-        if !part_in_text(text, i) {
-            return stop_in_part(text, i);
-        }
-        i += 16;
-    }
-    rest_end(text, i)
-}
-
-// A name's later bytes leave the state as its first one does, so they are passed over.
+// A name's later bytes leave the state as its first one does, so they are passed over. The place moves by what is found: no range has these places.
 fn after_all(text: &[u8]) -> State
     ensures { result ≡ after_all Start text.now }
 {
@@ -142,7 +98,7 @@ fn after_all(text: &[u8]) -> State
         let x = text[i];
         if text_byte(x) {
             state = after_name_byte(state);
-            i = name_end(text, i + 1);
+            i = first_stop(InName, text, i + 1);
         } else {
             state = after_byte(state, x);
             i += 1;

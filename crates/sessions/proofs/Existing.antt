@@ -82,7 +82,8 @@ module _ (im : List ℕ) (s : SessionMarks) (lent : lent_answer im s ≡ Ok tt) 
       write : ℕ
       write = write_groups (edition_of im) (user_record im s.user)
 
-      at : (p : Profile) → (within set (by_profile p (intersection (by_profile p (below im label) label) (by_profile p (below im write) write)) (all_below (groups im)))
+      at : (p : Profile)
+          → (within set (by_profile p (intersection (by_profile p (below im label) label) (by_profile p (below im write) write)) (all_below (groups im)))
           && by_profile p true (within (by_profile p (below im label) label) set)) ≡ true → set < 2 ^ groups im
       at Tree e =
           part-below set (intersection (below im label) (below im write)) (groups im)

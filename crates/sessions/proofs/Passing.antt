@@ -12,7 +12,8 @@ use Rattle.sets.proofs.Within.{has_within, within-intersection}
 use Rattle.header.specs.declared.profile.Profile.{Profile}
 use Rattle.header.specs.declared.profile.Profile.TheVariants.{Tree, Release}
 use Rattle.header.specs.Layout.{edition_of, profile_of, by_profile, groups, users, user_record}
-use Rattle.records.specs.Fields.{read_compartments, write_compartments, default_compartments, row_compartments, read_groups, write_groups, default_groups, row_groups}
+use Rattle.records.specs.Fields.{read_compartments, write_compartments, default_compartments, row_compartments}
+use Rattle.records.specs.Fields.{read_groups, write_groups, default_groups, row_groups}
 use Rattle.records.proofs.MeaningLabels.{exist-holds}
 use Rattle.records.proofs.MeaningUsers.{GroupsKept}
 use Rattle.hierarchy.specs.Below.{below, reach}
@@ -43,7 +44,8 @@ module _ (im rec : List ℕ) (kept : GroupsKept (edition_of im) (groups im) rec)
   row = row_groups (edition_of im) rec
 
   default-groups : (p : Profile) → SetsKept p im rec
-      → by_profile p (within default (below im (read_groups (edition_of im) rec))) (within default (all_below (groups im)) && within (read_groups (edition_of im) rec) default)
+      → by_profile p (within default (below im (read_groups (edition_of im) rec)))
+      (within default (all_below (groups im)) && within (read_groups (edition_of im) rec) default)
       ≡ true
   default-groups Tree k = k.default_below_read
   default-groups Release k = rw (exist-holds default (groups im) kept.default_exist, k.read_in_default)

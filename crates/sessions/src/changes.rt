@@ -25,13 +25,11 @@ fn put_label(session: Session, image: &[u8], table: &Table, new: Label) -> Resul
     ensures { change_of session result ≡ change_if (session_of session) (session_label_answer image.now session.user (marks_of new) (marks_of session.row)) (with_label (session_of session) (marks_of new)) }
 {
     let user = session.user as usize;
-    let row = session.row;
     let view = rights_at(image, table, user, new);
-    session_label_answer(image, table, user, new, view, row)?;
+    session_label_answer(image, table, user, new, view, session.row)?;
     Ok(Session {
-        user: session.user,
         label: new,
-        row,
+        ..session
     })
 }
 
@@ -44,8 +42,7 @@ pub fn change_label(
     requires { IsAccepted image.now × (Tabled image.now table.now × (session.user < users image.now)) }
     ensures { change_of session result ≡ label_change image.now (session_of session) text.now }
 {
-    let new = read_text(image, text)?;
-    put_label(session, image, table, new)
+    put_label(session, image, table, read_text(image, text)?)
 }
 
 // The session with the new row label where the rules allow it.
@@ -54,9 +51,8 @@ fn put_row_label(session: Session, view: View, new: Label) -> Result<Session, Re
 {
     row_label_answer(view, new)?;
     Ok(Session {
-        user: session.user,
-        label: session.label,
         row: new,
+        ..session
     })
 }
 
@@ -70,6 +66,5 @@ pub fn change_row_label(
     requires { IsAccepted image.now × (rights_of view ≡ session_rights image.now (session_of session)) }
     ensures { change_of session result ≡ row_label_change image.now (session_of session) text.now }
 {
-    let new = read_text(image, text)?;
-    put_row_label(session, view, new)
+    put_row_label(session, view, read_text(image, text)?)
 }

@@ -27,13 +27,11 @@ fn lent_accepted(image: &[u8], table: &Table, session: Session) -> Result<View, 
     if user >= layout::users(image) {
         return Err(Refusal::SessionRules);
     }
-    let label = session.label;
-    let row = session.row;
-    let view = rights_at(image, table, user, label);
-    let Ok(()) = session_label_answer(image, table, user, label, view, row) else {
+    let view = rights_at(image, table, user, session.label);
+    let Ok(()) = session_label_answer(image, table, user, session.label, view, session.row) else {
         return Err(Refusal::SessionRules);
     };
-    let Ok(()) = row_label_answer(view, row) else {
+    let Ok(()) = row_label_answer(view, session.row) else {
         return Err(Refusal::SessionRules);
     };
     Ok(view)
@@ -53,7 +51,5 @@ pub fn opened_rights(image: &[u8], table: &Table, u: usize) -> View
     requires { Counted image.now × (Tabled image.now table.now × (u < users image.now)) }
     ensures { rights_of result ≡ session_rights image.now (default_session image.now u) }
 {
-    let opened = default_session(image, u);
-    let label = opened.label;
-    rights_at(image, table, u, label)
+    rights_at(image, table, u, default_session(image, u).label)
 }

@@ -22,22 +22,18 @@ pub fn default_session(image: &[u8], u: usize) -> Session
     let levels = users::levels_in(rec);
     let compartments = users::compartments_in(rec);
     let groups = users::sets_in(edition_of(image), rec);
-    let default_groups = groups.default;
-    let row_groups = groups.row;
-    let label = Label {
-        level: levels.default,
-        compartments: compartments.default,
-        groups: default_groups,
-    };
-    let row = Label {
-        level: levels.row,
-        compartments: compartments.row,
-        groups: row_groups,
-    };
     Session {
         user: u as u8,
-        label,
-        row,
+        label: Label {
+            level: levels.default,
+            compartments: compartments.default,
+            groups: groups.default,
+        },
+        row: Label {
+            level: levels.row,
+            compartments: compartments.row,
+            groups: groups.row,
+        },
     }
 }
 

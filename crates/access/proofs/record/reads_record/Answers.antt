@@ -1,5 +1,5 @@
 use mathlib.Core.Path.{sym, ◌∙◌}
-use borrow.Author.Tests.{lt-leb, le-leb, not-true, not-false}
+use borrow.Author.Tests.{lt-leb, le-leb}
 use Rattle.access.specs.Verdicts.{read_level_rule, read_groups_rule, read_compartments_rule}
 use Rattle.access.proofs.ReadTests.{by_all, by_tests, by_level, by-compartments, by-compaccess, by-groups}
 use Rattle.access.proofs.record.reads_record.Goals as goal

@@ -1,4 +1,3 @@
-use native.Mathlib.Omega.{arith}
 use Rattle.header.proofs.Inside.{header-inside}
 use Rattle.access.specs.Rights.{rights_at, write_compartments_of, write_groups_of}
 use Rattle.access.proofs.rights.rights_at.Goals as goal

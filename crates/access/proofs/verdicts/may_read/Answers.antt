@@ -2,9 +2,6 @@ use Rattle.image.proofs.Accepted.{accepted-counted}
 use Rattle.access.specs.Verdicts.{known_tag, may_read}
 use Rattle.access.proofs.verdicts.may_read.Goals as goal
 
-pub label_of_tag-requires : goal.label_of_tag-requires
-label_of_tag-requires c = c.requires
-
 pub reads_at-requires : goal.reads_at-requires
 reads_at-requires c = accepted-counted _ c.requires
 

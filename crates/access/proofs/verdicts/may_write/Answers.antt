@@ -8,9 +8,6 @@ use Rattle.header.proofs.Inside.{header-inside}
 use Rattle.access.specs.Verdicts.{known_tag, may_write}
 use Rattle.access.proofs.verdicts.may_write.Goals as goal
 
-pub label_of_tag-k-requires : goal.label_of_tag-k-requires
-label_of_tag-k-requires c = c.requires
-
 pub labels-requires : goal.labels-requires
 labels-requires c = header-inside _ (accepted-counted _ c.requires).fitted
 

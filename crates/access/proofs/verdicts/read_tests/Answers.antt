@@ -1,5 +1,4 @@
 use mathlib.Core.Path.{sym, ◌∙◌}
-use borrow.Author.Tests.{not-true, not-false}
 use Rattle.access.specs.Verdicts.{read_compartments_rule}
 use Rattle.access.proofs.ReadTests.{by_level, by-compartments, by-compaccess, by-groups}
 use Rattle.access.proofs.verdicts.read_tests.Goals as goal

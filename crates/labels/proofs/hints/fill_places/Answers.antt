@@ -38,9 +38,6 @@ pub loop-p-init : goal.loop-p-init
 loop-p-init c =
     (zero-le, (rw add-zero c.record_at-here.ensures, c.requires.1))
 
-pub overflow_add-i : goal.overflow_add-i
-overflow_add-i c = omega arith
-
 pub placed_part-rec-requires : goal.placed_part-rec-requires
 placed_part-rec-requires c =
     let among = class-inside c.args.image.now c.args.class in
@@ -50,20 +47,11 @@ pub overflow_cast-p : goal.overflow_cast-p
 overflow_cast-p c =
     omega (arith, class-limit c.args.image.now c.args.class c.requires.0)
 
-pub put-requires : goal.put-requires
-put-requires c = omega arith
-
 pub next_record-here-requires : goal.next_record-here-requires
 next_record-here-requires c =
     let shaped = c.shape_of-shape.ensures in
     let p : c.loop-p.p ≤ class_count c.args.image.now c.args.class = omega arith in
     (shaped.roomy, (c.loop-p.invariant.1.0, walk_inside _ c.requires.0 c.args.class _ c.class_first-first.ensures.0 _ shaped (omega arith) _ p))
-
-pub overflow_add-p : goal.overflow_add-p
-overflow_add-p c = omega arith
-
-pub loop-p-smaller : goal.loop-p-smaller
-loop-p-smaller c = omega arith
 
 pub loop-p-preserved : goal.loop-p-preserved
 loop-p-preserved c =

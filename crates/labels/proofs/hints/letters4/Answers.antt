@@ -2,8 +2,5 @@ use lib.Bits.{and_le_r}
 use native.Mathlib.Omega.{arith}
 use Rattle.labels.proofs.hints.letters4.Goals as goal
 
-pub overflow_cast-result : goal.overflow_cast-result
-overflow_cast-result c = omega (arith, and_le_r c.number4.result 522133279)
-
 pub returns : goal.returns
 returns c = omega (arith, and_le_r c.number4.result 522133279)

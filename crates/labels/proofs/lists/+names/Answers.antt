@@ -11,9 +11,6 @@ use Rattle.labels.proofs.Naming.{list-unknown}
 use Rattle.labels.proofs.ListWords.{words-repeated, words-room, words-next}
 use Rattle.labels.proofs.lists.+names.Goals as goal
 
-pub after_name-overflow_add-at : goal.after_name-overflow_add-at
-after_name-overflow_add-at t c = omega arith
-
 pub after_name-read_names-requires : goal.after_name-read_names-requires
 after_name-read_names-requires t c =
     let p = c.requires in
@@ -28,18 +25,6 @@ pub after_name-returns : goal.after_name-returns
 unfolding read_names
 after_name-returns t c = record { words_after = rw (le-ltb _ _ c.if-at-text.false); words_len = c.requires.1.1.1 }
 
-pub read_names-mark_from-end-requires : goal.read_names-mark_from-end-requires
-read_names-mark_from-end-requires t c = omega arith
-
-pub read_names-slice_bounds-find_by-count : goal.read_names-slice_bounds-find_by-count
-read_names-slice_bounds-find_by-count t c = omega arith
-
-pub read_names-slice_bounds-find_by-start : goal.read_names-slice_bounds-find_by-start
-read_names-slice_bounds-find_by-start t c = omega arith
-
-pub read_names-slice_bounds-find_by-end : goal.read_names-slice_bounds-find_by-end
-read_names-slice_bounds-find_by-end t c = omega arith
-
 pub read_names-find_by-requires : goal.read_names-find_by-requires
 read_names-find_by-requires t c = let p = c.requires in (p.0, p.1.0)
 
@@ -50,9 +35,6 @@ read_names-returns-in_default t c =
           (sym c.find_by.ensures ∙ c.in_default.is);
       words_len = c.requires.1.1.1;
     }
-
-pub read_names-offset_bounds-words-place : goal.read_names-offset_bounds-words-place
-read_names-offset_bounds-words-place t c = omega arith
 
 pub read_names-bounds-words-place : goal.read_names-bounds-words-place
 read_names-bounds-words-place t c =
@@ -71,12 +53,6 @@ read_names-returns-then-has t c =
           (sym c.find_by.ensures ∙ c.in-Some.is) (sym c.has.ensures ∙ c.if-has.true);
       words_len = c.requires.1.1.1;
     }
-
-pub read_names-with-requires : goal.read_names-with-requires
-read_names-with-requires t c = omega arith
-
-pub read_names-offset_bounds-words-place-2 : goal.read_names-offset_bounds-words-place-2
-read_names-offset_bounds-words-place-2 t c = omega arith
 
 pub read_names-bounds-words-place-2 : goal.read_names-bounds-words-place-2
 read_names-bounds-words-place-2 t c =

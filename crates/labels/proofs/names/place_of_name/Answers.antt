@@ -9,9 +9,6 @@ class_count-count-requires c = header-inside _ c.requires.0.fitted
 pub class_first-start-requires : goal.class_first-start-requires
 class_first-start-requires c = header-inside _ c.requires.0.fitted
 
-pub overflow_add-start : goal.overflow_add-start
-overflow_add-start c = omega arith
-
 pub first_named-requires : goal.first_named-requires
 first_named-requires c =
     let a = c.args in

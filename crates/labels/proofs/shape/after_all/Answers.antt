@@ -1,5 +1,5 @@
 use Prim.Native.Nat.{◌+◌, ◌-◌, ◌≤◌}
-use mathlib.Core.Path.{refl, sym, ◌∙◌}
+use mathlib.Core.Path.{sym, ◌∙◌}
 use native.Mathlib.Omega.{arith}
 use lib.ListN.{length}
 use Rattle.fields.proofs.Scan.{bad-from}
@@ -7,18 +7,6 @@ use Rattle.labels.specs.States.{text_byte_at}
 use Rattle.labels.proofs.Reading.{after-step, after-done}
 use Rattle.labels.proofs.Runs.{name-step, run_step}
 use Rattle.labels.proofs.shape.after_all.Goals as goal
-
-pub loop-i-init : goal.loop-i-init
-loop-i-init c = refl
-
-pub bounds-text-i : goal.bounds-text-i
-bounds-text-i c = omega arith
-
-pub overflow_add-i : goal.overflow_add-i
-overflow_add-i c = omega arith
-
-pub name_end-i-requires : goal.name_end-i-requires
-name_end-i-requires c = omega arith
 
 pub loop-i-smaller-then-text_byte : goal.loop-i-smaller-then-text_byte
 loop-i-smaller-then-text_byte c =
@@ -33,13 +21,7 @@ loop-i-preserved-then-text_byte c =
     let named = sym c.text_byte.ensures ∙ c.if-text_byte.true in
     let first = name-step text l.state _ l.i c.loop-i-test.true named l.invariant in
     let inside : l.i + 1 ≤ length text = omega arith in
-    rw c.after_name_byte-state.ensures (run_step text l.state _ (l.i + 1) _ inside c.name_end-i.ensures first)
-
-pub overflow_add-i-else-text_byte : goal.overflow_add-i-else-text_byte
-overflow_add-i-else-text_byte c = omega arith
-
-pub loop-i-smaller : goal.loop-i-smaller
-loop-i-smaller c = omega arith
+    rw c.after_name_byte-state.ensures (run_step text l.state _ (l.i + 1) _ inside c.first_stop-i.ensures first)
 
 pub loop-i-preserved : goal.loop-i-preserved
 loop-i-preserved c =

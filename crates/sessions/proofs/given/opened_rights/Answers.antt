@@ -9,4 +9,4 @@ unfolding default_session
 returns c =
     let a = c.args in
     c.rights_at.ensures
-    ∙ ap (λ (s : SessionMarks). rights_at a.image.now a.u s.label) c.default_session-opened.ensures
+    ∙ ap (λ (s : SessionMarks). rights_at a.image.now a.u s.label) c.default_session.ensures
