@@ -1,14 +1,12 @@
 -- What is left of the report at a cursor, the parts that are written from it on, and the parts of a run joined. Assumes nothing.
-use Rattle.std.proofs.Common.{Err}
+use Rattle.std.proofs.Common.{Err, Some, None}
 use Prim.Native.Nat.{ℕ, zero, suc, zero-le, ◌+◌, ◌-◌, ◌*◌, ◌≤◌, ◌<◌}
 use mathlib.Core.Path.{◌≡◌, refl, sym, ap, ◌∙◌}
-use mathlib.Core.Bool.{Bool, true, false, cond, true≢false}
+use mathlib.Core.Bool.{true≢false}
 use mathlib.Core.List.{List, [], ◌++◌, flatten, append_assoc, append-nil}
 use native.Mathlib.Nat.{suc-mul, sub-zero}
 use native.Mathlib.Numerals.{add-one}
 use native.Mathlib.Omega.{arith}
-use borrow.Author.Tests.{ltb-false}
-use lib.Dec.{ltb}
 use lib.ListN.{length, take}
 use Rattle.buffers.specs.Pasting.{Written}
 use Rattle.buffers.proofs.Left.{written-long, written-taken}
@@ -55,32 +53,33 @@ module _ (im : List ℕ) where
   abbrev past : ℕ → Cursor
   past u = record { user = u + 1; label = 0 }
 
-  rest-past : (u : ℕ) (more : Bool) → more ≡ ltb (u + 1) (users im) → cond more (rest_of im (past u)) [] ≡ after u
-  unfolding rest_of users_from
-  rest-past u true e = ap (λ (j : ℕ). rest_from im (users im - j) j 0) (add-one u) ∙ from-user (users im - suc u) (suc u)
-  rest-past u false e =
-      let l : users im ≤ u + 1 = ltb-false (u + 1) (users im) (sym e) in
+  rest-past : (u : ℕ) → rest_of im (past u) ≡ after u
+  unfolding rest_of
+  rest-past u = ap (λ (j : ℕ). rest_from im (users im - j) j 0) (add-one u) ∙ from-user (users im - suc u) (suc u)
+
+  no-after : (u : ℕ) → users im ≤ u + 1 → [] ≡ after u
+  unfolding users_from
+  no-after u l =
       let n : users im - suc u ≡ 0 = omega arith in
       sym (ap (λ (m : ℕ). users_from im m (suc u)) n)
 
   -- ---- a part
   module _ (from : Cursor) where
-    pub part_none : (b : List ℕ) → users im ≤ from.user → NextPart im from b b (record { next = from; length = 0; more = false })
+    pub part_none : (b : List ℕ) → users im ≤ from.user → NextPart im from b b (record { length = 0; next = None })
     part_none b h = record { part = record { inside = zero-le; joined = sym (rest_end from h) }; fewer = λ room. zero-le }
 
     -- fewer steps are left after the user's last line
-    fewer-past : from.user < users im → (t : Bool) → cond t (suc (steps_at im (past from.user))) 0 ≤ steps_at im from
+    fewer-past : from.user < users im → steps_at im (past from.user) < steps_at im from
     unfolding steps_at
-    fewer-past here true =
+    fewer-past here =
         let n : users im - from.user ≡ suc (users im - (from.user + 1)) = omega arith in
         let m = ap (λ (j : ℕ). j * suc (labels im)) n ∙ suc-mul (users im - (from.user + 1)) (suc (labels im)) in
         omega arith
-    fewer-past here false = zero-le
 
     module _ {b text : List ℕ} {next end : ℕ} (here : from.user < users im) (f : FilledFrom im from.user from.label b text next end) where
       -- the user has more lines
       pub part-inside : next < labels im
-          → NextPart im from b text (record { next = record { user = from.user; label = next }; length = end; more = true })
+          → NextPart im from b text (record { length = end; next = Some (record { user = from.user; label = next }) })
       unfolding steps_at
       part-inside l =
           let c : Cursor = record { user = from.user; label = next } in
@@ -97,23 +96,25 @@ module _ (im : List ℕ) where
             fewer = λ room. omega (arith, f.some (omega (arith, f.from)) room);
           }
 
-      -- it has none
-      pub part-user : labels im ≤ next → (more : Bool) → more ≡ ltb (from.user + 1) (users im)
-          → NextPart im from b text (record { next = past from.user; length = end; more = more })
-      part-user l more e =
+      -- it has none: the text that was written is the user's
+      user-whole : labels im ≤ next → {rest : List ℕ} → rest ≡ after from.user → take end text ++ rest ≡ rest_of im from
+      user-whole l {rest} e =
           let all : take end text ≡ user_rest im from.user from.label =
           sym (append-nil (take end text)) ∙ ap (λ (t : List ℕ). take end text ++ t) (sym (rest-none im from.user next l)) ∙ f.joined in
+          ap (λ (t : List ℕ). take end text ++ t) e ∙ ap (λ (t : List ℕ). t ++ after from.user) all ∙ sym (rest-user from here)
+
+      -- another user comes
+      pub part-user : labels im ≤ next → NextPart im from b text (record { length = end; next = Some (past from.user) })
+      part-user l =
           record {
-            part =
-                record {
-                  inside = f.inside;
-                  joined =
-                      ap (λ (t : List ℕ). take end text ++ t) (rest-past from.user more e)
-                      ∙ ap (λ (t : List ℕ). t ++ after from.user) all
-                      ∙ sym (rest-user from here);
-                };
-            fewer = λ room. fewer-past here more;
+            part = record { inside = f.inside; joined = user-whole l (rest-past from.user) };
+            fewer = λ room. fewer-past here;
           }
+
+      -- it was the last user
+      pub part-last : labels im ≤ next → users im ≤ from.user + 1 → NextPart im from b text (record { length = end; next = None })
+      part-last l none =
+          record { part = record { inside = f.inside; joined = user-whole l (no-after from.user none) }; fewer = λ room. zero-le }
 
 -- ---- the first part
 -- a refusal's line that was written stands at the buffer's front
@@ -125,19 +126,19 @@ refused-front r b room w short =
     (omega arith, written-taken fits w)
 
 module _ (im table : List ℕ) where
-  pub first-accepted : IsAccepted im → Tabled im table → (after : List ℕ) → FirstPart im table after (record { next = start; length = 0; more = true })
+  pub first-accepted : IsAccepted im → Tabled im table → (after : List ℕ) → FirstPart im table after (record { length = 0; next = Some start })
   unfolding output_of
   first-accepted acc tabled after =
-      record { part = record { inside = zero-le; joined = rw acc (rest-start im) }; going = λ more. (acc, tabled) }
+      record { part = record { inside = zero-le; joined = rw acc (rest-start im) }; going = λ some. (acc, tabled) }
 
   pub first-refused : (r : Refusal) → check_of im ≡ Err r → (b : List ℕ) → 64 ≤ length b → {after : List ℕ} {n : ℕ}
-      → Written b 0 (refused_line r) after n → n ≤ 64 → FirstPart im table after (record { next = start; length = n; more = false })
+      → Written b 0 (refused_line r) after n → n ≤ 64 → FirstPart im table after (record { length = n; next = None })
   unfolding output_of
   first-refused r refused b room {after} {n} w short =
       let front = refused-front r b room w short in
       record {
         part = record { inside = front.0; joined = rw refused (append-nil (take n after) ∙ front.1) };
-        going = λ more. absurd (true≢false (sym more));
+        going = λ some. absurd (true≢false (sym some));
       }
 
 -- an input that is longer than an image may be
@@ -152,8 +153,8 @@ long-output b room w short =
 pub parts-joined : {im text : List ℕ} {parts : List (List ℕ)} → PartsOf im text parts → flatten parts ≡ text
 unfolding flatten
 parts-joined (last one none) = rw none at one.joined
-parts-joined {im} (and_then {text} {after} {p} one more rest) =
-    ap (λ (t : List ℕ). take p.length after ++ t) (parts-joined rest) ∙ (rw more at one.joined)
+parts-joined {im} (and_then {text} {after} {p} one next rest) =
+    ap (λ (t : List ℕ). take p.length after ++ t) (parts-joined rest) ∙ (rw next at one.joined)
 
 -- so a run that begins with the first part writes the output: the report of an accepted image, or the refusal's line
 pub output-joined : {im : List ℕ} {parts : List (List ℕ)} → PartsOf im (output_of im) parts → flatten parts ≡ output_of im

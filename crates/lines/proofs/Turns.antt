@@ -1,6 +1,6 @@
 -- The lines of a user that are left, and the loop that fills a buffer with them. Assumes nothing.
-use Prim.Native.Nat.{ℕ, suc, zero-le, ◌+◌, ◌-◌, ◌≤◌, ◌<◌}
-use mathlib.Core.Path.{◌≡◌, refl, sym, ap, ◌∙◌}
+use Prim.Native.Nat.{ℕ, suc, ◌+◌, ◌-◌, ◌≤◌, ◌<◌}
+use mathlib.Core.Path.{◌≡◌, sym, ap, ◌∙◌}
 use mathlib.Core.List.{List, [], ◌++◌, append_assoc}
 use native.Mathlib.Numerals.{add-one}
 use native.Mathlib.Omega.{arith}
@@ -37,9 +37,6 @@ pub record Filling (im : List ℕ) (u k : ℕ) (b₀ b : List ℕ) (next end : �
   pub joined : take end b ++ user_rest im u next ≡ user_rest im u k
 
 module _ (im : List ℕ) (u k : ℕ) (b₀ : List ℕ) where
-  pub filling-start : Filling im u k b₀ b₀ k 0
-  filling-start = record { from = omega arith; long = refl; inside = zero-le; begun = λ h. omega arith; joined = refl }
-
   module _ {b : List ℕ} {next end : ℕ} (f : Filling im u k b₀ b next end) where
     pub filling-turn : IsAccepted im → u < users im → next < labels im → end + 43 ≤ length b → {after : List ℕ} {r : ℕ}
         → Written b end (line_at im u next) after r → Filling im u k b₀ after (next + 1) r
@@ -59,10 +56,15 @@ module _ (im : List ℕ) (u k : ℕ) (b₀ : List ℕ) where
               ∙ f.joined;
         }
 
-    -- it stops where no line is left, or where a line may lack room
-    pub filling-end : labels im ≤ next → FilledFrom im u k b₀ b next end
-    filling-end h =
-        record { from = f.from; inside = omega (arith, f.inside, f.long); joined = f.joined; some = λ l room. omega arith }
+    -- it stops where no line is left, which is so at any later record too, or where a line may lack room
+    pub filling-end : labels im ≤ next → {stop : ℕ} → labels im ≤ stop → k ≤ stop → FilledFrom im u k b₀ b stop end
+    filling-end h {stop} past from =
+        record {
+          from = from;
+          inside = omega (arith, f.inside, f.long);
+          joined = ap (λ (t : List ℕ). take end b ++ t) (rest-none im u stop past ∙ sym (rest-none im u next h)) ∙ f.joined;
+          some = λ l room. omega arith;
+        }
 
     pub filling-full : length b - end < 43 → FilledFrom im u k b₀ b next end
     filling-full h =

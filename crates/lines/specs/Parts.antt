@@ -1,5 +1,6 @@
 -- The report in parts, each of whole lines: what is left of its text at a cursor, and what a run of parts writes.
-use Rattle.std.specs.Prelude.{ℕ, zero, suc, ◌+◌, ◌-◌, ◌*◌, ◌≤◌, ◌<◌, ◌≡◌, true, false, cond, List, [], ◌∷◌, ◌++◌, length, take}
+use Rattle.std.specs.Prelude.{ℕ, zero, suc, ◌+◌, ◌-◌, ◌*◌, ◌≤◌, ◌<◌, ◌≡◌, List, [], ◌∷◌, ◌++◌, length, take}
+use Rattle.std.specs.Prelude.{Option, Some, None, IsSome}
 use Rattle.buffers.specs.Pasting.{Written}
 use Rattle.header.specs.Layout.{users, labels}
 use Rattle.hierarchy.specs.Below.{Tabled}
@@ -29,9 +30,14 @@ rest_of im c = rest_from im (users im - c.user) c.user c.label
 abbrev pub start : Cursor
 start = record { user = 0; label = 0 }
 
+-- what is left at the line to go on with: nothing where there is none
+abbrev pub rest_at : List ℕ → Option Cursor → List ℕ
+rest_at im None = []
+rest_at im (Some c) = rest_of im c
+
 -- what is left after a part: nothing after the last
 abbrev pub rest_after : List ℕ → Part → List ℕ
-rest_after im p = cond p.more (rest_of im p.next) []
+rest_after im p = rest_at im p.next
 
 -- ---- what a part is
 -- a part of a text: its bytes stand at the buffer's front, and joined with what is left after it they are the text
@@ -39,12 +45,16 @@ pub record PartOf (im text after : List ℕ) (p : Part) : Type 0 where
   pub inside : p.length ≤ length after
   pub joined : take p.length after ++ rest_after im p ≡ text
 
--- how many lines and ends of users are left at most: at a cursor, and after a part
+-- how many lines and ends of users are left at most: at a cursor, before the line to go on with, and after a part
 unfoldable pub steps_at : List ℕ → Cursor → ℕ
 steps_at im c = (users im - c.user) * suc (labels im) + (labels im - c.label)
 
+abbrev pub steps_to : List ℕ → Option Cursor → ℕ
+steps_to im None = 0
+steps_to im (Some c) = suc (steps_at im c)
+
 abbrev pub steps_after : List ℕ → Part → ℕ
-steps_after im p = cond p.more (suc (steps_at im p.next)) 0
+steps_after im p = steps_to im p.next
 
 -- the part from a cursor on; where a line has room, fewer steps are left after it
 pub record NextPart (im : List ℕ) (from : Cursor) (buffer after : List ℕ) (p : Part) : Type 0 where
@@ -54,7 +64,7 @@ pub record NextPart (im : List ℕ) (from : Cursor) (buffer after : List ℕ) (p
 -- the first part of an image's output; only where the image is accepted are there more
 pub record FirstPart (im table after : List ℕ) (p : Part) : Type 0 where
   pub part : PartOf im (output_of im) after p
-  pub going : p.more ≡ true → IsAccepted im × Tabled im table
+  pub going : IsSome p.next → IsAccepted im × Tabled im table
 
 -- the whole output of every input that has more bytes than an image may have
 pub record LongOutput (after : List ℕ) (end : ℕ) : Type 0 where
@@ -63,9 +73,9 @@ pub record LongOutput (after : List ℕ) (end : ℕ) : Type 0 where
 
 -- what is written by a run of parts, each from where the one before it left off, up to the last
 pub data PartsOf (im : List ℕ) : List ℕ → List (List ℕ) → Type 0 where
-  last : {text after : List ℕ} {p : Part} → PartOf im text after p → p.more ≡ false → PartsOf im text (take p.length after ∷ [])
-  and_then : {text after : List ℕ} {p : Part} {parts : List (List ℕ)} → PartOf im text after p → p.more ≡ true
-      → PartsOf im (rest_of im p.next) parts → PartsOf im text (take p.length after ∷ parts)
+  last : {text after : List ℕ} {p : Part} → PartOf im text after p → p.next ≡ None → PartsOf im text (take p.length after ∷ [])
+  and_then : {text after : List ℕ} {p : Part} {from : Cursor} {parts : List (List ℕ)} → PartOf im text after p → p.next ≡ Some from
+      → PartsOf im (rest_of im from) parts → PartsOf im text (take p.length after ∷ parts)
 
 -- ---- what the code fills a buffer with
 -- what code may take for granted of an accepted image, a user's place and that user's rights at the opened session

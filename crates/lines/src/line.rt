@@ -16,7 +16,7 @@ use buffers::given::put;
 use labels::label::Label;
 use records::{labels as label_records, users};
 
-// The letter where it is granted, `-` where it is denied.
+// The letter where it is granted, `-` where it is denied: no conversion of the bool, as the letter is the caller's.
 fn shown(granted: bool, letter: u8) -> u8
     ensures { result ≡ grant_letter granted letter }
 {
@@ -30,8 +30,7 @@ fn put_verdicts(view: View, row: Label, buffer: &mut [u8], at: usize) -> usize
 {
     let reads = shown(reads_label(view, row), b'r');
     let writes = shown(writes_label(view, row), b'w');
-    let text = [b' ', reads, writes, b'\n'];
-    put(&text, buffer, at)
+    put(&[b' ', reads, writes, b'\n'], buffer, at)
 }
 
 // Writes a blank and the tag of the k-th label record.

@@ -20,12 +20,11 @@ pub struct Cursor {
     pub label: usize,
 }
 
-// How many bytes of the buffer are written, whether there is more, and the line to go on with.
+// How many bytes of the buffer are written, and the line to go on with: None after the last part.
 #[derive(Clone, Copy)]
 pub struct Part {
-    pub next: Cursor,
     pub length: usize,
-    pub more: bool,
+    pub next: Option<Cursor>,
 }
 
 // The label record to go on with, and how many bytes of the buffer are written.
@@ -42,16 +41,17 @@ fn user_lines(image: &[u8], view: View, u: usize, k: usize, buffer: &mut [u8]) -
     ensures { FilledFrom image.now u k buffer.old buffer.new result.next result.length }
 {
     let count = layout::labels(image);
-    let mut next = k;
     let mut length = 0;
-    while next < count {
+    for next in k..count {
         if buffer.len() - length < 43 {
             return Filled { next, length };
         }
         length = line(image, view, u, next, buffer, length);
-        next += 1;
     }
-    Filled { next, length }
+    Filled {
+        next: count.max(k),
+        length,
+    }
 }
 
 // Writes the next part of an accepted image's report to the buffer's front.
@@ -63,34 +63,29 @@ pub fn next_part(image: &[u8], table: &Table, from: Cursor, buffer: &mut [u8]) -
     let user = from.user;
     if user >= count {
         return Part {
-            next: from,
             length: 0,
-            more: false,
+            next: None,
         };
     }
     let view = opened_rights(image, table, user);
     let filled = user_lines(image, view, user, from.label, buffer);
-    let length = filled.length;
-    if filled.next < layout::labels(image) {
-        let next = Cursor {
+    let after = user + 1;
+    let next = if filled.next < layout::labels(image) {
+        Some(Cursor {
             user,
             label: filled.next,
-        };
-        return Part {
-            next,
-            length,
-            more: true,
-        };
-    }
-    let after = user + 1;
-    let next = Cursor {
-        user: after,
-        label: 0,
+        })
+    } else if after < count {
+        Some(Cursor {
+            user: after,
+            label: 0,
+        })
+    } else {
+        None
     };
     Part {
+        length: filled.length,
         next,
-        length,
-        more: after < count,
     }
 }
 
@@ -100,20 +95,14 @@ pub fn first_part(image: &[u8], table: &mut Table, buffer: &mut [u8]) -> Part
     requires { 64 ≤ length buffer.old }
     ensures { FirstPart image.now table.new buffer.new result }
 {
-    let next = Cursor { user: 0, label: 0 };
     match check_table(image, table) {
         Ok(()) => Part {
-            next,
             length: 0,
-            more: true,
+            next: Some(Cursor { user: 0, label: 0 }),
         },
-        Err(refusal) => {
-            let length = refusal_line(refusal, buffer);
-            Part {
-                next,
-                length,
-                more: false,
-            }
-        }
+        Err(refusal) => Part {
+            length: refusal_line(refusal, buffer),
+            next: None,
+        },
     }
 }

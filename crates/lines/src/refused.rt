@@ -42,12 +42,15 @@ fn put_place(refusal: Refusal, buffer: &mut [u8], at: usize) -> usize
 {
     match refusal {
         Refusal::BlockCheck(b) => put_value(b" at block ", b, buffer, at),
-        Refusal::ComponentRecord(b, r) => put_record(b, r, buffer, at),
-        Refusal::LabelRecord(b, r) => put_record(b, r, buffer, at),
-        Refusal::UserRecord(b, r) => put_record(b, r, buffer, at),
+        Refusal::ComponentRecord(b, r) | Refusal::LabelRecord(b, r) | Refusal::UserRecord(b, r) =>
+            put_record(b, r, buffer, at),
         Refusal::ParentRing(g) => put_value(b" at group ", g, buffer, at),
-        Refusal::UnknownName(n) => put_value(b" at offset ", n, buffer, at),
-        Refusal::RepeatedName(n) => put_value(b" at offset ", n, buffer, at),
+        Refusal::UnknownName(n) | Refusal::RepeatedName(n) => put_value(
+            b" at offset ",
+            n,
+            buffer,
+            at,
+        ),
         Refusal::CompaccessHolders(n) => put_value(b" holders ", n, buffer, at),
         _ => at,
     }

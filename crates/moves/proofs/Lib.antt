@@ -17,3 +17,4 @@ pub mod Steps
 pub mod ClearedBytes
 pub mod LessPrivileges
 pub mod KeptByClearing
+pub mod HolderCount

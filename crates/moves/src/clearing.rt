@@ -1,11 +1,12 @@
 // Records of edition 1 written without COMPACCESS.
 ghost use Rattle.std.specs.Prelude.{◌+◌, ◌<◌, ◌≤◌, ◌≡◌, length};
 ghost use Rattle.buffers.specs.Pasting.{Written};
-ghost use Rattle.header.specs.declared.edition.Edition.TheVariants.{One};
-ghost use Rattle.header.specs.Layout.{record_size};
-ghost use Rattle.moves.specs.Moved.{without_compaccess, clear_user, clear_record};
+ghost use Rattle.moves.specs.Moved.{without_compaccess, clear_user};
+ghost use Rattle.moves.specs.declared.target.Move.TheVariants.{Clear};
 
+use crate::target::Step;
 use buffers::given::put;
+use header::edition::Edition;
 use header::layout::Kind;
 use sets::word;
 
@@ -27,14 +28,21 @@ fn put_cleared_user(rec: &[u8], buffer: &mut [u8], at: usize) -> usize
     put(&rec[32..], buffer, privileges)
 }
 
-// Writes the record of that kind.
-pub(crate) fn put_cleared(kind: Kind, rec: &[u8], buffer: &mut [u8], at: usize) -> usize
-    requires { (length rec.now ≡ record_size One kind) × (at + record_size One kind ≤ length buffer.old) }
-    ensures { Written buffer.old at (clear_record kind rec.now) buffer.new result }
-{
-    match kind {
-        Kind::Component => put(rec, buffer, at),
-        Kind::Label => put(rec, buffer, at),
-        Kind::User => put_cleared_user(rec, buffer, at),
+// The move in edition 1, without COMPACCESS.
+pub(crate) struct Clearing;
+
+impl Step for Clearing {
+    ghost which = { Clear };
+
+    fn edition() -> Edition {
+        Edition::One
+    }
+
+    fn put(kind: Kind, rec: &[u8], buffer: &mut [u8], at: usize) -> usize {
+        match kind {
+            Kind::Component => put(rec, buffer, at),
+            Kind::Label => put(rec, buffer, at),
+            Kind::User => put_cleared_user(rec, buffer, at),
+        }
     }
 }

@@ -1,5 +1,6 @@
 // Users who hold COMPACCESS.
-ghost use Rattle.std.specs.Prelude.{◌+◌, ◌<◌, ◌≤◌, ◌≡◌, length};
+ghost use Rattle.std.specs.Prelude.{◌+◌, ◌<◌, ◌≤◌, ◌≡◌, count_by, length};
+ghost use Rattle.std.specs.List.{range_with_len};
 ghost use Rattle.buffers.specs.Pasting.{Written};
 ghost use Rattle.header.specs.Layout.{users};
 ghost use Rattle.header.specs.Limits.{Counted};
@@ -22,18 +23,10 @@ fn is_holder(image: &[u8], u: usize) -> bool
 
 pub(crate) fn holder_count(image: &[u8]) -> usize
     requires { Counted image.now }
-    ensures { result ≡ length (holders image.now) }
+    ensures { result ≡ count_by (is_holder image.now) (range_with_len 0 (users image.now)) }
 {
     let count = layout::users(image);
-    let mut held = 0;
-    let mut u = 0;
-    while u < count {
-        if is_holder(image, u) {
-            held += 1;
-        }
-        u += 1;
-    }
-    held
+    (0..count).filter(|u| is_holder(image, *u)).count()
 }
 
 // Writes the place u, if that user has the bit, and tells where it ends.
@@ -45,9 +38,7 @@ fn put_holder(image: &[u8], u: usize, buffer: &mut [u8], at: usize) -> usize
     if !is_holder(image, u) {
         return at;
     }
-    let place = u as u8;
-    let bytes = [place];
-    put(&bytes, buffer, at)
+    put(&[u as u8], buffer, at)
 }
 
 // Writes their places to the front of the buffer, and tells how many.
@@ -57,10 +48,8 @@ fn put_holders(image: &[u8], buffer: &mut [u8]) -> usize
 {
     let count = layout::users(image);
     let mut end = 0;
-    let mut u = 0;
-    while u < count {
+    for u in 0..count {
         end = put_holder(image, u, buffer, end);
-        u += 1;
     }
     end
 }

@@ -15,11 +15,11 @@ mod widening;
 ghost use Rattle.std.specs.Prelude.{◌≡◌};
 ghost use Rattle.moves.specs.Moving.{move_up_of, compaccess_users_of, clear_compaccess_of};
 
+use clearing::Clearing;
 use holders::list_accepted;
 use laying::write_image;
 use old::old_check;
 use refusals::Refusal;
-use target::Move;
 use up::move_accepted;
 
 // An accepted image of edition 1, written in edition 2's layouts to the front of the buffer. Refusals: 1, 2, 31 for edition 2, 31 to
@@ -45,5 +45,5 @@ pub fn clear_compaccess(image: &[u8], buffer: &mut [u8]) -> Result<usize, Refusa
     ensures { (result, buffer.new) ≡ clear_compaccess_of image.now buffer.old }
 {
     old_check(image)?;
-    write_image(Move::Clear, image, buffer)
+    write_image::<Clearing>(image, buffer)
 }

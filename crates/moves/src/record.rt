@@ -5,15 +5,12 @@ ghost use Rattle.header.specs.declared.edition.Edition.TheVariants.{One};
 ghost use Rattle.header.specs.Layout.{edition_of, count_of, record_size, Fitted, record_at};
 ghost use Rattle.moves.specs.Moved.{edition_after, new_record};
 
-use crate::clearing::put_cleared;
-use crate::target::Move;
-use crate::widening::put_widened;
+use crate::target::Step;
 use header::layout;
 use header::layout::Kind;
 
 // Writes the record of that kind at place i.
-pub(crate) fn put_record(
-    which: Move,
+pub(crate) fn put_record<S: Step>(
     image: &[u8],
     kind: Kind,
     i: usize,
@@ -21,12 +18,8 @@ pub(crate) fn put_record(
     at: usize,
 ) -> usize
     requires fitted { Fitted image.now × ((edition_of image.now ≡ One) × (i < count_of image.now kind)) }
-    requires kind_in_bounds { at + record_size (edition_after which) kind ≤ length buffer.old }
-    ensures { Written buffer.old at (new_record which kind (record_at image.now kind i)) buffer.new result }
+    requires kind_in_bounds { at + record_size (edition_after S.which) kind ≤ length buffer.old }
+    ensures { Written buffer.old at (new_record S.which kind (record_at image.now kind i)) buffer.new result }
 {
-    let rec = layout::record_part(image, kind, i);
-    match which {
-        Move::Up => put_widened(kind, rec, buffer, at),
-        Move::Clear => put_cleared(kind, rec, buffer, at),
-    }
+    S::put(kind, layout::record_part(image, kind, i), buffer, at)
 }

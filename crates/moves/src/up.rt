@@ -7,7 +7,7 @@ ghost use Rattle.moves.specs.Moving.{move_limits_rule, move_accepted};
 
 use crate::holders::holder_count;
 use crate::laying::write_image;
-use crate::target::Move;
+use crate::widening::Widening;
 use header::edition::Edition;
 use header::layout;
 use header::limits::limits_in;
@@ -34,5 +34,5 @@ pub(crate) fn move_accepted(image: &[u8], buffer: &mut [u8]) -> Result<usize, Re
     if count != 0 {
         return Err(Refusal::CompaccessHolders(count));
     }
-    write_image(Move::Up, image, buffer)
+    write_image::<Widening>(image, buffer)
 }

@@ -1,12 +1,13 @@
 // Records of edition 1 written as edition 2 has them.
 ghost use Rattle.std.specs.Prelude.{◌+◌, ◌<◌, ◌≤◌, ◌≡◌, length};
 ghost use Rattle.buffers.specs.Pasting.{Written};
-ghost use Rattle.header.specs.declared.edition.Edition.TheVariants.{One, Two};
-ghost use Rattle.header.specs.Layout.{record_size};
 ghost use Rattle.writing.specs.Laid.{bytes2};
-ghost use Rattle.moves.specs.Moved.{wide_parent, wide_set, up_component, up_label, up_user, up_record};
+ghost use Rattle.moves.specs.Moved.{wide_parent, wide_set, up_component, up_label, up_user};
+ghost use Rattle.moves.specs.declared.target.Move.TheVariants.{Up};
 
+use crate::target::Step;
 use buffers::given::put;
+use header::edition::Edition;
 use header::layout::Kind;
 use writing::block::{high, low, put_zeros};
 
@@ -71,14 +72,21 @@ fn put_user(rec: &[u8], buffer: &mut [u8], at: usize) -> usize
     put_set(rec, 96, buffer, default)
 }
 
-// Writes the record of that kind.
-pub(crate) fn put_widened(kind: Kind, rec: &[u8], buffer: &mut [u8], at: usize) -> usize
-    requires { (length rec.now ≡ record_size One kind) × (at + record_size Two kind ≤ length buffer.old) }
-    ensures { Written buffer.old at (up_record kind rec.now) buffer.new result }
-{
-    match kind {
-        Kind::Component => put_component(rec, buffer, at),
-        Kind::Label => put_label(rec, buffer, at),
-        Kind::User => put_user(rec, buffer, at),
+// The move up to edition 2.
+pub(crate) struct Widening;
+
+impl Step for Widening {
+    ghost which = { Up };
+
+    fn edition() -> Edition {
+        Edition::Two
+    }
+
+    fn put(kind: Kind, rec: &[u8], buffer: &mut [u8], at: usize) -> usize {
+        match kind {
+            Kind::Component => put_component(rec, buffer, at),
+            Kind::Label => put_label(rec, buffer, at),
+            Kind::User => put_user(rec, buffer, at),
+        }
     }
 }

@@ -4,7 +4,7 @@
 
 #![tactic(auto)]
 
-ghost use Rattle.std.specs.Prelude.{◌≤◌, ◌≡◌, true, length, IfOk};
+ghost use Rattle.std.specs.Prelude.{◌≤◌, length, IsSome, IfOk};
 ghost use Rattle.hierarchy.specs.Below.{Tabled};
 ghost use Rattle.image.specs.Check.{IsAccepted};
 ghost use Rattle.lines.specs.Parts.{steps_at, steps_after};
@@ -24,7 +24,7 @@ fn write_front(rt: &impl Print, text: &[u8], n: usize) -> io::Result<()>
 
 // The part, and whether it could be written. What is promised of the part holds in both cases.
 fn write_first(rt: &impl Print, image: &[u8], table: &mut Table) -> (Part, io::Result<()>)
-    ensures { result.0.more ≡ true → IsAccepted image.now × Tabled image.now table.new }
+    ensures { IsSome result.0.next → IsAccepted image.now × Tabled image.now table.new }
 {
     let mut text = [0u8; 64];
     let part = first_part(image, table, &mut text);
@@ -47,8 +47,8 @@ fn write_output(rt: &impl Print, image: &[u8]) -> io::Result<()> {
     let mut table = table::EMPTY;
     let (mut part, first) = write_first(rt, image, &mut table);
     first?;
-    while part.more {
-        let (next, written) = write_next(rt, image, &table, part.next);
+    while let Some(from) = part.next {
+        let (next, written) = write_next(rt, image, &table, from);
         written?;
         part = next;
     }
@@ -66,6 +66,7 @@ fn read_full(input: &mut impl Read, buffer: &mut [u8]) -> io::Result<usize>
     ensures { IfOk result (λ n. n ≤ length buffer.new) }
 {
     let mut done = 0;
+    // no counted loop: each turn moves on by what its read gives
     while done < buffer.len() {
         let n = input.read(&mut buffer[done..])?;
         if n == 0 {

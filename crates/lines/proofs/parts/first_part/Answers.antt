@@ -10,5 +10,5 @@ returns-in-Ok c =
 
 pub returns-in-Err : goal.returns-in-Err
 returns-in-Err c =
-    first-refused _ _ _ (sym c.check_table.ensures.told ∙ c.in-Err.is) _ c.requires c.refusal_line-length.ensures.0
-    c.refusal_line-length.ensures.1
+    first-refused _ _ _ (sym c.check_table.ensures.told ∙ c.in-Err.is) _ c.requires c.refusal_line.ensures.0
+    c.refusal_line.ensures.1

@@ -1,11 +1,9 @@
 use Prim.Native.Nat.{◌<◌}
-use mathlib.Core.Path.{ap}
 use native.Mathlib.Omega.{arith}
-use lib.Dec.{ltb}
 use Rattle.header.specs.Layout.{users}
 use Rattle.header.proofs.Inside.{header-inside}
 use Rattle.image.proofs.Accepted.{accepted-counted}
-use Rattle.lines.proofs.Rest.{part_none, part-inside, part-user}
+use Rattle.lines.proofs.Rest.{part_none, part-inside, part-user, part-last}
 use Rattle.lines.proofs.parts.next_part.Goals as goal
 
 pub users-count-requires : goal.users-count-requires
@@ -28,8 +26,13 @@ returns-then-filled-labels c =
     let user-here : c.args.from.user < users c.args.image.now = omega (arith, c.if-user-count.false, c.users-count.ensures.0) in
     part-inside _ _ user-here c.user_lines-filled.ensures (omega (arith, c.if-filled-labels.true, c.labels.ensures.0))
 
-pub returns : goal.returns
-returns c =
+pub returns-then-after-count : goal.returns-then-after-count
+returns-then-after-count c =
     let user-here : c.args.from.user < users c.args.image.now = omega (arith, c.if-user-count.false, c.users-count.ensures.0) in
-    part-user _ _ user-here c.user_lines-filled.ensures (omega (arith, c.if-filled-labels.false, c.labels.ensures.0)) _
-    (ap (ltb _) c.users-count.ensures.0)
+    part-user _ _ user-here c.user_lines-filled.ensures (omega (arith, c.if-filled-labels.false, c.labels.ensures.0))
+
+pub returns-else-after-count : goal.returns-else-after-count
+returns-else-after-count c =
+    let user-here : c.args.from.user < users c.args.image.now = omega (arith, c.if-user-count.false, c.users-count.ensures.0) in
+    part-last _ _ user-here c.user_lines-filled.ensures (omega (arith, c.if-filled-labels.false, c.labels.ensures.0))
+    (omega (arith, c.if-after-count.false, c.users-count.ensures.0))

@@ -1,5 +1,4 @@
 use Rattle.lines.proofs.RefusalText.{room-block, room-slot, record-told}
-use borrow.Author.Rules.{rules}
 use Rattle.lines.proofs.refused.put_record.Goals as goal
 
 pub put_named-told-requires : goal.put_named-told-requires

@@ -8,13 +8,9 @@ use Rattle.moves.proofs.holders.put_holder.Goals as goal
 pub returns-then-not-is_holder : goal.returns-then-not-is_holder
 returns-then-not-is_holder c = rw (sym c.is_holder.ensures ∙ c.if-not-is_holder.true) (written_none _ _ [] refl)
 
-pub overflow_cast-place : goal.overflow_cast-place
-overflow_cast-place c =
+pub overflow_cast-u : goal.overflow_cast-u
+overflow_cast-u c =
     record { fits = omega (arith, c.requires.counted.1, counted-users _ c.requires.counted.0) }
-
-pub put-requires : goal.put-requires
-put-requires c =
-    rw (sym c.is_holder.ensures ∙ c.if-not-is_holder.false) at c.requires.u_in_bounds
 
 pub returns : goal.returns
 returns c =

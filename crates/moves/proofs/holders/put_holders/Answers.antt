@@ -23,20 +23,11 @@ put_holder-end-requires c =
       u_in_bounds = left-room _ _ _ _ _ _ c.loop-u.invariant (holder_at im u) _ step (rw zero-add c.requires.1);
     }
 
-pub overflow_add-u : goal.overflow_add-u
-overflow_add-u c = omega arith
-
-pub loop-u-smaller : goal.loop-u-smaller
-loop-u-smaller c = omega arith
-
 pub loop-u-preserved : goal.loop-u-preserved
 loop-u-preserved c =
     let im = c.args.image.now in
     let step = turn (is_holder im) c.users-count.result c.loop-u.u c.loop-u-test.true in
     left-turn _ _ _ _ _ _ c.loop-u.invariant _ _ step _ _ (rw zero-add c.requires.1) c.put_holder-end.ensures
-
-pub shape_of-buffer : goal.shape_of-buffer
-shape_of-buffer c = c.loop-u.invariant.long
 
 pub returns : goal.returns
 returns c = left_end _ _ _ _ _ _ c.loop-u.invariant (turn_end _ _ _ c.loop-u-test.false)

@@ -7,6 +7,3 @@ use Rattle.moves.proofs.holders.put_holders.Given as goal
 abbrev pub invariant-loop-u : goal.invariant-loop-u
 invariant-loop-u l =
     Left l.initial.buffer 0 (holders l.image) l.buffer l.end (places_where (is_holder l.image) (l.count - l.u) l.u)
-
-abbrev pub decreases-loop-u : goal.decreases-loop-u
-decreases-loop-u l = l.count - l.u

@@ -12,25 +12,25 @@ few-groups Up count h = omega arith
 few-groups Clear count h = omega arith
 
 pub put_header-requires : goal.put_header-requires
-put_header-requires c =
-    let few = few-groups c.args.which _ c.requires.1.0 in
+put_header-requires g c =
+    let few = few-groups g.S.Step.which _ c.requires.1.0 in
     record {
       groups_bound = (
-        rw (c.edition_after.ensures, c.groups-groups.ensures.0) few,
+        rw (c.edition.ensures, c.groups-groups.ensures.0) few,
         (omega (arith, c.users-users.ensures.1), omega (arith, c.labels-labels.ensures.1)),
       );
       at_in_bounds = omega (arith, c.requires.1.1);
     }
 
 pub returns : goal.returns
-returns c =
+returns g c =
     rw (
       c.levels-levels.ensures.0,
       c.compartments-compartments.ensures.0,
       c.groups-groups.ensures.0,
       c.users-users.ensures.0,
       c.labels-labels.ensures.0,
-      c.edition_after.ensures,
+      c.edition.ensures,
       c.profile_of.ensures,
     )
     at c.put_header.ensures

@@ -70,20 +70,20 @@ module _ (which : Move) (im : List ℕ) where
     room h = h
 
 pub blocks_for-label_place-requires : goal.blocks_for-label_place-requires
-blocks_for-label_place-requires c = header-inside _ c.requires.counted.0.fitted
+blocks_for-label_place-requires g c = header-inside _ c.requires.counted.0.fitted
 
 pub blocks_for-requires : goal.blocks_for-requires
-blocks_for-requires c = header-inside _ c.requires.counted.0.fitted
+blocks_for-requires g c = header-inside _ c.requires.counted.0.fitted
 
 pub put_counts-head-requires : goal.put_counts-head-requires
-put_counts-head-requires c =
+put_counts-head-requires g c =
     let old = c.requires.counted in
-    let long = moved_length c.args.which c.args.image.now old.0.fitted old.1 in
+    let long = moved_length g.S.Step.which c.args.image.now old.0.fitted old.1 in
     (header-inside _ old.0.fitted, (old-groups _ old.1 old.0.groups_limit, omega (arith, c.requires.image_in_bounds)))
 
 pub move_kind-components-requires : goal.move_kind-components-requires
-move_kind-components-requires c =
-    let which = c.args.which in
+move_kind-components-requires g c =
+    let which = g.S.Step.which in
     let im = c.args.image.now in
     let old = c.requires.counted in
     let inside = room which im old c.requires.image_in_bounds in
@@ -94,8 +94,8 @@ move_kind-components-requires c =
     }
 
 pub move_kind-labels-requires : goal.move_kind-labels-requires
-move_kind-labels-requires c =
-    let which = c.args.which in
+move_kind-labels-requires g c =
+    let which = g.S.Step.which in
     let im = c.args.image.now in
     let old = c.requires.counted in
     let place = (place-fits which im old.0).1.0 in
@@ -108,8 +108,8 @@ move_kind-labels-requires c =
     }
 
 pub move_kind-requires : goal.move_kind-requires
-move_kind-requires c =
-    let which = c.args.which in
+move_kind-requires g c =
+    let which = g.S.Step.which in
     let im = c.args.image.now in
     let old = c.requires.counted in
     let place = (place-fits which im old.0).1.1 in
@@ -124,8 +124,8 @@ move_kind-requires c =
 
 pub returns : goal.returns
 unfolding new_image
-returns c =
-    let which = c.args.which in
+returns g c =
+    let which = g.S.Step.which in
     let im = c.args.image.now in
     let old = c.requires.counted in
     let inside = room which im old c.requires.image_in_bounds in

@@ -47,33 +47,32 @@ module _ (which : Move) (im : List ℕ) (kind : Kind) (from to : ℕ) where
     used place = run-used edition kind records sized from to some.0 high some.1 place
 
 pub overflow_cast-count : goal.overflow_cast-count
-overflow_cast-count c = omega (arith, (kind-roomy (edition_after c.args.which) c.args.kind 0 0).few)
+overflow_cast-count g c = omega (arith, (kind-roomy (edition_after g.S.Step.which) c.args.kind 0 0).few)
 
 pub put_records-end-requires : goal.put_records-end-requires
-put_records-end-requires c =
+put_records-end-requires g c =
     let a = c.args in
-    let few = fits a.which a.image.now a.kind a.from a.to c.requires.fitted c.requires.from_le_to in
+    let few = fits g.S.Step.which a.image.now a.kind a.from a.to c.requires.fitted c.requires.from_le_to in
     record {
       fitted = c.requires.fitted;
-      to_in_bounds =
-          room_after 4 508 refl c.requires.place_bound.1 c.put_head-head.ensures (length (flatten (run a.which a.image.now a.kind a.from a.to))) (omega arith);
+      to_in_bounds = room_after 4 508 refl c.requires.place_bound.1 c.put_head-head.ensures _ (omega (arith, few));
     }
 
 pub put_end-requires : goal.put_end-requires
-put_end-requires c =
+put_end-requires g c =
     let a = c.args in
-    let few = fits a.which a.image.now a.kind a.from a.to c.requires.fitted c.requires.from_le_to in
+    let few = fits g.S.Step.which a.image.now a.kind a.from a.to c.requires.fitted c.requires.from_le_to in
     (omega (arith, c.put_head-head.ensures.stop, c.put_records-end.ensures.stop), search rules)
 
 pub returns : goal.returns
 unfolding block_of
-returns c =
+returns g c =
     let a = c.args in
     let room = c.requires.place_bound.1 in
-    let told = count a.which a.image.now a.kind a.from a.to c.requires.fitted c.requires.from_le_to in
+    let told = count g.S.Step.which a.image.now a.kind a.from a.to c.requires.fitted c.requires.from_le_to in
     let first = ap₂ (λ (k n : ℕ). head_of k n a.place) c.kind_byte.ensures (sym told) in
     let head = written_same first c.put_head-head.ensures in
     let rest = c.put_records-end.ensures in
-    let whole = then-written 4 508 refl room head {y = flatten (run a.which a.image.now a.kind a.from a.to)} rest in
-    let few = used a.which a.image.now a.kind a.from a.to c.requires.fitted c.requires.from_le_to a.place in
+    let whole = then-written 4 508 refl room head {y = flatten (run g.S.Step.which a.image.now a.kind a.from a.to)} rest in
+    let few = used g.S.Step.which a.image.now a.kind a.from a.to c.requires.fitted c.requires.from_le_to a.place in
     block_written _ few room whole _ (omega (arith, head.stop, rest.stop)) c.put_end.ensures

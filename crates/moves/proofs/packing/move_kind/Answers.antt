@@ -24,25 +24,22 @@ turn which im kind from to b fit one n h after e more =
     (h ∙ ap (λ (x : Edition). capacity_of x kind) after) e more
 
 pub count-count-requires : goal.count-count-requires
-count-count-requires c = header-inside _ c.requires.fitted.0
+count-count-requires g c = header-inside _ c.requires.fitted.0
 
 pub loop-from-init : goal.loop-from-init
-loop-from-init c =
+loop-from-init g c =
     let args = c.args in
-    let first = kind-start (edition_after args.which) args.kind (new_records args.which args.image.now args.kind) args.place in
-    (omega arith, (omega arith, left-start _ _ _ _ (first ∙ kind-is args.which args.image.now args.kind args.place)))
-
-pub overflow_add-from : goal.overflow_add-from
-overflow_add-from c = omega arith
+    let first = kind-start (edition_after g.S.Step.which) args.kind (new_records g.S.Step.which args.image.now args.kind) args.place in
+    (omega arith, (omega arith, left-start _ _ _ _ (first ∙ kind-is g.S.Step.which args.image.now args.kind args.place)))
 
 pub move_block-end-requires : goal.move_block-end-requires
-move_block-end-requires c =
+move_block-end-requires g c =
     let a = c.args in
     let fitted = c.requires.fitted in
-    let t = turn c.args.which c.args.image.now c.args.kind c.loop-from.from c.lower-to.result c.loop-from.b c.requires.fitted.0 c.requires.fitted.1.0
-    c.count-count.ensures.0 c.capacity-held.ensures.0 c.edition_after.ensures c.lower-to.ensures c.loop-from-test.true in
-    let room = rw (← new-kind-long a.which a.image.now a.kind fitted.0 fitted.1.0 a.place) at c.requires.kind_in_bounds in
-    let count = new-count a.which a.image.now a.kind in
+    let t = turn g.S.Step.which c.args.image.now c.args.kind c.loop-from.from c.lower-to.result c.loop-from.b c.requires.fitted.0 c.requires.fitted.1.0
+    c.count-count.ensures.0 c.capacity-held.ensures.0 c.edition.ensures c.lower-to.ensures c.loop-from-test.true in
+    let room = rw (← new-kind-long g.S.Step.which a.image.now a.kind fitted.0 fitted.1.0 a.place) at c.requires.kind_in_bounds in
+    let count = new-count g.S.Step.which a.image.now a.kind in
     record {
       fitted = (fitted.0, (fitted.1.0, omega (arith, t.upto)));
       from_le_to = (t.low, t.few);
@@ -52,28 +49,19 @@ move_block-end-requires c =
       );
     }
 
-pub overflow_add-b : goal.overflow_add-b
-overflow_add-b c = omega arith
-
-pub loop-from-smaller : goal.loop-from-smaller
-loop-from-smaller c = omega arith
-
 pub loop-from-preserved : goal.loop-from-preserved
-loop-from-preserved c =
+loop-from-preserved g c =
     let a = c.args in
     let fitted = c.requires.fitted in
-    let t = turn c.args.which c.args.image.now c.args.kind c.loop-from.from c.lower-to.result c.loop-from.b c.requires.fitted.0 c.requires.fitted.1.0
-    c.count-count.ensures.0 c.capacity-held.ensures.0 c.edition_after.ensures c.lower-to.ensures c.loop-from-test.true in
-    let room = rw (← new-kind-long a.which a.image.now a.kind fitted.0 fitted.1.0 a.place) at c.requires.kind_in_bounds in
+    let t = turn g.S.Step.which c.args.image.now c.args.kind c.loop-from.from c.lower-to.result c.loop-from.b c.requires.fitted.0 c.requires.fitted.1.0
+    c.count-count.ensures.0 c.capacity-held.ensures.0 c.edition.ensures c.lower-to.ensures c.loop-from-test.true in
+    let room = rw (← new-kind-long g.S.Step.which a.image.now a.kind fitted.0 fitted.1.0 a.place) at c.requires.kind_in_bounds in
     let inv = c.loop-from.invariant in
     (omega arith, (omega arith, left-turn _ _ _ _ _ _ inv.1.1 _ _ t.step _ _ room c.move_block-end.ensures))
 
-pub shape_of-buffer : goal.shape_of-buffer
-shape_of-buffer c = c.loop-from.invariant.1.1.long
-
 pub returns : goal.returns
-returns c =
+returns g c =
     let args = c.args in
-    let told = c.count-count.ensures.0 ∙ sym (new-count args.which args.image.now args.kind) in
+    let told = c.count-count.ensures.0 ∙ sym (new-count g.S.Step.which args.image.now args.kind) in
     left_end _ _ _ _ _ _ c.loop-from.invariant.1.1
-    (kind-end (edition_after args.which) args.kind (new_records args.which args.image.now args.kind) _ _ (omega (arith, told)))
+    (kind-end (edition_after g.S.Step.which) args.kind (new_records g.S.Step.which args.image.now args.kind) _ _ (omega (arith, told)))

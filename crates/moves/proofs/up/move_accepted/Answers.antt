@@ -13,6 +13,7 @@ use Rattle.moves.specs.Moved.{new_image}
 use Rattle.moves.specs.Holders.{holders}
 use Rattle.buffers.specs.Filling.{written_to}
 use Rattle.moves.specs.Moving.{move_limits_rule, move_accepted}
+use Rattle.moves.proofs.HolderCount.{holder-count}
 use Rattle.moves.proofs.up.move_accepted.Goals as goal
 
 -- ---- the answer
@@ -35,9 +36,10 @@ returns-then-not-limits_ok c = answer-limits _ _ (sym c.limits_ok.ensures ∙ c.
 
 pub returns-then-count-ne0 : goal.returns-then-count-ne0
 returns-then-count-ne0 c =
-    answer-held _ _ _ c.holder_count-count.ensures (sym c.limits_ok.ensures ∙ c.if-not-limits_ok.false) c.if-count-ne0.true
+    answer-held _ _ _ (holder-count _ c.holder_count-count.ensures) (sym c.limits_ok.ensures ∙ c.if-not-limits_ok.false) c.if-count-ne0.true
 
 pub returns : goal.returns
 returns c =
-    answer-written c.args.image.now c.args.buffer.now _ c.holder_count-count.ensures (sym c.limits_ok.ensures ∙ c.if-not-limits_ok.false) c.if-count-ne0.false
-    c.write_image.ensures
+    let count = holder-count _ c.holder_count-count.ensures in
+    let limits = sym c.limits_ok.ensures ∙ c.if-not-limits_ok.false in
+    answer-written c.args.image.now c.args.buffer.now _ count limits c.if-count-ne0.false c.write_image.ensures
