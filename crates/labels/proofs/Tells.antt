@@ -4,6 +4,7 @@ use Prim.Native.Nat.{ℕ}
 use mathlib.Core.Path.{◌≡◌, refl, sym, ap}
 use mathlib.Core.Bool.{Bool, true, false, cond, true≢false}
 use mathlib.Core.List.{List}
+use mathlib.Core.Logic.{◌⊎◌, inl, inr}
 use Rattle.refusals.specs.declared.Refusal.{Refusal}
 use Rattle.refusals.specs.Answers.{on_checked, Checked}
 use Rattle.header.specs.Limits.{limits_of}
@@ -57,3 +58,13 @@ parsed-read im text m = at (check_of im) (read_text im text)
     at (Ok tt) (read n) e = (refl, cc)
     at (Ok tt) (refused reason) e = absurd (not-ok (refusal_of reason) e)
     at (Err r) x e = absurd (not-ok r e)
+
+-- a refusal is the image's or, of an accepted image, the text's
+pub parse-refused : (im text : List ℕ) (r : Refusal) → parse_of im text ≡ Err r
+    → (check_of im ≡ Err r) ⊎ (IsAccepted im × (of_text (read_text im text) ≡ Err r))
+unfolding parse_of
+parse-refused im text r = at (check_of im)
+  where
+    at : (c : Checked) → on_checked c Err (of_text (read_text im text)) ≡ Err r → (c ≡ Err r) ⊎ ((c ≡ Ok tt) × (of_text (read_text im text) ≡ Err r))
+    at (Ok tt) e = inr (refl, e)
+    at (Err q) e = inl cc
