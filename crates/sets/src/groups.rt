@@ -137,7 +137,10 @@ impl Groups {
     pub fn meets(self, other: Groups) -> bool
         ensures { result ≡ sets.meets (places_of self) (places_of other) }
     {
-        !self.intersection(other).is_empty()
+        word::meets(self.w0, other.w0)
+            | word::meets(self.w1, other.w1)
+            | word::meets(self.w2, other.w2)
+            | word::meets(self.w3, other.w3)
     }
 
     // The set whose words the operation gives, each of one word of both sets.
