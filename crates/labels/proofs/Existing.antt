@@ -116,4 +116,4 @@ module _ (im : List ℕ) where
       at false d f = absurd (refused-not-read _ m f)
 
   pub parsed-exists : (text : List ℕ) (m : Marks) → parse_of im text ≡ Ok m → Exists im m
-  parsed-exists text m e = parts-exist (split colon text) m (text-parts im text m (parsed-read im text m e).1)
+  parsed-exists text m e = parts-exist (split colon text) m (text-parts im text m (parsed-read im text (read m) e).1)

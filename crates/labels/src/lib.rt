@@ -24,6 +24,9 @@ use refusals::Refusal;
 pub fn parse(image: &[u8], text: &[u8]) -> Result<Label, Refusal>
     ensures { parsing_of result ≡ parse_of image.now text.now }
 {
-    check(image)?;
-    Ok(given::read_text(image, text)?)
+    // `match` and no `?`: so the must-fail edit of a refused image is refused for the answer alone, and not since `map_err` has no proof.
+    match check(image) {
+        Ok(()) => Ok(given::read_text(image, text)?),
+        Err(refusal) => Err(refusal),
+    }
 }

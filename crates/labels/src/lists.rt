@@ -16,6 +16,27 @@ use sets::word;
 // The words of the set of the places of names that are read.
 type Words = [u64; 4];
 
+// What its names give: all are read, or the offset of the leftmost that is unknown or came before. It is two words, which come back in registers. A
+// `Result<(), Reason>` is three, and takes 112 bytes of stack for each name of a list, in place of 80.
+#[derive(Clone, Copy)]
+pub enum Names {
+    Read,
+    Unknown(usize),
+    Repeated(usize),
+}
+
+// The set of the places that were read is kept as its words.
+fn list_read(names: Names, words: &[u64]) -> Result<Groups, Reason>
+    requires { length words.now ≡ 4 }
+    ensures { list_of result ≡ names_of names (joined words.now) }
+{
+    match names {
+        Names::Read => Ok(Groups::of_words(words[0], words[1], words[2], words[3])),
+        Names::Unknown(offset) => Err(Reason::Unknown(offset)),
+        Names::Repeated(offset) => Err(Reason::Repeated(offset)),
+    }
+}
+
 // The first place from `at` on that holds the mark; the text's length where none does.
 pub fn mark_from(text: &[u8], at: usize, mark: u8) -> usize
     requires { at ≤ length text.now }
@@ -24,8 +45,7 @@ pub fn mark_from(text: &[u8], at: usize, mark: u8) -> usize
     first_stop(Lacks { mark }, text, at)
 }
 
-// A list is one name, or one name, a comma and a list. `words` have the names before this one. The leftmost name that is unknown or came before
-// is told.
+// A list is one name, or one name, a comma and a list. `words` have the names before this one.
 #[cycle(names)]
 fn read_names(
     image: &[u8],
@@ -34,25 +54,26 @@ fn read_names(
     at: usize,
     hints: &Hints,
     words: &mut Words,
-) -> Result<(), Reason>
+) -> Names
     requires { IsAccepted image.now × (((1 ≤ class) × (class ≤ 3)) × ((at ≤ length text.now) × (length words.old ≡ 4))) }
     ensures words_after { names_of result (joined words.new) ≡ read_names image.now class at (joined words.old) (split comma (drop at text.now)) }
     ensures words_len { length words.new ≡ 4 }
 {
     let end = mark_from(text, at, b',');
     let Some(place) = find_by(image, class, hints, &text[at..end]) else {
-        return Err(Reason::Unknown(at));
+        return Names::Unknown(at);
     };
     let w = words[place / 64];
     if word::has(w, place % 64) {
-        return Err(Reason::Repeated(at));
+        return Names::Repeated(at);
     }
     words[place / 64] = word::with(w, place % 64);
     after_name(image, class, text, end, hints, words)
 }
 
-// After a name the list ends, or a comma and a list follow.
+// After a name the list ends, or a comma and a list follow. It is never inlined: inlined, a name takes 96 bytes of stack.
 #[cycle(names)]
+#[inline(never)]
 fn after_name(
     image: &[u8],
     class: u8,
@@ -60,7 +81,7 @@ fn after_name(
     at: usize,
     hints: &Hints,
     words: &mut Words,
-) -> Result<(), Reason>
+) -> Names
     requires { IsAccepted image.now × (((1 ≤ class) × (class ≤ 3)) × ((at ≤ length text.now) × (length words.old ≡ 4))) }
     ensures words_after { names_of result (joined words.new) ≡ read_names image.now class (at + 1) (joined words.old) (after_mark comma text.now at) }
     ensures words_len { length words.new ≡ 4 }
@@ -68,7 +89,7 @@ fn after_name(
     if at < text.len() {
         return read_names(image, class, text, at + 1, hints, words);
     }
-    Ok(())
+    Names::Read
 }
 
 // The list from `at` on; one that is empty gives the empty set.
@@ -80,8 +101,8 @@ pub fn read_list(image: &[u8], class: u8, text: &[u8], at: usize) -> Result<Grou
         let mut hints = [0u8; 1024];
         let mut words = [0u64; 4];
         fill(image, class, text.len() - at, &mut hints);
-        read_names(image, class, text, at, &hints, &mut words)?;
-        return Ok(Groups::of_words(words[0], words[1], words[2], words[3]));
+        let names = read_names(image, class, text, at, &hints, &mut words);
+        return list_read(names, &words);
     }
     Ok(Groups::none())
 }

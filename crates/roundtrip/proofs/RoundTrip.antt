@@ -77,8 +77,8 @@ record-reads-back im acc k h = parse-of-print im acc (label_at im k) (record-exi
 pub text-tells : (im : List ℕ) → IsAccepted im → (m n : Marks) → label_exists im m ≡ true → label_exists im n ≡ true
     → text_of im m ≡ text_of im n → m ≡ n
 text-tells im acc m n h k e =
-    let q = parsed-read im (text_of im n) m (ap (parse_of im) (sym e) ∙ parse-of-print im acc m h) in
-    let p = parsed-read im (text_of im n) n (parse-of-print im acc n k) in
+    let q = parsed-read im (text_of im n) (read m) (ap (parse_of im) (sym e) ∙ parse-of-print im acc m h) in
+    let p = parsed-read im (text_of im n) (read n) (parse-of-print im acc n k) in
     read-tells m n (sym q.1 ∙ p.1)
 
 -- ---- a text that is read as a label: the image is accepted, the policy has the label, and its print is read as it again
@@ -89,4 +89,4 @@ pub print-of-parse : (im text : List ℕ) (m : Marks) → parse_of im text ≡ o
     → (label_exists im m ≡ true) × (parse_of im (text_of im m) ≡ of_text (read m))
 print-of-parse im text m e =
     let h = parsed-has im text m e in
-    (h, parse-of-print im (parsed-read im text m e).0 m h)
+    (h, parse-of-print im (parsed-read im text (read m) e).0 m h)

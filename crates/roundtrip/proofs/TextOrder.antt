@@ -73,7 +73,7 @@ pub parse-any-order : (im text other : List ℕ) (m : Marks) → SameNames (spli
     → parse_of im text ≡ of_text (read m) → parse_of im other ≡ of_text (read m)
 unfolding parse_of
 parse-any-order im text other m same shaped e =
-    let p = parsed-read im text m e in
+    let p = parsed-read im text (read m) e in
     rw (p.0, shaped) (ap of_text (parts-order im m same (text-parts im text m p.1)))
 
 -- so a printed label reads back, also when its lists are given in another order
