@@ -9,6 +9,7 @@ ghost use Rattle.moves.specs.Moved.{edition_after, new_record};
 use header::edition::Edition;
 use header::layout::Kind;
 
+#[derive(Clone, Copy)]
 pub enum Move {
     // Up to edition 2.
     Up,

@@ -69,6 +69,9 @@ fn give_records(image: &[u8], kind: Kind, buffer: &mut [u8]) -> Result<usize, Re
 pub(crate) fn records_given(image: &[u8], kind: Kind, buffer: &mut [u8]) -> Result<usize, Refusal>
     ensures { (result, buffer.new) ≡ records_given_of kind image.now buffer.old }
 {
-    check(image)?;
-    give_records(image, kind, buffer)
+    // `match` and no `?`: so the must-fail edit of the refused case is refused for the answer alone, and not since `map_err` has no proof.
+    match check(image) {
+        Ok(()) => give_records(image, kind, buffer),
+        Err(refusal) => Err(refusal),
+    }
 }
