@@ -1,5 +1,5 @@
-// Reading a table's rows by a map. The tags that are handed out are put into slots once; then a row's tag alone decides. These functions have no
-// rights, and so cannot ask a verdict.
+// Reading a table's rows by a map. Of many rows the tags that are handed out are put into slots once, and then a row's tag alone decides; of few each tag is
+// looked up. These functions have no rights, and so cannot ask a verdict.
 ghost use Rattle.std.specs.Prelude.{◌≡◌, false};
 ghost use Rattle.rows.specs.Run.{IsRun, kept, run_rows};
 ghost use Rattle.rows.specs.Mapped.{row_mapped};

@@ -67,7 +67,8 @@ fn read_many(
     read_judged(image, view, &made[0..end], run, width, buffer)
 }
 
-// A verdict is asked of each row. A map pays from some hundreds of rows on.
+// 13 where the readable rows are longer than the buffer: then no byte is written. Whoever sees rows of unknown tags sees every row. Of few rows a verdict is
+// asked of each: a map pays from some hundreds of rows on.
 pub fn read_accepted(
     image: &[u8],
     view: View,

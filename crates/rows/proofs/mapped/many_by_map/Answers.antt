@@ -1,6 +1,7 @@
 use mathlib.Core.Path.{◌≡◌, ap, ◌∙◌}
 use mathlib.Core.Bool.{Bool, false}
 use mathlib.Core.List.{List}
+use borrow.Author.Rules.{rules}
 use Prim.Native.Nat.{ℕ}
 use Rattle.rows.specs.Run.{kept, run_rows}
 use Rattle.rows.specs.Mapped.{row_mapped}
@@ -24,7 +25,7 @@ returns-then-not-fill c =
     let a = c.args in
     let m = a.mapped.now in
     c.read_kept.ensures
-    ∙ ap (λ (u : Bool). handed_out (kept (row_mapped m.image.now m.bits.now u) (run_rows a.run.now a.width)) a.buffer.now) c.requires.unknown
+    ∙ ap (λ (u : Bool). handed_out (kept (row_mapped m.image.now m.bits.now u) (run_rows a.run.now a.width)) a.buffer.now) (search rules)
 
 pub returns : goal.returns
 returns c = c.read_held.ensures ∙ rows-held _ _ _ _ _ _ (c.fill.ensures c.if-not-fill.false)
