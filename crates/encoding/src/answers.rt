@@ -40,7 +40,7 @@ pub fn amount_code(answer: Result<usize, Refusal>) -> u64
 {
     match answer {
         Ok(n) => n as u64,
-        Err(r) => refused(r),
+        Err(cause) => refused(cause),
     }
 }
 
