@@ -52,6 +52,8 @@ mapped-10            stack    16384
 update-10            stack    16384
 parse-longest        stack    16384
 set-label-longest    stack    16384
+parse-longest@wide   stack    25000
+set-label-longest@wide stack  25000
 '
 
 if ! command -v valgrind >/dev/null; then
